@@ -1,0 +1,12 @@
+pub mod Tree
+pub mod Truth
+pub mod TruthSteps
+pub mod Network
+pub mod Execution
+pub mod ExecutionSteps
+pub mod Run
+pub mod Holds
+pub mod Nodes
+pub mod Variables
+pub mod Sorted
+pub mod WellSorted

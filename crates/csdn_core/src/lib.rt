@@ -1,0 +1,9 @@
+//! Programs of CSDN and what they mean: sorts, terms, formulas, commands, programs and events, with the definitions
+//! of truth, execution, runs and induction in `specs/`, from which every crate that speaks of programs takes them.
+#![tactic(auto)]
+
+pub mod event;
+pub mod laws;
+pub mod program;
+pub mod syntax;
+pub mod terms;

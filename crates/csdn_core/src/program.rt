@@ -1,0 +1,130 @@
+//! Programs.
+ghost use Rattle.std.specs.Prelude.{◌≡◌};
+
+use crate::syntax::{Command, Formula};
+use crate::terms::{RelId, Sort, Terms, VarId};
+use sqlite_items::Items;
+use std::marker::Model;
+
+/// The bytes of a name.
+pub type Text = Items<u8>;
+
+pub type Sorts = Items<Sort>;
+
+pub type Relations = Items<Relation>;
+
+pub type Constants = Items<Constant>;
+
+pub type StartRows = Items<StartRow>;
+
+pub type Invariants = Items<Invariant>;
+
+pub type Handlers = Items<Handler>;
+
+pub type Numerals = Items<u16>;
+
+/// What is done with a packet that comes in.
+#[derive(Drop)]
+pub struct Handler {
+    /// The port that it is for; `None` for every port.
+    pub port: Option<u16>,
+    /// Stands for the switch.
+    pub s: VarId,
+    /// Stands for the source.
+    pub a: VarId,
+    /// Stands for the destination.
+    pub b: VarId,
+    /// Stands for the ingress port.
+    pub i: VarId,
+    pub body: Command,
+}
+
+/// A declared relation.
+#[derive(Drop)]
+pub struct Relation {
+    pub name: Text,
+    /// At most five.
+    pub sorts: Sorts,
+    /// Whether it is `static`: it belongs to the network, and no command writes it.
+    pub fixed: bool,
+}
+
+/// A declared constant.
+#[derive(Drop)]
+pub struct Constant {
+    pub name: Text,
+    pub sort: Sort,
+}
+
+/// An invariant and its name.
+#[derive(Drop)]
+pub struct Invariant {
+    pub name: Text,
+    pub formula: Formula,
+}
+
+/// A tuple that a relation has at the start.
+#[derive(Drop)]
+pub struct StartRow {
+    pub rel: RelId,
+    pub terms: Terms,
+}
+
+/// The parts of a program, each in the order of its text.
+#[derive(Drop)]
+pub struct Parts {
+    pub relations: Relations,
+    pub constants: Constants,
+    pub start: StartRows,
+    /// What networks meet.
+    pub topology: Invariants,
+    /// What is true in every state.
+    pub safety: Invariants,
+    /// What is true after every event, of its packet.
+    pub trans: Invariants,
+    pub handlers: Handlers,
+    /// All k with `prt(k)` in the program, rising and each once.
+    pub numerals: Numerals,
+}
+
+/// A program. Clauses see it as its parts.
+#[derive(Drop)]
+pub struct Program {
+    parts: Parts,
+}
+
+impl Model for Program {
+    ghost use Rattle.csdn_core.specs.declared.program.Parts.{Parts};
+    ghost use Rattle.csdn_core.specs.contracts.syntax.Formula as formula;
+    ghost use Rattle.csdn_core.specs.contracts.syntax.Command as command;
+    ghost use Rattle.std.specs.Coded.{codes};
+
+    ghost Value = { Parts };
+
+    ghost coded = { Prim.hlevel (codes, formula.the_row.coded, command.the_row.coded) };
+
+    ghost view = { λ p. p.parts };
+}
+
+impl Program {
+    /// The program of these parts. It takes no memory.
+    pub fn seal(parts: Parts) -> Program
+        ensures { result ≡ parts }
+    {
+        Program { parts }
+    }
+
+    /// The parts that it was made of.
+    pub fn parts(&self) -> &Parts
+        ensures { result.now ≡ self.now }
+    {
+        &self.parts
+    }
+
+    /// The ports that the program names, rising and each once.
+    pub fn numerals(&self) -> &[u16]
+        ensures { result.now ≡ self.now.numerals }
+    {
+        self.parts.numerals.as_slice()
+    }
+}

@@ -1,0 +1,43 @@
+//! Names and terms of texts.
+use sqlite_items::Items;
+
+/// The bytes of a name.
+pub type Text = Items<u8>;
+
+/// A name, and where its first byte stands.
+#[derive(Drop)]
+pub struct RawName {
+    pub at: usize,
+    pub text: Text,
+}
+
+/// `prt(number)`, and where its word `prt` stands.
+#[derive(Clone, Copy, Debug, PartialEq, Eq)]
+pub struct RawNumeral {
+    pub at: usize,
+    /// From 1 to 65,280.
+    pub number: u16,
+}
+
+#[derive(Drop)]
+pub enum RawTerm {
+    Name(RawName),
+    Port(RawNumeral),
+}
+
+pub type RawTerms = Items<RawTerm>;
+
+impl RawTerm {
+    ghost use Rattle.csdn_tree.specs.Places.{place};
+    ghost use Rattle.std.specs.Prelude.{◌≡◌};
+
+    /// Where its first byte stands.
+    pub fn at(&self) -> usize
+        ensures { result ≡ place self.now }
+    {
+        match self {
+            RawTerm::Name(name) => name.at,
+            RawTerm::Port(numeral) => numeral.at,
+        }
+    }
+}
