@@ -8,6 +8,10 @@ pub record Step : Type 0 where
   pub literals : List Literal
   pub hints : List ℕ
 
+-- what a list of steps gives past its end
+abbrev pub no_step : Step
+no_step = record { literals = []; hints = [] }
+
 -- the clause of this number; clauses are numbered from 1
 abbrev pub clause_at : List (List Literal) → ℕ → Option (List Literal)
 clause_at cs zero = None

@@ -3,9 +3,11 @@
 
 mod clauses;
 mod lit;
+mod log;
 mod memory;
 mod rows;
 
 pub use clauses::Clauses;
 pub use lit::Lit;
+pub use log::Log;
 pub use memory::Memory;
