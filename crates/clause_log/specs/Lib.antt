@@ -3,3 +3,4 @@ pub mod LiteralNumbers
 pub mod Assignments
 pub mod Refutations
 pub mod Rows
+pub mod Values
