@@ -1,0 +1,11 @@
+pub mod Basics
+pub mod Simplify
+pub mod NormalTruth
+pub mod Agree
+pub mod Walks
+pub mod Choice
+pub mod Upward
+pub mod Lists
+pub mod Words
+pub mod Distinct
+pub mod Downward

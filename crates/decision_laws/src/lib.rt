@@ -1,0 +1,4 @@
+//! The laws of the decision.
+#![tactic(auto)]
+
+pub mod laws;
