@@ -6,6 +6,8 @@ pub mod Walks
 pub mod Choice
 pub mod Upward
 pub mod Lists
-pub mod Words
 pub mod Distinct
+pub mod Words
 pub mod Downward
+pub mod Numbering
+pub mod Networks

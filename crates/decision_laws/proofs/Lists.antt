@@ -55,11 +55,11 @@ in_tuples n (s ∷ ss) xs h =
     let l : w.0 < n s = omega (arith, (in_place 0 (n s) w.0 w.1).1) in
     subst (λ z. AreBelow n (s ∷ ss) z) (sym v.2) (l, in_tuples n ss v.0 v.1)
 
-kept_first : {X : Type 0} (b : Bool) (x y : X) (ys : List X) → b ≡ true → x ≡ y → IsIn x (cond b (y ∷ ys) ys)
+pub kept_first : {X : Type 0} (b : Bool) (x y : X) (ys : List X) → b ≡ true → x ≡ y → IsIn x (cond b (y ∷ ys) ys)
 kept_first true x y ys e q = inl q
 kept_first false x y ys e q = absurd (false≢true e)
 
-kept_later : {X : Type 0} (b : Bool) (x y : X) (ys : List X) → IsIn x ys → IsIn x (cond b (y ∷ ys) ys)
+pub kept_later : {X : Type 0} (b : Bool) (x y : X) (ys : List X) → IsIn x ys → IsIn x (cond b (y ∷ ys) ys)
 kept_later true x y ys i = inr i
 kept_later false x y ys i = i
 
