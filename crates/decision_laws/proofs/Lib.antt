@@ -11,3 +11,10 @@ pub mod Words
 pub mod Downward
 pub mod Numbering
 pub mod Networks
+pub mod Tied
+pub mod Read
+pub mod Made
+pub mod Complete
+pub mod Facts
+pub mod Left
+pub mod Bridge

@@ -12,7 +12,8 @@ use Rattle.decision_laws.specs.Forms.{Form, normal_form, in_fragment}
 use Rattle.decision_laws.specs.Vocabulary.{Vocabulary, vocabulary, fits, has_term}
 use Rattle.decision_laws.specs.Copies.{Fact, Equation, Copy, index_of, copies_of, judge, IsFair}
 use Rattle.decision_laws.specs.Classes.{sizes}
-use Rattle.decision_laws.specs.Clauses.{Lit, all_clauses, IsNaming}
+use Rattle.decision_laws.specs.Clauses.{Lit, IsModel, all_clauses, IsNaming}
+use Rattle.decision_laws.specs.Tied.{IsTied, name_of}
 
 -- the normal form of a sentence
 abbrev pub form_of : Formula → Form
@@ -64,3 +65,15 @@ module _ (P : Parts) (F : Formula) where
   -- num gives facts numbers below first, from which fact_at leads back
   abbrev pub NamesFacts : ℕ → (Fact → ℕ) → (ℕ → Fact) → Type 0
   NamesFacts first num fact_at = IsNaming words counts first num fact_at
+
+  -- what the atoms of the clauses name: a fact below first, and then the nodes of the copies
+  abbrev pub clause_names : ℕ → (ℕ → Fact) → ℕ → Copy
+  clause_names first fact_at = name_of fact_at first sentence_copies
+
+  -- a clause is tied to the sentence by these names
+  abbrev pub IsTiedTo : ℕ → (ℕ → Fact) → List Lit → Type 0
+  IsTiedTo first fact_at c = IsTied counts words sentence_copies (clause_names first fact_at) c
+
+-- some valuation makes each of the clauses true
+abbrev pub HasModel : List (List Lit) → Type 0
+HasModel cs = (v : ℕ → Bool) × IsModel v cs
