@@ -18,3 +18,4 @@ pub mod Complete
 pub mod Facts
 pub mod Left
 pub mod Bridge
+pub mod ExampleLemmas

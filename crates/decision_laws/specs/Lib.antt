@@ -7,3 +7,4 @@ pub mod Tied
 pub mod Numbers
 pub mod Sublists
 pub mod Laws
+pub mod Example

@@ -1,5 +1,6 @@
 //! Laws as contracts of functions that do nothing.
-ghost use Rattle.std.specs.Prelude.{◌≡◌, ◌↔◌, ℕ, ◌+◌, Bool, true, List, ◌++◌, length, IsTrue};
+ghost use Rattle.std.specs.Prelude.{◌≡◌, ◌↔◌, ℕ, ◌+◌, ◌==◌, Bool, true, List, [], ◌∷◌, ◌++◌, length, IsTrue};
+ghost use Rattle.csdn_core.specs.declared.terms.Sort.{Sort as AnySort};
 ghost use Rattle.csdn_core.specs.declared.program.Parts.{Parts as AnyParts};
 ghost use Rattle.csdn_core.specs.declared.syntax.Formula.{Formula as AnyFormula};
 ghost use Rattle.csdn_core.specs.Truth.{Structure, Assignment, truth};
@@ -11,7 +12,8 @@ ghost use Rattle.decision_laws.specs.Classes.{Meaning, AreOfJudgement, number, n
 ghost use Rattle.decision_laws.specs.Clauses.{Lit, clause_true, IsModel};
 ghost use Rattle.decision_laws.specs.Numbers.{fact_count, fact_number, numbered_fact};
 ghost use Rattle.decision_laws.specs.Sublists.{ArePart, AreBroken, left_of};
-ghost use Rattle.decision_laws.specs.Laws.{form_of, words, counts, IsSentence, IsTrueIn, HasNetwork, IsJudgement, AgreesOnNames, complete_clauses, NamesFacts, clause_names, IsTiedTo, HasModel};
+ghost use Rattle.decision_laws.specs.Example.{program, sentence, r, example_counts, example_copies, example_first, example_node_clauses, example_equality_clauses, example_judgement, example_network};
+ghost use Rattle.decision_laws.specs.Laws.{form_of, words, counts, sentence_copies, IsSentence, IsTrueIn, HasNetwork, IsJudgement, AgreesOnNames, complete_clauses, NamesFacts, clause_names, IsTiedTo, HasModel};
 
 /// A normal form is true where its formula is.
 pub fn normal_forms_keep_truth()
@@ -53,4 +55,18 @@ pub fn some_clauses_suffice()
     ensures whole { (whole cs : List (List Lit)) (v : ℕ → Bool) → ((c : List Lit) → IsIn c whole → IsTrue (clause_true v c)) → IsModel v whole }
     ensures part { (whole cs new : List (List Lit)) (v : ℕ → Bool) → ArePart whole cs → IsModel v cs → AreBroken whole v new → ArePart whole (cs ++ new) }
     ensures left { (whole cs new : List (List Lit)) (v : ℕ → Bool) → ArePart whole cs → IsModel v cs → AreBroken whole v new → left_of whole (cs ++ new) + length new ≡ left_of whole cs }
+{}
+
+/// The definitions at a worked example, computed by hand: the step condition of a program that keeps a relation of hosts to
+/// one host at most. Its constants, its copies and its clauses; and a judgement that makes the copies true, with its network,
+/// in which four constants are two hosts.
+pub fn uniqueness_example()
+    ensures counts { (s : AnySort) → counts program sentence s ≡ example_counts s }
+    ensures copies { sentence_copies program sentence ≡ example_copies }
+    ensures sentence { IsSentence program sentence }
+    ensures first { fact_count (counts program sentence) (words program sentence) ≡ example_first }
+    ensures clauses { complete_clauses program sentence (fact_number (counts program sentence) (words program sentence)) example_first ≡ example_node_clauses ++ example_equality_clauses }
+    ensures judgement { IsJudgement program sentence example_judgement }
+    ensures network { network_of program (form_of sentence) example_judgement ≡ example_network }
+    ensures state { (a : ℕ) → state_of program (form_of sentence) example_judgement r (a ∷ []) ≡ (a == 2) }
 {}
