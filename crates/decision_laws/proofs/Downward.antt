@@ -37,8 +37,8 @@ classes_true voc f is m ρ j models cover home h =
     sym (form_truth-simplified voc m whole f no_values) ∙ copies_true voc n m ρ j models cover home g [] (known voc) tt (fits-simplified voc f [] is.closed) (inside-simplified f is.inside) (λ s. omega (arith, need-simplified f s)) h
 
 -- a network and state of a judgement give each name the element of its constant
-pub names_of : (P : Parts) (f : Form) (j : Fact → Bool) (ρ : Meaning) (N : Network) (x : State) → AreOfJudgement P f j ρ N x → Interprets (vocabulary P f) (structure P N x Nothing) ρ
-names_of P f j ρ N x o = record {
+pub interprets_of : (P : Parts) (f : Form) (j : Fact → Bool) (ρ : Meaning) (N : Network) (x : State) → AreOfJudgement P f j ρ N x → Interprets (vocabulary P f) (structure P N x Nothing) ρ
+interprets_of P f j ρ N x o = record {
   named = λ s t h.
       elim (name_is P f s t h) [
         | inl a ↦ (
@@ -57,7 +57,7 @@ names_of P f j ρ N x o = record {
 
 pub models_of : (P : Parts) (f : Form) (j : Fact → Bool) (ρ : Meaning) (N : Network) (x : State) → AreOfJudgement P f j ρ N x → Models (vocabulary P f) (sizes P f) (structure P N x Nothing) ρ j
 models_of P f j ρ N x o = record {
-  interprets = names_of P f j ρ N x o;
+  interprets = interprets_of P f j ρ N x o;
   room = λ s. omega arith;
   equal = o.numbering.classes;
   tuples = λ r xs i l. sym (o.tuples r xs i l);
@@ -76,6 +76,6 @@ law_down P F j ρ N x is h o =
 pub law_names : (P : Parts) (F : Formula) (j : Fact → Bool) (ρ : Meaning) (N : Network) (x : State) → AreOfJudgement P (form_of F) j ρ N x → AgreesOnNames P F N x j
 law_names P F j ρ N x o s t u ht hu =
     let names = (words P F).names s in
-    let i = names_of P (form_of F) j ρ N x o in
+    let i = interprets_of P (form_of F) j ρ N x o in
     let few : known (words P F) s ≤ counts P F s = omega arith in
     o.numbering.classes s (index_of t names) (index_of u names) (omega (arith, few, index_of-below t names ht)) (omega (arith, few, index_of-below u names hu)) ∙ ap₂ nat_eq (sym (i.named s t ht)) (sym (i.named s u hu))

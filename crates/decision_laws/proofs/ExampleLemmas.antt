@@ -11,7 +11,7 @@ use Rattle.decision_laws.specs.Forms.{normal_form}
 use Rattle.decision_laws.specs.Laws.{counts, words}
 use Rattle.decision_laws.specs.Tied.{replaced, same, turned}
 
-nat_eq-turned : (a b : ℕ) → nat_eq a b ≡ nat_eq b a
+pub nat_eq-turned : (a b : ℕ) → nat_eq a b ≡ nat_eq b a
 nat_eq-turned a b = same_bool (nat_eq a b) (nat_eq b a) (λ e. eq-eqb b a (sym (eqb-true a b e))) (λ e. eq-eqb a b (sym (eqb-true b a e)))
 
 or_same : (b : Bool) → ((b && true) || false) ≡ b

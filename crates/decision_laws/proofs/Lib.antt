@@ -19,3 +19,4 @@ pub mod Facts
 pub mod Left
 pub mod Bridge
 pub mod ExampleLemmas
+pub mod NamesLemmas

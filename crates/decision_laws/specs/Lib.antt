@@ -8,3 +8,4 @@ pub mod Numbers
 pub mod Sublists
 pub mod Laws
 pub mod Example
+pub mod Trees

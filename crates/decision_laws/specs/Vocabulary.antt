@@ -76,11 +76,19 @@ places_from i (suc n) = i ∷ places_from (suc i) n
 abbrev pub all_relations : Parts → List Pred
 all_relations P = map (λ k. Stored (record { 0 = k })) (places_from 0 (length P.relations)) ++ Ft ∷ Sent ∷ []
 
+-- the names of a sort of a program
+abbrev pub names_of : Parts → Sort → List Term
+names_of P s = constants_from s 0 P.constants ++ numerals_of s P.numerals
+
+-- the sort of a declared constant, by its number
+abbrev pub sort_of_constant : Parts → ℕ → Sort
+sort_of_constant P k = sort_or (slice_get P.constants k)
+
 -- the vocabulary of a sentence of a program
 abbrev pub vocabulary : Parts → Form → Vocabulary
 vocabulary P f = record {
-  names = λ s. constants_from s 0 P.constants ++ numerals_of s P.numerals;
-  constant_sort = λ k. sort_or (slice_get P.constants k);
+  names = names_of P;
+  constant_sort = sort_of_constant P;
   numerals = P.numerals;
   relations = filter (uses f) (all_relations P);
   columns = λ r. sorts_or (sorts_of (signature P) r);
