@@ -20,3 +20,4 @@ pub mod Left
 pub mod Bridge
 pub mod ExampleLemmas
 pub mod NamesLemmas
+pub mod Steps

@@ -9,3 +9,5 @@ pub mod Sublists
 pub mod Laws
 pub mod Example
 pub mod Trees
+pub mod Leaves
+pub mod Walk

@@ -30,7 +30,7 @@ pub fn is_same_sort(a: Sort, b: Sort) -> bool
 }
 
 /// How many constants of a sort the `exists` of a tree need; 2^64 - 1 where they need more.
-pub fn need(tree: &Tree, sort: Sort) -> u64
+pub fn need(tree: &Tree, sort: Sort) -> usize
     ensures { result ≡ min (need_of (tree_form tree.now) sort) (2 ^ 64 - 1) }
 {
     match tree {
