@@ -3,13 +3,13 @@ ghost use Rattle.std.specs.Prelude.{◌≡◌, ◌+◌, ◌<◌, ◌≤◌, ◌+
 ghost use Rattle.csdn_core.specs.declared.terms.Sort.{Sort as AnySort};
 ghost use Rattle.decision_laws.specs.Forms.{one_if};
 ghost use Rattle.decision_laws.specs.Vocabulary.{find_or};
-ghost use Rattle.decision_laws.specs.Copies.{nothing, place as place_of, place_sort, constants as constants_of};
-ghost use Rattle.decision_laws.specs.Leaves.{form_leaves};
+ghost use Rattle.decision_laws.specs.Copies.{Equation as EquationOf, nothing, place as place_of, place_sort};
+ghost use Rattle.decision_laws.specs.Leaves.{written};
 ghost use Rattle.decision_laws.specs.Trees.{tree_form};
-ghost use Rattle.decision_laws.specs.Walk.{names_alone, scope_of, count_of, literals_of, literal_of, state_of, AddsLeaves, AddsCopy, AddsEach};
+ghost use Rattle.decision_laws.specs.Walk.{names_alone, scope_of, count_of, fact_of, literals_of, state_of, AddsLeaves, AddsCopy, AddsEach};
 
-use crate::names::{constant_place, constant_sort, known, numeral_place};
-use crate::tree::{Tree, need};
+use crate::names::{constant_place, constant_sort, numeral_place};
+use crate::tree::Tree;
 use arrayvec::ArrayVec;
 use csdn_core::program::Parts;
 use csdn_core::terms::{Pred, Sort, Term, VarId};
@@ -165,4 +165,119 @@ fn tuple_places(parts: &Parts, scope: &[Bind], terms: &[Term]) -> Places
         places.push(place(parts, scope, *term));
     }
     Places { places }
+}
+
+fn append_bind(scope: &mut Vec<Bind>, bind: Bind) -> Result<(), Memory>
+    ensures { OnOk result (scope.new.items ≡ scope.old.items ++ bind ∷ []) }
+{
+    scope.push(bind).map_err(AllocError::from)?;
+    Ok(())
+}
+
+// Appends a fact, or its negation.
+fn append(work: &mut Work, positive: bool, fact: Fact) -> Result<(), Memory>
+    ensures out { OnOk result (literals_of work.new.out.items ≡ literals_of work.old.out.items ++ (positive, fact_of fact) ∷ []) }
+    ensures scope { work.new.scope ≡ work.old.scope }
+    ensures base { work.new.base ≡ work.old.base }
+{
+    work.out
+        .push(Literal { positive, fact })
+        .map_err(AllocError::from)?;
+    Ok(())
+}
+
+// An equation of two terms, the lower place first.
+fn equation(parts: &Parts, scope: &[Bind], t: Term, u: Term) -> Fact
+    ensures { fact_of result ≡ written (EquationOf (place_sort (names_alone parts.now) (scope_of scope.now) t) (place_of (names_alone parts.now) (scope_of scope.now) t) (place_of (names_alone parts.now) (scope_of scope.now) u)) }
+{
+    let a = place(parts, scope, t);
+    let b = place(parts, scope, u);
+    Fact::Equation(sort_of(parts, scope, t), a.min(b), a.max(b))
+}
+
+// Adds the literals of the copies of a tree.
+#[cycle(walk)]
+fn walk(parts: &Parts, counts: Counts, tree: &Tree, work: &mut Work) -> Result<(), Memory>
+    ensures { OnOk result (AddsLeaves (names_alone parts.now) (count_of counts) (tree_form tree.now) (state_of work.old) (state_of work.new)) }
+{
+    match tree {
+        Tree::Truth(_) => Ok(()),
+        Tree::Atom(positive, pred, terms) => {
+            let places = tuple_places(parts, &work.scope, terms.as_slice());
+            append(work, *positive, Fact::Tuple(*pred, places))
+        }
+        Tree::Equal(positive, t, u) => {
+            let fact = equation(parts, &work.scope, *t, *u);
+            append(work, *positive, fact)
+        }
+        Tree::Conj(p, q) => {
+            walk(parts, counts, p, work)?;
+            walk(parts, counts, q, work)?;
+            Ok(())
+        }
+        Tree::Disj(p, q) => {
+            let start = work.base;
+            walk(parts, counts, p, work)?;
+            let after = work.base;
+            work.base = start;
+            walk(parts, counts, q, work)?;
+            work.base = after.larger(work.base);
+            Ok(())
+        }
+        Tree::Every(var, sort, p) => {
+            let start = work.base;
+            walk_each(parts, counts, *var, *sort, p, work)?;
+            work.base = start;
+            Ok(())
+        }
+        Tree::Exists(var, sort, p) => {
+            let place = work.base.of(*sort);
+            work.base = work.base.one_more(*sort)?;
+            let bind = Bind {
+                var: *var,
+                sort: *sort,
+                place,
+            };
+            walk_at(parts, counts, bind, p, work)?;
+            Ok(())
+        }
+    }
+}
+
+// Those of the copies of a body whose variable stands for a constant.
+#[cycle(walk)]
+fn walk_at(
+    parts: &Parts,
+    counts: Counts,
+    bind: Bind,
+    body: &Tree,
+    work: &mut Work,
+) -> Result<(), Memory>
+    ensures { OnOk result (AddsCopy (names_alone parts.now) (count_of counts) (tree_form body.now) bind.var.0 bind.sort bind.place (state_of work.old) (state_of work.new)) }
+{
+    append_bind(&mut work.scope, bind)?;
+    walk(parts, counts, body, work)?;
+    work.scope.pop();
+    Ok(())
+}
+
+// Those of the copies of a body for each constant of a sort.
+#[cycle(walk)]
+fn walk_each(
+    parts: &Parts,
+    counts: Counts,
+    var: VarId,
+    sort: Sort,
+    body: &Tree,
+    work: &mut Work,
+) -> Result<(), Memory>
+    ensures { OnOk result (AddsEach (names_alone parts.now) (count_of counts) (tree_form body.now) var.0 sort (count_of counts sort) (state_of work.old) (state_of work.new)) }
+{
+    let count = counts.of(sort);
+    let start = work.base;
+    for place in 0..count {
+        work.base = start;
+        walk_at(parts, counts, Bind { var, sort, place }, body, work)?;
+    }
+    Ok(())
 }
