@@ -9,5 +9,6 @@ pub mod Holds
 pub mod Nodes
 pub mod Variables
 pub mod Names
+pub mod Numerals
 pub mod Sorted
 pub mod WellSorted
