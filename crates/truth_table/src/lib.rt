@@ -7,5 +7,6 @@
 
 pub mod decide;
 pub mod form;
-
+#[cfg(test)]
+mod tests;
 mod valuation;
