@@ -1,0 +1,6 @@
+pub mod Literals
+pub mod LiteralNumbers
+pub mod Assignments
+pub mod Refutations
+pub mod Rows
+pub mod Values

@@ -1,0 +1,16 @@
+//! Clauses, logs of their refutation, and the exact checker of such logs.
+#![tactic(auto)]
+
+mod assignment;
+mod checker;
+mod clauses;
+mod lit;
+mod log;
+mod memory;
+mod rows;
+
+pub use checker::accepts;
+pub use clauses::Clauses;
+pub use lit::Lit;
+pub use log::Log;
+pub use memory::Memory;

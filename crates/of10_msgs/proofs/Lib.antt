@@ -1,0 +1,5 @@
+pub mod Frames
+pub mod Spelled
+pub mod Accepted
+pub mod Found
+pub mod Readings

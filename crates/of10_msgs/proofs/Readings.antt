@@ -1,0 +1,100 @@
+-- Exactly one message or one refusal, and what follows for an answer.
+use Rattle.std.proofs.Common.{◌≡◌, ℕ, ◌≤◌, max, Bool, true, false, not, ◌&&◌, cond, eqb, ltb, List, length, Option, Some, None, Result, Ok, Err, refl, sym, ap, ◌∙◌, inl, inr, ◌⊎◌, arith}
+use Rattle.std.specs.Prelude.{IfErr, IfSome, MatchOption}
+use Rattle.of10_wire.specs.declared.refusal.WireRefusal.{WireRefusal}
+use Rattle.of10_wire.specs.declared.refusal.WireWhy.{WireWhy}
+use Rattle.of10_wire.specs.declared.refusal.WireWhy.TheVariants.{BadVersion, BadType, BadLength, NotYet}
+use Rattle.of10_wire.specs.Layout.{number}
+use Rattle.of10_wire.specs.Refusals.{refusal, Answers, out_of_memory}
+use Rattle.of10_wire.specs.Headers.{is_kind, header_refusal}
+use Rattle.of10_msgs.specs.declared.message.Message.{Message}
+use Rattle.of10_msgs.specs.Messages.{spells}
+use Rattle.of10_msgs.specs.Refused.{early, is_built, allows_length, or_else, frame_refusal, Late, Refuses}
+use Rattle.of10_msgs.specs.Readings.{Reading, Spelled, Refused, Reads, HasOneReading}
+use Rattle.of10_msgs.proofs.Spelled.{message-once}
+use Rattle.of10_msgs.proofs.Accepted.{not-refused}
+use Rattle.of10_msgs.proofs.Found.{found}
+
+-- ---- one refusal
+
+late-once : (bytes : List ℕ) (d e : WireRefusal) → Late bytes d → Late bytes e → d ≡ e
+late-once bytes d e h k = absurd h
+
+refusal-once_by : (bytes : List ℕ) (first : Option WireRefusal) (d e : WireRefusal) → early bytes ≡ first → Refuses bytes d → Refuses bytes e → d ≡ e
+refusal-once_by bytes None d e is h k = late-once bytes d e (rw is at h) (rw is at k)
+refusal-once_by bytes (Some first) d e is h k =
+    let p : d ≡ first = rw is at h in
+    let q : e ≡ first = rw is at k in
+    p ∙ sym q
+
+pub refusal-once : (bytes : List ℕ) (d e : WireRefusal) → Refuses bytes d → Refuses bytes e → d ≡ e
+refusal-once bytes d e h k = refusal-once_by bytes (early bytes) d e refl h k
+
+-- ---- one reading
+
+pub reading-once : (bytes : List ℕ) (x y : Reading) → Reads bytes x → Reads bytes y → x ≡ y
+reading-once bytes (Spelled m) (Spelled n) h k = ap (λ (m : Message). Spelled m) (message-once m n bytes h k)
+reading-once bytes (Spelled m) (Refused e) h k = absurd (not-refused m bytes e h k)
+reading-once bytes (Refused e) (Spelled m) h k = absurd (not-refused m bytes e k h)
+reading-once bytes (Refused d) (Refused e) h k = ap (λ (e : WireRefusal). Refused e) (refusal-once bytes d e h k)
+
+pub one-reading : (bytes : List ℕ) → HasOneReading bytes
+one-reading bytes = record { reading = (found bytes).0; reads = (found bytes).1; only = λ other reads. reading-once bytes other (found bytes).0 reads (found bytes).1 }
+
+-- ---- what the one clause of a reader says
+
+pub answer-only : (bytes : List ℕ) (r : Result Message WireRefusal) → Answers r (λ m. spells m bytes) (Refuses bytes) → (m : Message) → spells m bytes → (r ≡ Ok m) ⊎ (r ≡ Err out_of_memory)
+answer-only bytes (Ok x) a m h = inl (ap (λ (y : Message). Ok y) (message-once x m bytes a h))
+answer-only bytes (Err e) (inl memory) m h = inr (ap (λ (y : WireRefusal). Err y) memory)
+answer-only bytes (Err e) (inr refused) m h = absurd (not-refused m bytes e h refused)
+
+-- ---- where a refusal stands
+
+-- a refusal at one of the first places, or what else there may be
+at_front : (b : Bool) (at : ℕ) (why : WireWhy) (rest : Option WireRefusal) → at ≤ 2 → IfSome rest (λ e. e.at ≤ 2) → IfSome (cond b (Some (refusal at why)) rest) (λ e. e.at ≤ 2)
+at_front true at why rest low h = low
+at_front false at why rest low h = h
+
+either_front : (a b : Option WireRefusal) → IfSome a (λ e. e.at ≤ 2) → IfSome b (λ e. e.at ≤ 2) → IfSome (or_else a b) (λ e. e.at ≤ 2)
+either_front (Some e) b h k = h
+either_front None b h k = k
+
+header-place : (bytes : List ℕ) → IfSome (header_refusal bytes) (λ e. e.at ≤ 2)
+unfolding header_refusal
+header-place bytes =
+    let last = cond (ltb (number 2 2 bytes) 8) (Some (refusal 2 BadLength)) None in
+    let next = cond (not (is_kind (number 1 1 bytes))) (Some (refusal 1 BadType)) last in
+    at_front (not (eqb (number 1 0 bytes) 1) && not (eqb (number 1 1 bytes) 0)) 0 BadVersion next (omega arith) (
+    at_front (not (is_kind (number 1 1 bytes))) 1 BadType last (omega arith) (at_front (ltb (number 2 2 bytes) 8) 2 BadLength None (omega arith) tt)
+    )
+
+frame-place : (kind told len : ℕ) → IfSome (frame_refusal kind told len) (λ e. e.at ≤ 2)
+frame-place kind told len =
+    let last = cond (not (allows_length kind len)) (Some (refusal 2 BadLength)) None in
+    let next = cond (not (is_built kind)) (Some (refusal 1 NotYet)) last in
+    at_front (not (eqb told len)) 2 BadLength next (omega arith) (
+    at_front (not (is_built kind)) 1 NotYet last (omega arith) (at_front (not (allows_length kind len)) 2 BadLength None (omega arith) tt)
+    )
+
+early-place : (bytes : List ℕ) → IfSome (early bytes) (λ e. e.at ≤ 2)
+unfolding early
+early-place bytes =
+    let behind = or_else (header_refusal bytes) (frame_refusal (number 1 1 bytes) (number 2 2 bytes) (length bytes)) in
+    at_front (ltb (length bytes) 8) 2 BadLength behind (omega arith) (
+    either_front (header_refusal bytes) (frame_refusal (number 1 1 bytes) (number 2 2 bytes) (length bytes)) (header-place bytes) (frame-place (number 1 1 bytes) (number 2 2 bytes) (length bytes))
+    )
+
+late-place : (bytes : List ℕ) (e : WireRefusal) → Late bytes e → e.at ≤ length bytes
+late-place bytes e h = absurd h
+
+refused-place_by : (bytes : List ℕ) (first : Option WireRefusal) (e : WireRefusal) → IfSome first (λ d. d.at ≤ 2) → MatchOption first (Late bytes e) (λ d. e ≡ d) → e.at ≤ max 2 (length bytes)
+refused-place_by bytes None e low h = omega (arith, late-place bytes e h)
+refused-place_by bytes (Some first) e low h = omega (arith, low, ap (λ (d : WireRefusal). d.at) h)
+
+pub refused-place : (bytes : List ℕ) (e : WireRefusal) → Refuses bytes e → e.at ≤ max 2 (length bytes)
+refused-place bytes e h = refused-place_by bytes (early bytes) e (early-place bytes) h
+
+pub answer-place : (bytes : List ℕ) (r : Result Message WireRefusal) → Answers r (λ m. spells m bytes) (Refuses bytes) → IfErr r (λ e. e.at ≤ max 2 (length bytes))
+answer-place bytes (Ok x) a = tt
+answer-place bytes (Err e) (inl memory) = omega (arith, ap (λ (d : WireRefusal). d.at) memory)
+answer-place bytes (Err e) (inr refused) = refused-place bytes e refused

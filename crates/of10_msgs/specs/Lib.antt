@@ -1,0 +1,4 @@
+pub mod Messages
+pub mod Refused
+pub mod Sending
+pub mod Readings

@@ -1,0 +1,105 @@
+//! The message that bytes are, or why they are none.
+
+ghost use Rattle.std.specs.Prelude.{◌≡◌, ◌⊎◌, ◌≤◌, ◌<◌, ◌^◌, max, length, true, IfOk, IfErr, IsNone};
+ghost use Rattle.of10_wire.specs.Refusals.{Answers, refusal, out_of_memory};
+ghost use Rattle.of10_msgs.specs.declared.message.Message.{Message};
+ghost use Rattle.of10_msgs.specs.Messages.{spells};
+ghost use Rattle.of10_msgs.specs.Refused.{early, is_built, allows_length, Refuses};
+ghost use Rattle.of10_msgs.specs.Sending.{IsSendable};
+
+use crate::message::Message;
+use crate::reading::{echo_reply, echo_request, hello};
+use of10_wire::{WireRefusal, WireWhy, header_refusal, u8_at, u16_at};
+use std::alloc::Global;
+
+fn refusal(at: usize, why: WireWhy) -> Option<WireRefusal>
+    ensures { result ≡ Some (refusal at why) }
+{
+    Some(WireRefusal { at, why })
+}
+
+/// Whether messages of this type are read so far.
+fn is_built(kind: u8) -> bool
+    ensures { result ≡ is_built kind }
+{
+    matches!(kind, 0 | 2 | 3)
+}
+
+/// Whether a frame of this type may have this length.
+fn allows_length(kind: u8, len: usize) -> bool
+    ensures { result ≡ allows_length kind len }
+{
+    match kind {
+        5 | 7 | 18 | 19 => len == 8,
+        8 | 9 | 20 => len == 12,
+        11 => len == 88,
+        12 => len == 64,
+        15 => len == 32,
+        1 | 4 | 16 | 17 => len >= 12,
+        6 => len >= 32 && (len - 32) % 48 == 0,
+        10 => len >= 18,
+        13 | 21 => len >= 16,
+        14 => len >= 72,
+        _ => true,
+    }
+}
+
+/// What the header and the length already show.
+#[tactic(auto, unfolding(crate::specs::Refused::early))]
+fn early_refusal(bytes: &[u8]) -> Option<WireRefusal>
+    ensures exact { result ≡ early bytes.now }
+    ensures short { IsNone result → length bytes.now < 2 ^ 16 }
+{
+    if bytes.len() < 8 {
+        return refusal(2, WireWhy::BadLength);
+    }
+    if let Some(refusal) = header_refusal(bytes) {
+        return Some(refusal);
+    }
+    if u16_at(bytes, 2) as usize != bytes.len() {
+        return refusal(2, WireWhy::BadLength);
+    }
+    let kind = u8_at(bytes, 1);
+    if !is_built(kind) {
+        return refusal(1, WireWhy::NotYet);
+    }
+    if !allows_length(kind, bytes.len()) {
+        return refusal(2, WireWhy::BadLength);
+    }
+    None
+}
+
+#[tactic(auto, unfolding(crate::specs::Refused::early, of10_wire::specs::Headers::header_refusal))]
+fn read(alloc: Global, bytes: &[u8]) -> Result<Message, WireRefusal>
+    ensures answer { Answers result (λ m. spells m bytes.now) (Refuses bytes.now) }
+    ensures short { IfOk result (λ m. length bytes.now < 2 ^ 16) }
+{
+    if let Some(refusal) = early_refusal(bytes) {
+        return Err(refusal);
+    }
+    match u8_at(bytes, 1) {
+        0 => Ok(hello(alloc, bytes)?),
+        2 => Ok(echo_request(alloc, bytes)?),
+        _ => Ok(echo_reply(alloc, bytes)?),
+    }
+}
+
+/// The message that these bytes are.
+///
+/// # Errors
+///
+/// The first rule that the bytes break, with its place: first what the header shows, then the length, then the body
+/// from left to right. `Memory` where memory ran out.
+pub fn decode(alloc: Global, bytes: &[u8]) -> Result<Message, WireRefusal>
+    // What is read is spelled so.
+    ensures found { IfOk result (λ m. spells m bytes.now) }
+    // What is spelled so is read, unless memory runs out.
+    ensures only { (m : Message) → spells m bytes.now → (result ≡ Ok m) ⊎ (result ≡ Err out_of_memory) }
+    // The refusal is the first reason, unless memory ran out.
+    ensures refusal { IfErr result (λ e. (e ≡ out_of_memory) ⊎ Refuses bytes.now e) }
+    // It stands among the bytes; of fewer than 2 bytes the place is that of the length which they lack.
+    ensures place { IfErr result (λ e. e.at ≤ max 2 (length bytes.now)) }
+    ensures sendable { IfOk result (λ m. IsSendable m) }
+{
+    read(alloc, bytes)
+}

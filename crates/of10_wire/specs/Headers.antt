@@ -1,0 +1,23 @@
+-- The header of a frame, and what it shows before the frame is whole.
+use Rattle.std.specs.Prelude.{ℕ, List, [], ◌∷◌, Option, Some, None, Bool, not, ◌==◌, ◌&&◌, nat_lt, nat_le, if◌then◌else◌}
+use Rattle.of10_wire.specs.declared.types.Header.{Header}
+use Rattle.of10_wire.specs.declared.refusal.WireRefusal.{WireRefusal}
+use Rattle.of10_wire.specs.declared.refusal.WireWhy.TheVariants.{BadVersion, BadType, BadLength}
+use Rattle.of10_wire.specs.Refusals.{refusal}
+use Rattle.of10_wire.specs.Layout.{Slot, Number, number}
+
+unfoldable pub header_slots : Header → List Slot
+header_slots header = Number 1 header.version ∷ Number 1 header.kind ∷ Number 2 header.length ∷ Number 4 header.xid ∷ []
+
+-- the types of OpenFlow 1.0
+abbrev pub is_kind : ℕ → Bool
+is_kind kind = nat_le kind 21
+
+-- Why the header in the first 8 bytes is refused before its frame is whole: another version than 1, except in
+-- a HELLO, which is type 0; no type of OpenFlow 1.0; a length that doesn't count the header.
+unfoldable pub header_refusal : List ℕ → Option WireRefusal
+header_refusal bytes =
+    if not (number 1 0 bytes == 1) && not (number 1 1 bytes == 0) then Some (refusal 0 BadVersion)
+    else if not (is_kind (number 1 1 bytes)) then Some (refusal 1 BadType)
+    else if nat_lt (number 2 2 bytes) 8 then Some (refusal 2 BadLength)
+    else None

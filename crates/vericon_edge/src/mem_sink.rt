@@ -1,0 +1,82 @@
+//! A sink in memory.
+ghost use Rattle.std.specs.Prelude.{◌≡◌, ◌<◌, ◌≤◌, Some, [], OnOk};
+
+use crate::fault::Failed;
+use crate::fault_plan::FaultPlan;
+use crate::sink::Sink;
+use std::alloc::Global;
+
+/// A sink in memory. It tells all bytes written.
+#[derive(Drop)]
+pub struct MemSink {
+    bytes: Vec<u8>,
+    /// How many bytes a call takes at most.
+    most: usize,
+    writes: FaultPlan,
+    faults: u64,
+    ghost takes_some: { 0 < most },
+}
+
+impl MemSink {
+    /// Nothing is written. A call takes `most` bytes at most, and the calls that the plan lists fail.
+    pub fn new(alloc: Global, most: usize, writes: FaultPlan) -> MemSink
+        requires { 0 < most }
+        ensures { result.bytes.items ≡ [] }
+    {
+        MemSink {
+            bytes: Vec::new(alloc),
+            most,
+            writes,
+            faults: 0,
+        }
+    }
+
+    /// All bytes written.
+    pub fn bytes(&self) -> &[u8]
+        ensures { result.now ≡ self.now.bytes.items }
+    {
+        self.bytes.as_slice()
+    }
+}
+
+impl Sink for MemSink {
+    ghost use Rattle.vericon_edge.specs.FaultPlan.{IsNextDue};
+    ghost use Rattle.vericon_edge.specs.Written.{WriteAnswers};
+
+    ghost written = { λ s. Some s.bytes.items };
+
+    ghost faults = { λ s. s.faults };
+
+    /// A write that finds no memory fails, too.
+    fn write(&mut self, piece: &[u8]) -> Result<usize, Failed>
+        ensures answer { WriteAnswers (Some self.old.bytes.items) (Some self.new.bytes.items) piece.now self.old.faults self.new.faults result }
+        ensures later { self.old.faults ≤ self.new.faults }
+        ensures unplanned { OnOk result (IsNextDue self.old.writes → ⊥) }
+    {
+        let taken = piece.len().min(self.most);
+        let fails = self.writes.count_call();
+        if fails || self.bytes.extend_from_slice(&piece[..taken]).is_err() {
+            self.faults = self.faults.saturating_add(1);
+            return Err(Failed);
+        }
+        Ok(taken)
+    }
+}
+
+#[cfg(test)]
+mod tests {
+    use super::*;
+    use crate::sink::write_piece;
+    use std::test::Fail;
+
+    #[test]
+    fn a_planned_fault_cuts_the_piece(rt: HostRuntime) -> Result<(), Fail> {
+        let alloc = rt.alloc();
+        let mut sink = MemSink::new(alloc, 3, FaultPlan::new(vec![in alloc; 4]?));
+        assert_eq!(rt; write_piece(&mut sink, b"usage\n"), Ok(()));
+        assert_eq!(rt; sink.bytes(), b"usage\n".as_slice());
+        assert_eq!(rt; write_piece(&mut sink, b"no network\n"), Err(Failed));
+        assert_eq!(rt; sink.bytes(), b"usage\nno net".as_slice());
+        Ok(())
+    }
+}
