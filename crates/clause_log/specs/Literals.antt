@@ -33,7 +33,7 @@ pub record ClauseList : Type 0 where
   pub clauses : List (List Literal)
 
 abbrev pub has_atom : ℕ → List Literal → Bool
-has_atom a ls = list_any (λ l. l.atom == a) ls
+has_atom a ls = list_any (λ l. a == l.atom) ls
 
 -- no two of the literals are of one atom
 abbrev pub has_distinct_atoms : List Literal → Bool

@@ -8,9 +8,11 @@ mod lit;
 mod log;
 mod memory;
 mod rows;
+mod valuation;
 
 pub use checker::accepts;
 pub use clauses::Clauses;
 pub use lit::Lit;
 pub use log::Log;
 pub use memory::Memory;
+pub use valuation::Valuation;

@@ -8,5 +8,6 @@ pub mod Run
 pub mod Holds
 pub mod Nodes
 pub mod Variables
+pub mod Names
 pub mod Sorted
 pub mod WellSorted

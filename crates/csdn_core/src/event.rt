@@ -5,9 +5,20 @@ use sqlite_items::Items;
 #[derive(Clone, Copy, Debug, PartialEq, Eq)]
 pub enum Event {
     /// A switch reports a packet that came in.
-    PktIn { s: u64, a: u64, b: u64, i: u64 },
+    PktIn {
+        s: u64,
+        a: u64,
+        b: u64,
+        i: u64,
+    },
     /// A switch sends a packet by one of its flow rules.
-    PktFlow { s: u64, a: u64, b: u64, i: u64, o: u64 },
+    PktFlow {
+        s: u64,
+        a: u64,
+        b: u64,
+        i: u64,
+        o: u64,
+    },
 }
 
 /// The packet of which formulas may speak: its switch, source, destination and ingress port.
@@ -21,9 +32,20 @@ pub enum Packet {
 #[derive(Clone, Copy, Debug, PartialEq, Eq)]
 pub enum Entry {
     /// A switch joined.
-    Join { seat: u32, session: u32, s: u64 },
+    Join {
+        seat: u32,
+        session: u32,
+        s: u64,
+    },
     /// A packet came in.
-    Packet { seat: u32, session: u32, s: u64, a: u64, b: u64, i: u64 },
+    Packet {
+        seat: u32,
+        session: u32,
+        s: u64,
+        a: u64,
+        b: u64,
+        i: u64,
+    },
 }
 
 /// What a flow rule fits: the packets of one switch with this source, destination and ingress port.

@@ -4,6 +4,7 @@
 
 pub mod event;
 pub mod laws;
+pub mod names;
 pub mod program;
 pub mod syntax;
 pub mod terms;

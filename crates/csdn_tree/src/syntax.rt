@@ -56,13 +56,7 @@ pub enum RawCommand {
     Seq(Boxed<RawCommand>, Boxed<RawCommand>),
     /// Where no `else` is written, the last part is `Skip`.
     If(Boxed<RawFormula>, Boxed<RawCommand>, Boxed<RawCommand>),
-    Pick(
-        RawName,
-        Sort,
-        Boxed<RawFormula>,
-        Boxed<RawCommand>,
-        Boxed<RawCommand>,
-    ),
+    Pick(RawName, Sort, Boxed<RawFormula>, Boxed<RawCommand>, Boxed<RawCommand>),
     Insert(RawName, RawTerms),
     Remove(RawName, RawTerms),
     Install(RawFlow),

@@ -59,7 +59,7 @@ either_front : (a b : Option WireRefusal) → IfSome a (λ e. e.at ≤ 2) → If
 either_front (Some e) b h k = h
 either_front None b h k = k
 
-header-place : (bytes : List ℕ) → IfSome (header_refusal bytes) (λ e. e.at ≤ 2)
+pub header-place : (bytes : List ℕ) → IfSome (header_refusal bytes) (λ e. e.at ≤ 2)
 unfolding header_refusal
 header-place bytes =
     let last = cond (ltb (number 2 2 bytes) 8) (Some (refusal 2 BadLength)) None in

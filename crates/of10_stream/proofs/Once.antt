@@ -1,15 +1,15 @@
 -- Each list of bytes is one stream.
-use Rattle.std.proofs.Common.{◌≡◌, ℕ, zero, suc, ◌+◌, ◌-◌, ◌<◌, ◌≤◌, List, [], ◌∷◌, length, take, drop, Bool, true, false, not, ◌&&◌, cond, eqb, ltb, Option, Some, None, refl, sym, ap, ap₂, ◌∙◌, inl, inr, ◌⊎◌, arith, length-drop}
+use Rattle.std.proofs.Common.{◌≡◌, ℕ, zero, suc, ◌-◌, ◌<◌, ◌≤◌, List, [], ◌∷◌, length, Bool, true, false, not, ◌&&◌, cond, eqb, ltb, Option, Some, None, refl, sym, ap, ap₂, ◌∙◌, inl, inr, ◌⊎◌, arith, length-drop}
 use Rattle.std.proofs.lemmas.Bool.{ltb-false}
+use Rattle.std.proofs.lemmas.List.{length-take-le}
 use Rattle.of10_wire.specs.declared.refusal.WireRefusal.{WireRefusal}
 use Rattle.of10_wire.specs.declared.refusal.WireWhy.TheVariants.{BadVersion, BadType, BadLength}
 use Rattle.of10_wire.specs.Refusals.{refusal}
 use Rattle.of10_wire.specs.Layout.{number}
 use Rattle.of10_wire.specs.Headers.{is_kind, header_refusal}
 use Rattle.of10_msgs.specs.declared.message.Message.{Message}
-use Rattle.of10_msgs.specs.Messages.{spells}
-use Rattle.of10_msgs.specs.Readings.{Reading, Spelled, Refused, Reads, HasOneReading}
-use Rattle.of10_msgs.proofs.Readings.{reading-once, one-reading}
+use Rattle.of10_msgs.specs.Readings.{Reading, Spelled, Refused, Reads}
+use Rattle.of10_msgs.proofs.Readings.{reading-once, one-reading, header-place, refused-place}
 use Rattle.of10_stream.specs.declared.tail.Tail.{Tail}
 use Rattle.of10_stream.specs.declared.tail.Tail.TheVariants.{Cut, Broken}
 use Rattle.of10_stream.specs.Streams.{frame_length, HasHeader, HasFrame, first_frame, behind, Begins, IsCut, HasBadHeader, HasBadFrame, IsTail, IsStream, HasOneStream}
@@ -86,7 +86,7 @@ last_test false true c d e f h = absurd cc
 last_test false false true d e f h = absurd cc
 last_test false false false d e f h = refl
 
-counts_header : (bytes : List ℕ) → header_refusal bytes ≡ None → 8 ≤ frame_length bytes
+pub counts_header : (bytes : List ℕ) → header_refusal bytes ≡ None → 8 ≤ frame_length bytes
 unfolding header_refusal
 counts_header bytes h =
     let test : ltb (number 2 2 bytes) 8 ≡ false = last_test (not (eqb (number 1 0 bytes) 1) && not (eqb (number 1 1 bytes) 0)) (not (is_kind (number 1 1 bytes))) (ltb (number 2 2 bytes) 8) (refusal 0 BadVersion) (refusal 1 BadType) (refusal 2 BadLength) h in
@@ -136,3 +136,15 @@ one_by bytes (ms, t, h) = record { messages = ms; tail = t; is = h; only = λ ns
 
 pub one : (bytes : List ℕ) → HasOneStream bytes
 one bytes = one_by bytes (found_within (length bytes) bytes (omega arith))
+
+-- ---- where a refusal stands
+
+pub refused_within : (bytes : List ℕ) (e : WireRefusal) → IsTail bytes (Broken e) → e.at ≤ length bytes
+refused_within bytes e (inl h) =
+    let low = header-place bytes in
+    let near : e.at ≤ 2 = rw h.refused at low in
+    omega (arith, near, h.whole)
+refused_within bytes e (inr h) =
+    let near = refused-place (first_frame bytes) e h.refused in
+    let len : length (first_frame bytes) ≡ frame_length bytes = length-take-le (frame_length bytes) bytes h.frame.fits in
+    omega (arith, near, len, h.frame.fits, h.frame.header.whole)

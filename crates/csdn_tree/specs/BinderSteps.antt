@@ -1,0 +1,110 @@
+-- The clauses of binders, at what the code sees.
+use Rattle.std.specs.Prelude.{◌≡◌, ℕ, ◌+◌, ◌<◌, ◌≤◌, List, [], ◌∷◌, ◌++◌, refl}
+use Rattle.csdn_core.specs.declared.terms.Sort.{Sort}
+use Rattle.csdn_tree.specs.declared.names.RawName.{RawName}
+use Rattle.csdn_tree.specs.declared.names.RawTerm.{RawTerm}
+use Rattle.csdn_tree.specs.declared.names.RawTerm.TheVariants.{Name, Port}
+use Rattle.csdn_tree.specs.declared.syntax.FlowWord.{FlowWord}
+use Rattle.csdn_tree.specs.declared.syntax.RawFlow.{RawFlow}
+use Rattle.csdn_tree.specs.declared.syntax.RawPacket.{RawPacket}
+use Rattle.csdn_tree.specs.declared.syntax.RawFormula.{RawFormula}
+use Rattle.csdn_tree.specs.declared.syntax.RawFormula.TheVariants as f
+use Rattle.csdn_tree.specs.declared.syntax.RawCommand.{RawCommand}
+use Rattle.csdn_tree.specs.declared.syntax.RawCommand.TheVariants as c
+use Rattle.csdn_tree.specs.declared.syntax.RawRow.{RawRow}
+use Rattle.csdn_tree.specs.declared.syntax.RawPattern.{RawPattern}
+use Rattle.csdn_tree.specs.declared.syntax.RawPattern.TheVariants.{Any as AnyPort, Port as OnePort}
+use Rattle.csdn_tree.specs.declared.syntax.RawItem.{RawItem}
+use Rattle.csdn_tree.specs.declared.syntax.RawItem.TheVariants as item
+use Rattle.csdn_tree.specs.RawTree.{raw_seq, raw_if, raw_pick, Seq-is, If-is, Pick-is, Not-is, And-is, Or-is, Implies-is, Iff-is, Forall-is, Exists-is, raw_not, raw_and, raw_or, raw_implies, raw_iff, raw_forall, raw_exists}
+use Rattle.csdn_tree.specs.Binders.{binders, command_binders}
+
+pub binders-True : binders f.True ≡ 0
+unfolding binders
+binders-True = refl
+
+pub binders-False : binders f.False ≡ 0
+unfolding binders
+binders-False = refl
+
+pub binders-Atom : (name : RawName) (ts : List RawTerm) → binders (f.Atom name ts) ≡ 0
+unfolding binders
+binders-Atom name ts = refl
+
+pub binders-Same : (t u : RawTerm) → binders (f.Same t u) ≡ 0
+unfolding binders
+binders-Same t u = refl
+
+pub binders-Flow : (at : ℕ) (word : FlowWord) (w : RawFlow) → binders (f.Flow at word w) ≡ 0
+unfolding binders
+binders-Flow at word w = refl
+
+pub binders-RcvThis : (at : ℕ) (w : RawPacket) → binders (f.RcvThis at w) ≡ 0
+unfolding binders
+binders-RcvThis at w = refl
+
+pub binders-Not : (p : RawFormula) → binders (f.Not p) ≡ binders p
+unfolding binders
+binders-Not p = rw Not-is
+
+pub binders-And : (p q : RawFormula) → binders (f.And p q) ≡ binders p + binders q
+unfolding binders
+binders-And p q = rw And-is
+
+pub binders-Or : (p q : RawFormula) → binders (f.Or p q) ≡ binders p + binders q
+unfolding binders
+binders-Or p q = rw Or-is
+
+pub binders-Implies : (p q : RawFormula) → binders (f.Implies p q) ≡ binders p + binders q
+unfolding binders
+binders-Implies p q = rw Implies-is
+
+pub binders-Iff : (p q : RawFormula) → binders (f.Iff p q) ≡ binders p + binders q
+unfolding binders
+binders-Iff p q = rw Iff-is
+
+pub binders-Forall : (name : RawName) (sort : Sort) (p : RawFormula) → binders (f.Forall name sort p) ≡ 1 + binders p
+unfolding binders
+binders-Forall name sort p = rw Forall-is
+
+pub binders-Exists : (name : RawName) (sort : Sort) (p : RawFormula) → binders (f.Exists name sort p) ≡ 1 + binders p
+unfolding binders
+binders-Exists name sort p = rw Exists-is
+
+pub command_binders-Skip : command_binders c.Skip ≡ 0
+unfolding command_binders
+command_binders-Skip = refl
+
+pub command_binders-Seq : (a b : RawCommand) → command_binders (c.Seq a b) ≡ command_binders a + command_binders b
+unfolding command_binders
+command_binders-Seq a b = rw Seq-is
+
+pub command_binders-If : (p : RawFormula) (a b : RawCommand) → command_binders (c.If p a b) ≡ binders p + (command_binders a + command_binders b)
+unfolding command_binders
+command_binders-If p a b = rw If-is
+
+pub command_binders-Pick : (name : RawName) (sort : Sort) (p : RawFormula) (a b : RawCommand) → command_binders (c.Pick name sort p a b) ≡ (1 + binders p) + (command_binders a + command_binders b)
+unfolding command_binders
+command_binders-Pick name sort p a b = rw Pick-is
+
+pub command_binders-Insert : (name : RawName) (us : List RawTerm) → command_binders (c.Insert name us) ≡ 0
+unfolding command_binders
+command_binders-Insert name us = refl
+
+pub command_binders-Remove : (name : RawName) (us : List RawTerm) → command_binders (c.Remove name us) ≡ 0
+unfolding command_binders
+command_binders-Remove name us = refl
+
+pub command_binders-Install : (w : RawFlow) → command_binders (c.Install w) ≡ 0
+unfolding command_binders
+command_binders-Install w = refl
+
+pub command_binders-Forward : (w : RawFlow) → command_binders (c.Forward w) ≡ 0
+unfolding command_binders
+command_binders-Forward w = refl
+
+pub command_binders-Flood : (w : RawPacket) → command_binders (c.Flood w) ≡ 0
+unfolding command_binders
+command_binders-Flood w = refl
+
+pub ruleset binder_steps = (binders-True, binders-False, binders-Atom, binders-Same, binders-Flow, binders-RcvThis, binders-Not, binders-And, binders-Or, binders-Implies, binders-Iff, binders-Forall, binders-Exists, command_binders-Skip, command_binders-Seq, command_binders-If, command_binders-Pick, command_binders-Insert, command_binders-Remove, command_binders-Install, command_binders-Forward, command_binders-Flood)

@@ -1,0 +1,110 @@
+-- The clauses of nodes, at what the code sees.
+use Rattle.std.specs.Prelude.{◌≡◌, ℕ, ◌+◌, ◌<◌, ◌≤◌, List, [], ◌∷◌, ◌++◌, refl}
+use Rattle.csdn_core.specs.declared.terms.Sort.{Sort}
+use Rattle.csdn_tree.specs.declared.names.RawName.{RawName}
+use Rattle.csdn_tree.specs.declared.names.RawTerm.{RawTerm}
+use Rattle.csdn_tree.specs.declared.names.RawTerm.TheVariants.{Name, Port}
+use Rattle.csdn_tree.specs.declared.syntax.FlowWord.{FlowWord}
+use Rattle.csdn_tree.specs.declared.syntax.RawFlow.{RawFlow}
+use Rattle.csdn_tree.specs.declared.syntax.RawPacket.{RawPacket}
+use Rattle.csdn_tree.specs.declared.syntax.RawFormula.{RawFormula}
+use Rattle.csdn_tree.specs.declared.syntax.RawFormula.TheVariants as f
+use Rattle.csdn_tree.specs.declared.syntax.RawCommand.{RawCommand}
+use Rattle.csdn_tree.specs.declared.syntax.RawCommand.TheVariants as c
+use Rattle.csdn_tree.specs.declared.syntax.RawRow.{RawRow}
+use Rattle.csdn_tree.specs.declared.syntax.RawPattern.{RawPattern}
+use Rattle.csdn_tree.specs.declared.syntax.RawPattern.TheVariants.{Any as AnyPort, Port as OnePort}
+use Rattle.csdn_tree.specs.declared.syntax.RawItem.{RawItem}
+use Rattle.csdn_tree.specs.declared.syntax.RawItem.TheVariants as item
+use Rattle.csdn_tree.specs.RawTree.{raw_seq, raw_if, raw_pick, Seq-is, If-is, Pick-is, Not-is, And-is, Or-is, Implies-is, Iff-is, Forall-is, Exists-is, raw_not, raw_and, raw_or, raw_implies, raw_iff, raw_forall, raw_exists}
+use Rattle.csdn_tree.specs.Nodes.{raw_nodes, raw_commands}
+
+pub raw_nodes-True : raw_nodes f.True ≡ 1
+unfolding raw_nodes
+raw_nodes-True = refl
+
+pub raw_nodes-False : raw_nodes f.False ≡ 1
+unfolding raw_nodes
+raw_nodes-False = refl
+
+pub raw_nodes-Atom : (name : RawName) (ts : List RawTerm) → raw_nodes (f.Atom name ts) ≡ 1
+unfolding raw_nodes
+raw_nodes-Atom name ts = refl
+
+pub raw_nodes-Same : (t u : RawTerm) → raw_nodes (f.Same t u) ≡ 1
+unfolding raw_nodes
+raw_nodes-Same t u = refl
+
+pub raw_nodes-Flow : (at : ℕ) (word : FlowWord) (w : RawFlow) → raw_nodes (f.Flow at word w) ≡ 1
+unfolding raw_nodes
+raw_nodes-Flow at word w = refl
+
+pub raw_nodes-RcvThis : (at : ℕ) (w : RawPacket) → raw_nodes (f.RcvThis at w) ≡ 1
+unfolding raw_nodes
+raw_nodes-RcvThis at w = refl
+
+pub raw_nodes-Not : (p : RawFormula) → raw_nodes (f.Not p) ≡ raw_nodes p + 1
+unfolding raw_nodes
+raw_nodes-Not p = rw Not-is
+
+pub raw_nodes-And : (p q : RawFormula) → raw_nodes (f.And p q) ≡ raw_nodes p + raw_nodes q + 1
+unfolding raw_nodes
+raw_nodes-And p q = rw And-is
+
+pub raw_nodes-Or : (p q : RawFormula) → raw_nodes (f.Or p q) ≡ raw_nodes p + raw_nodes q + 1
+unfolding raw_nodes
+raw_nodes-Or p q = rw Or-is
+
+pub raw_nodes-Implies : (p q : RawFormula) → raw_nodes (f.Implies p q) ≡ raw_nodes p + raw_nodes q + 1
+unfolding raw_nodes
+raw_nodes-Implies p q = rw Implies-is
+
+pub raw_nodes-Iff : (p q : RawFormula) → raw_nodes (f.Iff p q) ≡ raw_nodes p + raw_nodes q + 1
+unfolding raw_nodes
+raw_nodes-Iff p q = rw Iff-is
+
+pub raw_nodes-Forall : (name : RawName) (sort : Sort) (p : RawFormula) → raw_nodes (f.Forall name sort p) ≡ raw_nodes p + 1
+unfolding raw_nodes
+raw_nodes-Forall name sort p = rw Forall-is
+
+pub raw_nodes-Exists : (name : RawName) (sort : Sort) (p : RawFormula) → raw_nodes (f.Exists name sort p) ≡ raw_nodes p + 1
+unfolding raw_nodes
+raw_nodes-Exists name sort p = rw Exists-is
+
+pub raw_commands-Skip : raw_commands c.Skip ≡ 1
+unfolding raw_commands
+raw_commands-Skip = refl
+
+pub raw_commands-Seq : (a b : RawCommand) → raw_commands (c.Seq a b) ≡ raw_commands a + raw_commands b + 1
+unfolding raw_commands
+raw_commands-Seq a b = rw Seq-is
+
+pub raw_commands-If : (p : RawFormula) (a b : RawCommand) → raw_commands (c.If p a b) ≡ raw_commands a + raw_commands b + 1
+unfolding raw_commands
+raw_commands-If p a b = rw If-is
+
+pub raw_commands-Pick : (name : RawName) (sort : Sort) (p : RawFormula) (a b : RawCommand) → raw_commands (c.Pick name sort p a b) ≡ raw_commands a + raw_commands b + 1
+unfolding raw_commands
+raw_commands-Pick name sort p a b = rw Pick-is
+
+pub raw_commands-Insert : (name : RawName) (ts : List RawTerm) → raw_commands (c.Insert name ts) ≡ 1
+unfolding raw_commands
+raw_commands-Insert name ts = refl
+
+pub raw_commands-Remove : (name : RawName) (ts : List RawTerm) → raw_commands (c.Remove name ts) ≡ 1
+unfolding raw_commands
+raw_commands-Remove name ts = refl
+
+pub raw_commands-Install : (w : RawFlow) → raw_commands (c.Install w) ≡ 1
+unfolding raw_commands
+raw_commands-Install w = refl
+
+pub raw_commands-Forward : (w : RawFlow) → raw_commands (c.Forward w) ≡ 1
+unfolding raw_commands
+raw_commands-Forward w = refl
+
+pub raw_commands-Flood : (w : RawPacket) → raw_commands (c.Flood w) ≡ 1
+unfolding raw_commands
+raw_commands-Flood w = refl
+
+pub ruleset raw_node_steps = (raw_nodes-True, raw_nodes-False, raw_nodes-Atom, raw_nodes-Same, raw_nodes-Flow, raw_nodes-RcvThis, raw_nodes-Not, raw_nodes-And, raw_nodes-Or, raw_nodes-Implies, raw_nodes-Iff, raw_nodes-Forall, raw_nodes-Exists, raw_commands-Skip, raw_commands-Seq, raw_commands-If, raw_commands-Pick, raw_commands-Insert, raw_commands-Remove, raw_commands-Install, raw_commands-Forward, raw_commands-Flood)

@@ -1,0 +1,46 @@
+-- How many nodes formulas and commands of a tree have: what their recursions make less.
+use Rattle.std.specs.Prelude.{◌≡◌, ℕ, ◌+◌, ◌<◌, ◌≤◌, List, [], ◌∷◌, ◌++◌, refl}
+use Rattle.csdn_core.specs.declared.terms.Sort.{Sort}
+use Rattle.csdn_tree.specs.declared.names.RawName.{RawName}
+use Rattle.csdn_tree.specs.declared.names.RawTerm.{RawTerm}
+use Rattle.csdn_tree.specs.declared.names.RawTerm.TheVariants.{Name, Port}
+use Rattle.csdn_tree.specs.declared.syntax.FlowWord.{FlowWord}
+use Rattle.csdn_tree.specs.declared.syntax.RawFlow.{RawFlow}
+use Rattle.csdn_tree.specs.declared.syntax.RawPacket.{RawPacket}
+use Rattle.csdn_tree.specs.declared.syntax.RawFormula.{RawFormula}
+use Rattle.csdn_tree.specs.declared.syntax.RawFormula.TheVariants as f
+use Rattle.csdn_tree.specs.declared.syntax.RawCommand.{RawCommand}
+use Rattle.csdn_tree.specs.declared.syntax.RawCommand.TheVariants as c
+use Rattle.csdn_tree.specs.declared.syntax.RawRow.{RawRow}
+use Rattle.csdn_tree.specs.declared.syntax.RawPattern.{RawPattern}
+use Rattle.csdn_tree.specs.declared.syntax.RawPattern.TheVariants.{Any as AnyPort, Port as OnePort}
+use Rattle.csdn_tree.specs.declared.syntax.RawItem.{RawItem}
+use Rattle.csdn_tree.specs.declared.syntax.RawItem.TheVariants as item
+use Rattle.csdn_tree.specs.RawTree.{raw_seq, raw_if, raw_pick, Seq-is, If-is, Pick-is, Not-is, And-is, Or-is, Implies-is, Iff-is, Forall-is, Exists-is, raw_not, raw_and, raw_or, raw_implies, raw_iff, raw_forall, raw_exists}
+
+unfoldable pub raw_nodes : RawFormula → ℕ
+raw_nodes f.True = 1
+raw_nodes f.False = 1
+raw_nodes (f.Atom name ts) = 1
+raw_nodes (f.Same t u) = 1
+raw_nodes (f.Flow at word w) = 1
+raw_nodes (f.RcvThis at w) = 1
+raw_nodes (raw_not p) = raw_nodes p + 1
+raw_nodes (raw_and p q) = raw_nodes p + raw_nodes q + 1
+raw_nodes (raw_or p q) = raw_nodes p + raw_nodes q + 1
+raw_nodes (raw_implies p q) = raw_nodes p + raw_nodes q + 1
+raw_nodes (raw_iff p q) = raw_nodes p + raw_nodes q + 1
+raw_nodes (raw_forall name sort p) = raw_nodes p + 1
+raw_nodes (raw_exists name sort p) = raw_nodes p + 1
+
+-- how many commands a command of a tree has
+unfoldable pub raw_commands : RawCommand → ℕ
+raw_commands c.Skip = 1
+raw_commands (raw_seq a b) = raw_commands a + raw_commands b + 1
+raw_commands (raw_if p a b) = raw_commands a + raw_commands b + 1
+raw_commands (raw_pick name sort p a b) = raw_commands a + raw_commands b + 1
+raw_commands (c.Insert name ts) = 1
+raw_commands (c.Remove name ts) = 1
+raw_commands (c.Install w) = 1
+raw_commands (c.Forward w) = 1
+raw_commands (c.Flood w) = 1

@@ -1,0 +1,177 @@
+-- Commands that break no rule are well-sorted.
+use Rattle.std.proofs.Common.{◌≡◌, ℕ, ◌+◌, ◌<◌, ◌≤◌, Bool, true, false, not, ◌==◌, List, [], ◌∷◌, ◌++◌, length, map, Option, Some, None, slice_get, unwrap_or, refl, sym, ap, ap₂, subst, ◌∙◌, arith}
+use Rattle.std.proofs.lemmas.Bool.Decides.{nat_tests}
+use Rattle.csdn_core.specs.declared.terms.Place.TheVariants.{Handler as InHandler}
+use Rattle.csdn_core.specs.declared.terms.Sort.{Sort}
+use Rattle.csdn_core.specs.declared.terms.Sort.TheVariants.{Sw, Ho, Pr}
+use Rattle.csdn_core.specs.declared.terms.Term.{Term}
+use Rattle.csdn_core.specs.declared.terms.Term.TheVariants.{Var, Const, Port}
+use Rattle.csdn_core.specs.declared.program.Relation.{Relation}
+use Rattle.csdn_core.specs.declared.syntax.Command.{Command}
+use Rattle.csdn_core.specs.Tree.{Seq-is, If-is, Pick-is}
+use Rattle.csdn_core.specs.Sorted.{Signature, Bind, HasSort, HaveSorts, IsSorted, most_variables, flow_sorts, packet_sorts, bound_in}
+use Rattle.csdn_core.specs.WellSorted.{OwnPacket, IsWrite, IsInstall, IsForward, IsFlood, IsCommand, command_bound_in}
+use Rattle.csdn_tree.specs.declared.names.RawTerm.TheVariants.{Name}
+use Rattle.csdn_tree.specs.declared.names.RawName.{RawName}
+use Rattle.csdn_tree.specs.declared.names.RawTerm.{RawTerm}
+use Rattle.csdn_types.specs.declared.refusal.SortRefusal.{SortRefusal}
+use Rattle.csdn_types.specs.declared.refusal.SortRefusal.TheVariants.{WrongArity, NotAllowed}
+use Rattle.csdn_tree.specs.declared.syntax.RawFlow.{RawFlow}
+use Rattle.csdn_tree.specs.declared.syntax.RawPacket.{RawPacket}
+use Rattle.csdn_tree.specs.declared.syntax.RawCommand.{RawCommand}
+use Rattle.csdn_tree.specs.declared.syntax.RawCommand.TheVariants as c
+use Rattle.csdn_tree.specs.RawTree.{raw_seq, raw_if, raw_pick}
+use Rattle.csdn_tree.specs.Places.{place as place_of}
+use Rattle.csdn_types.specs.declared.own.OwnTerms.{OwnTerms}
+use Rattle.csdn_types.specs.declared.terms.Use.TheVariants.{Write}
+use Rattle.csdn_types.specs.Scope.{Scope, relation_named, bound}
+use Rattle.csdn_types.specs.Typed.{typed, term_of, terms_of, flow_of, packet_of, next_var}
+use Rattle.csdn_tree.specs.Binders.{binders}
+use Rattle.csdn_types.specs.Faults.{fault_if, is_forbidden, term_faults, terms_faults, use_faults, relation_faults, variable_faults, flow_faults, faults}
+use Rattle.csdn_types.specs.Commands.{same_term, own_faults, forward_faults, flood_faults, command_faults, command_typed, later}
+use Rattle.csdn_tree.specs.Binders.{command_binders}
+use Rattle.csdn_types.specs.Signed.{bind_of, binds_of, IsPart, HaveNumerals, FormulaNumerals, CommandNumerals, counted, seen}
+use Rattle.csdn_types.proofs.Lists.{map-snoc}
+use Rattle.csdn_types.proofs.Sorts.{terms_have, term_has, flow_have, packet_have, no_fault, fault_free, free_left, free_right, lengths_agree, part_bound, room_left, in_body, typed_is_sorted, bound_in-typed, counted-add, counted-next}
+
+terms_agree : (t u : Term) → same_term t u ≡ true → t ≡ u
+terms_agree (Var v) (Var w) same = ap (λ n. Var (record { 0 = n })) (lengths_agree v.0 w.0 same)
+terms_agree (Const k) (Const l) same = ap (λ n. Const (record { 0 = n })) (lengths_agree k.0 l.0 same)
+terms_agree (Port m) (Port n) same = ap Port (lengths_agree m n same)
+terms_agree (Var v) (Const l) same = absurd cc
+terms_agree (Var v) (Port n) same = absurd cc
+terms_agree (Const k) (Var w) same = absurd cc
+terms_agree (Const k) (Port n) same = absurd cc
+terms_agree (Port m) (Var w) same = absurd cc
+terms_agree (Port m) (Const l) same = absurd cc
+
+part_later : (s : Scope) (S : Signature) (n : ℕ) → IsPart s S → IsPart (later s n) S
+part_later s S n part = record { relations = part.relations; constants = part.constants }
+
+-- a relation that is written
+use_is_write : (s : Scope) (S : Signature) → IsPart s S → (at : ℕ) (ts : List RawTerm) (id : ℕ) (d : Option Relation) → slice_get s.relations id ≡ d → HaveNumerals S ts → use_faults Write s at ts d ≡ [] → IsWrite S (binds_of s) (record { 0 = id }) (terms_of s ts)
+use_is_write s S part at ts id None is numerals free = absurd cc
+use_is_write s S part at ts id (Some d) is numerals free =
+    let arity = fault_if (not (length ts == length d.sorts)) (WrongArity at) in
+    let allowed = fault_if (is_forbidden Write d) (NotAllowed at) in
+    let rest = free_right arity (allowed ++ terms_faults s d.sorts ts) free in
+    let many : length ts ≡ length d.sorts = lengths_agree (length ts) (length d.sorts) (no_fault (length ts == length d.sorts) (WrongArity at) (free_left arity (allowed ++ terms_faults s d.sorts ts) free)) in
+    record {
+      relation = d;
+      declared = part.relations id d is;
+      stored = fault_free (is_forbidden Write d) (NotAllowed at) (free_left allowed (terms_faults s d.sorts ts) rest);
+      terms = terms_have s S part d.sorts ts many numerals (free_right allowed (terms_faults s d.sorts ts) rest);
+    }
+
+relation_is_write : (s : Scope) (S : Signature) → IsPart s S → (at : ℕ) (ts : List RawTerm) (id : Option ℕ) → HaveNumerals S ts → relation_faults Write s at ts id ≡ [] → IsWrite S (binds_of s) (record { 0 = unwrap_or id 0 }) (terms_of s ts)
+relation_is_write s S part at ts None numerals free = absurd cc
+relation_is_write s S part at ts (Some id) numerals free = use_is_write s S part at ts id (slice_get s.relations id) refl numerals free
+
+-- an own term is the handler's
+own_is : (s : Scope) (sort : Sort) (own : Term) (t : RawTerm) → own_faults s sort own t ≡ [] → term_of s t ≡ own
+own_is s sort own t free = terms_agree (term_of s t) own (no_fault (same_term (term_of s t) own) (NotAllowed (place_of t)) (free_right (term_faults s sort t) _ free))
+
+own_free : (s : Scope) (sort : Sort) (own : Term) (t : RawTerm) → own_faults s sort own t ≡ [] → term_faults s sort t ≡ []
+own_free s sort own t free = free_left (term_faults s sort t) _ free
+
+both : (xs ys : List SortRefusal) → xs ≡ [] → ys ≡ [] → xs ++ ys ≡ []
+both xs ys left right = rw (left, right)
+
+module _ (S : Signature) (own : OwnTerms) where
+  install_is : (s : Scope) → IsPart s S → (w : RawFlow) → HaveNumerals S (Name w.switch ∷ w.source ∷ w.target ∷ w.ingress ∷ w.egress ∷ []) → own_faults s Sw own.switch (Name w.switch) ++ flow_faults s w ≡ [] → IsInstall S (seen own) (binds_of s) (term_of s (Name w.switch) ∷ flow_of s w)
+  install_is s part w numerals free =
+      let first = free_left (own_faults s Sw own.switch (Name w.switch)) _ free in
+      record { rest = flow_of s w; is = ap (λ t. t ∷ flow_of s w) (own_is s Sw own.switch (Name w.switch) first); terms = flow_have s S part w numerals (own_free s Sw own.switch (Name w.switch) first) (free_right (own_faults s Sw own.switch (Name w.switch)) _ free) }
+
+  forward_is : (s : Scope) → IsPart s S → (w : RawFlow) → HaveNumerals S (Name w.switch ∷ w.source ∷ w.target ∷ w.ingress ∷ w.egress ∷ []) → forward_faults own s w ≡ [] → IsForward S (seen own) (binds_of s) (term_of s (Name w.switch) ∷ flow_of s w)
+  forward_is s part w numerals free =
+      let switch = free_left (own_faults s Sw own.switch (Name w.switch)) _ free in
+      let after_switch = free_right (own_faults s Sw own.switch (Name w.switch)) _ free in
+      let source = free_left (own_faults s Ho own.source w.source) _ after_switch in
+      let after_source = free_right (own_faults s Ho own.source w.source) _ after_switch in
+      let target = free_left (own_faults s Ho own.target w.target) _ after_source in
+      let after_target = free_right (own_faults s Ho own.target w.target) _ after_source in
+      let ingress = free_left (own_faults s Pr own.ingress w.ingress) _ after_target in
+      let egress = free_right (own_faults s Pr own.ingress w.ingress) _ after_target in
+      record {
+        egress = term_of s w.egress;
+        is = rw (own_is s Sw own.switch (Name w.switch) switch, own_is s Ho own.source w.source source, own_is s Ho own.target w.target target, own_is s Pr own.ingress w.ingress ingress);
+        terms = flow_have s S part w numerals (own_free s Sw own.switch (Name w.switch) switch)
+            (both (term_faults s Ho w.source) _ (own_free s Ho own.source w.source source)
+            (both (term_faults s Ho w.target) _ (own_free s Ho own.target w.target target)
+            (both (term_faults s Pr w.ingress) _ (own_free s Pr own.ingress w.ingress ingress) egress)));
+      }
+
+three : (k l m n : ℕ) → counted k l ++ (counted (k + l) m ++ counted (k + (l + m)) n) ≡ counted k (l + (m + n))
+three k l m n =
+    let shift : k + (l + m) ≡ (k + l) + m = omega arith in
+    rw (shift, counted-add (k + l) m n) (counted-add k l (m + n))
+
+four : (k l m n : ℕ) → k ∷ (counted (k + 1) l ++ (counted ((k + 1) + l) m ++ counted (k + ((1 + l) + m)) n)) ≡ counted k ((1 + l) + (m + n))
+four k l m n =
+    let shift : k + ((1 + l) + m) ≡ (k + 1) + (l + m) = omega arith in
+    let whole : (1 + l) + (m + n) ≡ 1 + (l + (m + n)) = omega arith in
+    rw (shift, three (k + 1) l m n, whole) (counted-next k (l + (m + n)))
+
+-- the numbers of a command's variables are the next ones
+pub command_bound_in-typed : (s : Scope) (x : RawCommand) → command_bound_in (command_typed s x) ≡ counted s.next (command_binders x)
+unfolding command_bound_in command_typed command_binders counted
+command_bound_in-typed s c.Skip = refl
+command_bound_in-typed s (raw_seq a b) = rw (Seq-is, command_bound_in-typed s a, command_bound_in-typed (later s (command_binders a)) b) (counted-add s.next (command_binders a) (command_binders b))
+command_bound_in-typed s (raw_if p a b) = rw (If-is, bound_in-typed s p, command_bound_in-typed (later s (binders p)) a, command_bound_in-typed (later s (binders p + command_binders a)) b) (three s.next (binders p) (command_binders a) (command_binders b))
+command_bound_in-typed s (raw_pick name sort p a b) =
+    rw (Pick-is, bound_in-typed (bound s name sort) p, command_bound_in-typed (later (bound s name sort) (binders p)) a, command_bound_in-typed (later s ((1 + binders p) + command_binders a)) b) (four s.next (binders p) (command_binders a) (command_binders b))
+command_bound_in-typed s (c.Insert name us) = refl
+command_bound_in-typed s (c.Remove name us) = refl
+command_bound_in-typed s (c.Install w) = refl
+command_bound_in-typed s (c.Forward w) = refl
+command_bound_in-typed s (c.Flood w) = refl
+
+flood_parts : (S : Signature) (own : OwnTerms) (s : Scope) → IsPart s S → (w : RawPacket) → HaveNumerals S (Name w.switch ∷ w.source ∷ w.target ∷ w.ingress ∷ []) → flood_faults own s w ≡ [] → IsFlood S (seen own) (binds_of s) (term_of s (Name w.switch) ∷ packet_of s w)
+flood_parts S own s part w numerals free =
+    let switch = free_left (own_faults s Sw own.switch (Name w.switch)) _ free in
+    let after_switch = free_right (own_faults s Sw own.switch (Name w.switch)) _ free in
+    let source = free_left (own_faults s Ho own.source w.source) _ after_switch in
+    let after_source = free_right (own_faults s Ho own.source w.source) _ after_switch in
+    let target = free_left (own_faults s Ho own.target w.target) _ after_source in
+    let ingress = free_right (own_faults s Ho own.target w.target) _ after_source in
+    record {
+      is = rw (own_is s Sw own.switch (Name w.switch) switch, own_is s Ho own.source w.source source, own_is s Ho own.target w.target target, own_is s Pr own.ingress w.ingress ingress);
+      terms = packet_have s S part w numerals (own_free s Sw own.switch (Name w.switch) switch)
+          (both (term_faults s Ho w.source) _ (own_free s Ho own.source w.source source)
+          (both (term_faults s Ho w.target) (term_faults s Pr w.ingress) (own_free s Ho own.target w.target target) (own_free s Pr own.ingress w.ingress ingress)));
+    }
+
+in_block : (S : Signature) (own : OwnTerms) (s : Scope) (name : RawName) (sort : Sort) (n : ℕ) (x : Command) → IsCommand S (seen own) (binds_of (later (bound s name sort) n)) x → IsCommand S (seen own) (binds_of s ++ record { var = next_var s; sort = sort } ∷ []) x
+in_block S own s name sort n x sorted = subst (λ Γ. IsCommand S (seen own) Γ x) (map-snoc bind_of s.variables _) sorted
+
+pub command_is_sorted : (S : Signature) (own : OwnTerms) (s : Scope) (x : RawCommand) → IsPart s S → CommandNumerals S x → command_faults own s x ≡ [] → IsCommand S (seen own) (binds_of s) (command_typed s x)
+unfolding CommandNumerals command_faults command_typed IsCommand
+command_is_sorted S own s c.Skip part numerals free = tt
+command_is_sorted S own s (raw_seq a b) part numerals free =
+    rw Seq-is (
+      command_is_sorted S own s a part numerals.0 (free_left (command_faults own s a) _ free),
+      command_is_sorted S own (later s (command_binders a)) b (part_later s S (command_binders a) part) numerals.1 (free_right (command_faults own s a) _ free),
+    )
+command_is_sorted S own s (raw_if p a b) part numerals free =
+    let rest = free_right (faults InHandler s p) _ free in
+    rw If-is (
+      typed_is_sorted S InHandler s p part numerals.0 (free_left (faults InHandler s p) _ free),
+      command_is_sorted S own (later s (binders p)) a (part_later s S (binders p) part) numerals.1 (free_left (command_faults own (later s (binders p)) a) _ rest),
+      command_is_sorted S own (later s (binders p + command_binders a)) b (part_later s S (binders p + command_binders a) part) numerals.2 (free_right (command_faults own (later s (binders p)) a) _ rest),
+    )
+command_is_sorted S own s (raw_pick name sort p a b) part numerals free =
+    let inner = bound s name sort in
+    let first = free_left (variable_faults s name ++ (faults InHandler inner p ++ command_faults own (later inner (binders p)) a)) _ free in
+    let rest = free_right (variable_faults s name) _ first in
+    rw Pick-is (
+      room_left s name (free_left (variable_faults s name) _ first),
+      in_body S InHandler s name sort (typed inner p) (typed_is_sorted S InHandler inner p (part_bound s S name sort part) numerals.0 (free_left (faults InHandler inner p) _ rest)),
+      in_block S own s name sort (binders p) (command_typed (later inner (binders p)) a) (command_is_sorted S own (later inner (binders p)) a (part_later inner S (binders p) (part_bound s S name sort part)) numerals.1 (free_right (faults InHandler inner p) _ rest)),
+      command_is_sorted S own (later s ((1 + binders p) + command_binders a)) b (part_later s S ((1 + binders p) + command_binders a) part) numerals.2 (free_right (variable_faults s name ++ (faults InHandler inner p ++ command_faults own (later inner (binders p)) a)) _ free),
+    )
+command_is_sorted S own s (c.Insert name us) part numerals free = relation_is_write s S part name.at us (relation_named s name.text) numerals free
+command_is_sorted S own s (c.Remove name us) part numerals free = relation_is_write s S part name.at us (relation_named s name.text) numerals free
+command_is_sorted S own s (c.Install w) part numerals free = install_is S own s part w numerals free
+command_is_sorted S own s (c.Forward w) part numerals free = forward_is S own s part w numerals free
+command_is_sorted S own s (c.Flood w) part numerals free = flood_parts S own s part w numerals free

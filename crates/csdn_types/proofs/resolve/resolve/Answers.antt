@@ -1,0 +1,8 @@
+use Rattle.csdn_types.proofs.Refusals.{exit_refusal, exit_memory}
+use Rattle.csdn_types.proofs.resolve.resolve.Goals as goal
+
+pub returns-in_err-items : goal.returns-in_err-items
+returns-in_err-items c = exit_refusal c.args.raw.now _ _ c.new-draft.result c.from_residual.ensures.1 c.requires c.new-draft.ensures (rw (← c.as_slice.ensures) c.in_err-items.ensures.passes)
+
+pub returns-in_err-numerals : goal.returns-in_err-numerals
+returns-in_err-numerals c = exit_memory c.args.raw.now _ c.from_residual-in_err-numerals.ensures.1

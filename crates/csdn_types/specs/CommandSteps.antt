@@ -1,0 +1,102 @@
+-- The clauses of commands, at what the code sees.
+use Rattle.std.specs.Prelude.{◌≡◌, ℕ, ◌+◌, List, [], ◌∷◌, ◌++◌, unwrap_or, refl}
+use Rattle.csdn_core.specs.declared.terms.Place.{Place}
+use Rattle.csdn_core.specs.declared.terms.Place.TheVariants.{Handler as InHandler}
+use Rattle.csdn_core.specs.declared.terms.Sort.{Sort}
+use Rattle.csdn_core.specs.declared.terms.Sort.TheVariants.{Sw}
+use Rattle.csdn_core.specs.declared.terms.Pred.TheVariants as pred
+use Rattle.csdn_core.specs.declared.syntax.Formula.TheVariants as formula
+use Rattle.csdn_core.specs.declared.syntax.Command.TheVariants as command
+use Rattle.csdn_tree.specs.declared.names.RawName.{RawName}
+use Rattle.csdn_tree.specs.declared.names.RawTerm.{RawTerm}
+use Rattle.csdn_tree.specs.declared.names.RawTerm.TheVariants.{Name}
+use Rattle.csdn_tree.specs.declared.syntax.FlowWord.{FlowWord}
+use Rattle.csdn_tree.specs.declared.syntax.RawFlow.{RawFlow}
+use Rattle.csdn_tree.specs.declared.syntax.RawPacket.{RawPacket}
+use Rattle.csdn_tree.specs.declared.syntax.RawFormula.{RawFormula}
+use Rattle.csdn_tree.specs.declared.syntax.RawFormula.TheVariants as f
+use Rattle.csdn_tree.specs.declared.syntax.RawCommand.{RawCommand}
+use Rattle.csdn_tree.specs.declared.syntax.RawCommand.TheVariants as c
+use Rattle.csdn_tree.specs.RawTree.{Seq-is, If-is, Pick-is, Not-is, And-is, Or-is, Implies-is, Iff-is, Forall-is, Exists-is}
+use Rattle.csdn_tree.specs.Binders.{binders, command_binders}
+use Rattle.csdn_types.specs.declared.refusal.SortRefusal.TheVariants.{NotAllowed}
+use Rattle.csdn_types.specs.declared.own.OwnTerms.{OwnTerms}
+use Rattle.csdn_types.specs.declared.terms.Use.TheVariants.{InFormula, Write}
+use Rattle.csdn_types.specs.Scope.{Scope, bound, relation_named}
+use Rattle.csdn_types.specs.Typed.{after, typed, stored, terms_of, term_of, pred_of, flow_of, packet_of, next_var}
+use Rattle.csdn_types.specs.Faults.{faults, fault_if, atom_faults, same_faults, term_faults, flow_faults, packet_faults, variable_faults, word_is_outside, packet_is_outside}
+use Rattle.csdn_types.specs.Commands.{install_faults, forward_faults, flood_faults, later, command_faults, relation_id, command_typed}
+
+pub command_faults-Skip : (own : OwnTerms) (s : Scope) → command_faults own s c.Skip ≡ []
+unfolding command_faults
+command_faults-Skip own s = refl
+
+pub command_faults-Seq : (own : OwnTerms) (s : Scope) (a b : RawCommand) → command_faults own s (c.Seq a b) ≡ command_faults own s a ++ command_faults own (later s (command_binders a)) b
+unfolding command_faults
+command_faults-Seq own s a b = rw Seq-is
+
+pub command_faults-If : (own : OwnTerms) (s : Scope) (p : RawFormula) (a b : RawCommand) → command_faults own s (c.If p a b) ≡ faults InHandler s p ++ (command_faults own (later s (binders p)) a ++ command_faults own (later s (binders p + command_binders a)) b)
+unfolding command_faults
+command_faults-If own s p a b = rw If-is
+
+pub command_faults-Pick : (own : OwnTerms) (s : Scope) (name : RawName) (sort : Sort) (p : RawFormula) (a b : RawCommand) → command_faults own s (c.Pick name sort p a b) ≡ (variable_faults s name ++ (faults InHandler (bound s name sort) p ++ command_faults own (later (bound s name sort) (binders p)) a)) ++ command_faults own (later s ((1 + binders p) + command_binders a)) b
+unfolding command_faults
+command_faults-Pick own s name sort p a b = rw Pick-is
+
+pub command_faults-Insert : (own : OwnTerms) (s : Scope) (name : RawName) (us : List RawTerm) → command_faults own s (c.Insert name us) ≡ atom_faults Write s name us
+unfolding command_faults
+command_faults-Insert own s name us = refl
+
+pub command_faults-Remove : (own : OwnTerms) (s : Scope) (name : RawName) (us : List RawTerm) → command_faults own s (c.Remove name us) ≡ atom_faults Write s name us
+unfolding command_faults
+command_faults-Remove own s name us = refl
+
+pub command_faults-Install : (own : OwnTerms) (s : Scope) (w : RawFlow) → command_faults own s (c.Install w) ≡ install_faults own s w
+unfolding command_faults
+command_faults-Install own s w = refl
+
+pub command_faults-Forward : (own : OwnTerms) (s : Scope) (w : RawFlow) → command_faults own s (c.Forward w) ≡ forward_faults own s w
+unfolding command_faults
+command_faults-Forward own s w = refl
+
+pub command_faults-Flood : (own : OwnTerms) (s : Scope) (w : RawPacket) → command_faults own s (c.Flood w) ≡ flood_faults own s w
+unfolding command_faults
+command_faults-Flood own s w = refl
+
+pub command_typed-Skip : (s : Scope) → command_typed s c.Skip ≡ command.Skip
+unfolding command_typed
+command_typed-Skip s = refl
+
+pub command_typed-Seq : (s : Scope) (a b : RawCommand) → command_typed s (c.Seq a b) ≡ command.Seq (command_typed s a) (command_typed (later s (command_binders a)) b)
+unfolding command_typed
+command_typed-Seq s a b = rw Seq-is
+
+pub command_typed-If : (s : Scope) (p : RawFormula) (a b : RawCommand) → command_typed s (c.If p a b) ≡ command.If (typed s p) (command_typed (later s (binders p)) a) (command_typed (later s (binders p + command_binders a)) b)
+unfolding command_typed
+command_typed-If s p a b = rw If-is
+
+pub command_typed-Pick : (s : Scope) (name : RawName) (sort : Sort) (p : RawFormula) (a b : RawCommand) → command_typed s (c.Pick name sort p a b) ≡ command.Pick (next_var s) sort (typed (bound s name sort) p) (command_typed (later (bound s name sort) (binders p)) a) (command_typed (later s ((1 + binders p) + command_binders a)) b)
+unfolding command_typed
+command_typed-Pick s name sort p a b = rw Pick-is
+
+pub command_typed-Insert : (s : Scope) (name : RawName) (us : List RawTerm) → command_typed s (c.Insert name us) ≡ command.Insert (relation_id s name) (terms_of s us)
+unfolding command_typed
+command_typed-Insert s name us = refl
+
+pub command_typed-Remove : (s : Scope) (name : RawName) (us : List RawTerm) → command_typed s (c.Remove name us) ≡ command.Remove (relation_id s name) (terms_of s us)
+unfolding command_typed
+command_typed-Remove s name us = refl
+
+pub command_typed-Install : (s : Scope) (w : RawFlow) → command_typed s (c.Install w) ≡ command.Install (term_of s (Name w.switch) ∷ flow_of s w)
+unfolding command_typed
+command_typed-Install s w = refl
+
+pub command_typed-Forward : (s : Scope) (w : RawFlow) → command_typed s (c.Forward w) ≡ command.Forward (term_of s (Name w.switch) ∷ flow_of s w)
+unfolding command_typed
+command_typed-Forward s w = refl
+
+pub command_typed-Flood : (s : Scope) (w : RawPacket) → command_typed s (c.Flood w) ≡ command.Flood (term_of s (Name w.switch) ∷ packet_of s w)
+unfolding command_typed
+command_typed-Flood s w = refl
+
+pub ruleset command_steps = (command_faults-Skip, command_faults-Seq, command_faults-If, command_faults-Pick, command_faults-Insert, command_faults-Remove, command_faults-Install, command_faults-Forward, command_faults-Flood, command_typed-Skip, command_typed-Seq, command_typed-If, command_typed-Pick, command_typed-Insert, command_typed-Remove, command_typed-Install, command_typed-Forward, command_typed-Flood)

@@ -1,0 +1,14 @@
+pub mod Scope
+pub mod Answers
+pub mod Faults
+pub mod Typed
+pub mod FaultsSteps
+pub mod TypedSteps
+pub mod Order
+pub mod Commands
+pub mod CommandSteps
+pub mod Items
+pub mod Programs
+pub mod Signed
+pub mod Resolved
+pub mod Numerals

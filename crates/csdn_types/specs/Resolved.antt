@@ -1,0 +1,55 @@
+-- What `resolve` answers.
+use Rattle.std.specs.Prelude.{◌≡◌, ◌⊎◌, ◌≤◌, ◌+◌, ◌*◌, ◌^◌, ℕ, List, [], ◌∷◌, Result, MatchResult}
+use Rattle.csdn_core.specs.declared.program.Parts.{Parts}
+use Rattle.csdn_types.specs.declared.refusal.SortRefusal.{SortRefusal}
+use Rattle.csdn_types.specs.declared.refusal.SortRefusal.TheVariants.{Memory}
+use Rattle.csdn_tree.specs.declared.syntax.RawProgram.{RawProgram}
+use Rattle.csdn_types.specs.Scope.{Scope}
+use Rattle.csdn_core.specs.Sorted.{most_numbers}
+use Rattle.csdn_types.specs.Programs.{Draft, items_faults, with_items}
+use Rattle.csdn_tree.specs.Binders.{items_binders}
+use Rattle.csdn_types.specs.Numerals.{with_numerals}
+use Rattle.csdn_tree.specs.Numerals.{items_numerals}
+use Rattle.csdn_types.specs.Order.{IsLeast}
+use Rattle.csdn_tree.specs.Within.{ItemsWithin}
+
+-- before the first item
+abbrev pub nothing_declared : Draft
+nothing_declared = record {
+  scope = record { relations = []; constants = []; variables = []; next = 0 };
+  invariants = [];
+  start = [];
+  topology = [];
+  safety = [];
+  trans = [];
+  handlers = [];
+}
+
+-- every rule that the program breaks, and where
+abbrev pub broken_rules : RawProgram → List SortRefusal
+broken_rules raw = items_faults nothing_declared raw.items
+
+abbrev pub parts_of_draft : List ℕ → Draft → Parts
+parts_of_draft numerals d = record {
+  relations = d.scope.relations;
+  constants = d.scope.constants;
+  start = d.start;
+  topology = d.topology;
+  safety = d.safety;
+  trans = d.trans;
+  handlers = d.handlers;
+  numerals = numerals;
+}
+
+-- the parts in which each name stands for its declaration, and each bound variable has a number of its own
+abbrev pub parts_of : RawProgram → Parts
+parts_of raw = parts_of_draft (with_numerals [] (items_numerals raw.items)) (with_items nothing_declared raw.items)
+
+-- the tree keeps the rules, and these are its parts
+pub record Types (raw : RawProgram) (parts : Parts) : Type 0 where
+  pub keeps : broken_rules raw ≡ []
+  pub is : parts ≡ parts_of raw
+
+-- the least of the broken rules, or want of memory
+pub record IsRefusal (raw : RawProgram) (e : SortRefusal) : Type 0 where
+  pub is : (e ≡ Memory) ⊎ IsLeast (broken_rules raw) e

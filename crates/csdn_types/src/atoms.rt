@@ -1,0 +1,152 @@
+//! Formulas.
+ghost use Rattle.std.specs.Prelude.{◌≡◌, ◌≤◌, ◌<◌, ◌+◌, ◌^◌, ◌++◌, OnOk, not, is_some, nat_le, length, unwrap_or};
+ghost use Rattle.csdn_core.specs.declared.terms.Pred.TheVariants.{RcvThis as RcvThisPred};
+ghost use Rattle.csdn_types.specs.Typed.{term_of};
+ghost use Rattle.std.specs.Prelude.{◌∷◌};
+ghost use Rattle.csdn_core.specs.declared.syntax.Formula.TheVariants as t;
+ghost use Rattle.csdn_core.specs.Sorted.{most_variables};
+ghost use Rattle.csdn_types.specs.declared.refusal.SortRefusal.TheVariants.{NotAllowed};
+ghost use Rattle.csdn_core.specs.declared.terms.Sort.TheVariants.{Sw};
+ghost use Rattle.csdn_types.specs.Answers.{Answers, IsFirst, IsTyped};
+ghost use Rattle.csdn_types.specs.Faults.{faults, fault_if, atom_faults, term_faults, flow_faults, packet_faults, variable_faults, word_is_outside as word_outside, packet_is_outside as packet_outside};
+ghost use Rattle.csdn_types.specs.Typed.{after, typed, next_var, flow_of, packet_of, pred_of};
+ghost use Rattle.csdn_tree.specs.Binders.{binders};
+ghost use Rattle.csdn_tree.specs.declared.names.RawTerm.TheVariants.{Name};
+ghost use Rattle.csdn_types.specs.Scope.{bound, relation_named};
+ghost use Rattle.csdn_core.specs.Sorted.{most_numbers};
+
+use crate::refusal::SortRefusal;
+use crate::scope::Scope;
+use crate::terms::{named_term, term};
+use csdn_core::syntax::Formula;
+use csdn_core::terms::{Place, Pred, Sort, Term, Terms, VarId};
+use csdn_tree::names::RawName;
+use csdn_tree::syntax::{FlowWord, RawFlow, RawFormula, RawPacket};
+use sqlite_items::Boxed;
+use std::alloc::Global;
+
+/// A variable and what stands under its quantifier.
+#[derive(Drop)]
+pub struct Quantified {
+    pub var: VarId,
+    pub body: Boxed<Formula>,
+}
+
+/// Brings a name into scope.
+#[tactic(auto, using(crate::proofs::First::first_steps))]
+pub fn bind(
+    alloc: Global,
+    scope: &mut Scope,
+    name: &RawName,
+    sort: Sort,
+) -> Result<VarId, SortRefusal>
+    requires { scope.old.next < most_numbers }
+    ensures answers { Answers (variable_faults scope.old name.now) (next_var scope.old) result }
+    ensures bound { OnOk result (scope.new ≡ bound scope.old name.now sort) }
+{
+    let at = name.at;
+    if scope.named(name.text.as_slice()).is_some() {
+        return Err(SortRefusal::Duplicate { at });
+    }
+    if 24 <= scope.depth() {
+        return Err(SortRefusal::TooMany { at });
+    }
+    let var = scope.bind(alloc, name, sort)?;
+    Ok(var)
+}
+
+/// The terms of `ft`, `sent`, `install` and `forward`.
+#[tactic(auto, using(crate::proofs::First::first_steps))]
+pub fn flow(scope: &Scope, switch: Term, raw: &RawFlow) -> Result<Terms, SortRefusal>
+    ensures { Answers (flow_faults scope.now raw.now) (switch ∷ flow_of scope.now raw.now) result }
+{
+    let source = term(scope, Sort::Ho, &raw.source)?;
+    let target = term(scope, Sort::Ho, &raw.target)?;
+    let ingress = term(scope, Sort::Pr, &raw.ingress)?;
+    let egress = term(scope, Sort::Pr, &raw.egress)?;
+    let mut terms = Terms::new();
+    terms.push(switch);
+    terms.push(source);
+    terms.push(target);
+    terms.push(ingress);
+    terms.push(egress);
+    Ok(terms)
+}
+
+#[tactic(auto, using(crate::proofs::First::first_steps))]
+pub fn packet(scope: &Scope, switch: Term, raw: &RawPacket) -> Result<Terms, SortRefusal>
+    ensures { Answers (packet_faults scope.now raw.now) (switch ∷ packet_of scope.now raw.now) result }
+{
+    let source = term(scope, Sort::Ho, &raw.source)?;
+    let target = term(scope, Sort::Ho, &raw.target)?;
+    let ingress = term(scope, Sort::Pr, &raw.ingress)?;
+    let mut terms = Terms::new();
+    terms.push(switch);
+    terms.push(source);
+    terms.push(target);
+    terms.push(ingress);
+    Ok(terms)
+}
+
+fn word_is_outside(place: Place, word: FlowWord) -> bool
+    ensures { result ≡ word_outside place word }
+{
+    match (place, word) {
+        (Place::Topology, _) => true,
+        (Place::Handler, FlowWord::Sent) => true,
+        _ => false,
+    }
+}
+
+fn packet_is_outside(place: Place) -> bool
+    ensures { result ≡ packet_outside place }
+{
+    match place {
+        Place::Trans => false,
+        _ => true,
+    }
+}
+
+fn pred(word: FlowWord) -> Pred
+    ensures { result ≡ pred_of word }
+{
+    match word {
+        FlowWord::Ft => Pred::Ft,
+        FlowWord::Sent => Pred::Sent,
+    }
+}
+
+#[tactic(auto, using(crate::proofs::First::first_steps))]
+pub fn flow_atom(
+    scope: &Scope,
+    place: Place,
+    at: usize,
+    word: FlowWord,
+    raw: &RawFlow,
+) -> Result<Formula, SortRefusal>
+    ensures { Answers (term_faults scope.now Sw (Name raw.now.switch) ++ (fault_if (word_outside place word) (NotAllowed at) ++ flow_faults scope.now raw.now)) (t.Atom (pred_of word) (term_of scope.now (Name raw.now.switch) ∷ flow_of scope.now raw.now)) result }
+{
+    let switch = named_term(scope, Sort::Sw, &raw.switch)?;
+    if word_is_outside(place, word) {
+        return Err(SortRefusal::NotAllowed { at });
+    }
+    let terms = flow(scope, switch, raw)?;
+    Ok(Formula::Atom(pred(word), terms))
+}
+
+#[tactic(auto, using(crate::proofs::First::first_steps))]
+pub fn packet_atom(
+    scope: &Scope,
+    place: Place,
+    at: usize,
+    raw: &RawPacket,
+) -> Result<Formula, SortRefusal>
+    ensures { Answers (term_faults scope.now Sw (Name raw.now.switch) ++ (fault_if (packet_outside place) (NotAllowed at) ++ packet_faults scope.now raw.now)) (t.Atom RcvThisPred (term_of scope.now (Name raw.now.switch) ∷ packet_of scope.now raw.now)) result }
+{
+    let switch = named_term(scope, Sort::Sw, &raw.switch)?;
+    if packet_is_outside(place) {
+        return Err(SortRefusal::NotAllowed { at });
+    }
+    let terms = packet(scope, switch, raw)?;
+    Ok(Formula::Atom(Pred::RcvThis, terms))
+}

@@ -1,0 +1,123 @@
+//! Formulas and the quantifiers in them.
+#![tactic(auto, using(crate::proofs::First::first_steps, crate::specs::FaultsSteps::faults_steps, crate::specs::TypedSteps::typed_steps, csdn_tree::specs::BinderSteps::binder_steps, csdn_tree::specs::NodeSteps::raw_node_steps))]
+
+ghost use Rattle.std.specs.Prelude.{◌≡◌, ◌≤◌, ◌<◌, ◌+◌, ◌^◌, ◌++◌, OnOk};
+ghost use Rattle.csdn_types.specs.Answers.{Answers};
+ghost use Rattle.csdn_types.specs.Faults.{faults, variable_faults};
+ghost use Rattle.csdn_types.specs.Typed.{after, typed, next_var};
+ghost use Rattle.csdn_tree.specs.Binders.{binders};
+ghost use Rattle.csdn_types.specs.Scope.{bound};
+ghost use Rattle.csdn_core.specs.Sorted.{most_numbers};
+
+use crate::atoms::{Quantified, bind, flow_atom, packet_atom};
+use crate::refusal::SortRefusal;
+use crate::scope::Scope;
+use crate::terms::{Use, same, used};
+use csdn_core::syntax::Formula;
+use csdn_core::terms::{Place, Pred, Sort};
+use csdn_tree::names::RawName;
+use csdn_tree::syntax::RawFormula;
+use sqlite_items::Boxed;
+use std::alloc::Global;
+
+/// The formula that a tree stands for.
+#[cycle(formula)]
+pub fn formula(
+    alloc: Global,
+    scope: &mut Scope,
+    place: Place,
+    raw: &RawFormula,
+) -> Result<Formula, SortRefusal>
+    requires { scope.old.next + binders raw.now ≤ most_numbers }
+    ensures answers { Answers (faults place scope.old raw.now) (typed scope.old raw.now) result }
+    ensures scope { OnOk result (scope.new ≡ after scope.old raw.now) }
+{
+    match raw {
+        RawFormula::True => Ok(Formula::True),
+        RawFormula::False => Ok(Formula::False),
+        RawFormula::Atom(name, terms) => {
+            let atom = used(scope, Use::InFormula(place), name, terms.as_slice())?;
+            Ok(Formula::Atom(Pred::Stored(atom.id), atom.terms))
+        }
+        RawFormula::Same(left, right) => {
+            let sides = same(scope, left, right)?;
+            Ok(Formula::Same(sides.0, sides.1))
+        }
+        RawFormula::Flow(at, word, terms) => {
+            let atom = flow_atom(scope, place, *at, *word, terms)?;
+            Ok(atom)
+        }
+        RawFormula::RcvThis(at, terms) => {
+            let atom = packet_atom(scope, place, *at, terms)?;
+            Ok(atom)
+        }
+        RawFormula::Not(p) => {
+            let p = boxed(alloc, scope, place, p.get())?;
+            Ok(Formula::Not(p))
+        }
+        RawFormula::And(p, q) => {
+            let p = boxed(alloc, scope, place, p.get())?;
+            let q = boxed(alloc, scope, place, q.get())?;
+            Ok(Formula::And(p, q))
+        }
+        RawFormula::Or(p, q) => {
+            let p = boxed(alloc, scope, place, p.get())?;
+            let q = boxed(alloc, scope, place, q.get())?;
+            Ok(Formula::Or(p, q))
+        }
+        RawFormula::Implies(p, q) => {
+            let p = boxed(alloc, scope, place, p.get())?;
+            let q = boxed(alloc, scope, place, q.get())?;
+            Ok(Formula::Implies(p, q))
+        }
+        RawFormula::Iff(p, q) => {
+            let p = boxed(alloc, scope, place, p.get())?;
+            let q = boxed(alloc, scope, place, q.get())?;
+            Ok(Formula::Iff(p, q))
+        }
+        RawFormula::Forall(name, sort, p) => {
+            let part = quantified(alloc, scope, place, name, *sort, p.get())?;
+            Ok(Formula::Forall(part.var, *sort, part.body))
+        }
+        RawFormula::Exists(name, sort, p) => {
+            let part = quantified(alloc, scope, place, name, *sort, p.get())?;
+            Ok(Formula::Exists(part.var, *sort, part.body))
+        }
+    }
+}
+
+#[cycle(formula)]
+fn boxed(
+    alloc: Global,
+    scope: &mut Scope,
+    place: Place,
+    raw: &RawFormula,
+) -> Result<Boxed<Formula>, SortRefusal>
+    requires { scope.old.next + binders raw.now ≤ most_numbers }
+    ensures answers { Answers (faults place scope.old raw.now) (typed scope.old raw.now) result }
+    ensures scope { OnOk result (scope.new ≡ after scope.old raw.now) }
+{
+    let made = formula(alloc, scope, place, raw)?;
+    let made = Boxed::new(alloc, made)?;
+    Ok(made)
+}
+
+/// A quantifier's variable and body.
+#[cycle(formula)]
+fn quantified(
+    alloc: Global,
+    scope: &mut Scope,
+    place: Place,
+    name: &RawName,
+    sort: Sort,
+    raw: &RawFormula,
+) -> Result<Quantified, SortRefusal>
+    requires { scope.old.next + (1 + binders raw.now) ≤ most_numbers }
+    ensures answers { Answers (variable_faults scope.old name.now ++ faults place (bound scope.old name.now sort) raw.now) (record { var = next_var scope.old; body = typed (bound scope.old name.now sort) raw.now }) result }
+    ensures scope { OnOk result (scope.new ≡ record scope.old { next = scope.old.next + (1 + binders raw.now) }) }
+{
+    let var = bind(alloc, scope, name, sort)?;
+    let body = boxed(alloc, scope, place, raw)?;
+    scope.leave();
+    Ok(Quantified { var, body })
+}

@@ -1,0 +1,69 @@
+//! From trees to programs.
+ghost use Rattle.std.specs.Prelude.{◌≡◌, MatchResult};
+ghost use Rattle.csdn_tree.specs.FromText.{IsFromText};
+ghost use Rattle.csdn_types.specs.Resolved.{Types, IsRefusal};
+
+use crate::draft::{Draft, items};
+use crate::names::Names;
+use crate::numerals::all_numerals;
+use crate::refusal::SortRefusal;
+use crate::scope::Scope;
+use csdn_core::program::{Parts, Program};
+use csdn_tree::syntax::RawProgram;
+use sqlite_items::Items;
+use std::alloc::Global;
+
+impl Draft {
+    ghost use Rattle.csdn_types.specs.Resolved.{parts_of_draft, nothing_declared};
+    ghost use Rattle.std.specs.Prelude.{◌≡◌};
+
+    pub fn new(alloc: Global) -> Draft
+        ensures { result ≡ nothing_declared }
+    {
+        Draft {
+            scope: Scope::new(alloc),
+            invariants: Names::new(alloc),
+            start: Items::new(alloc),
+            topology: Items::new(alloc),
+            safety: Items::new(alloc),
+            trans: Items::new(alloc),
+            handlers: Items::new(alloc),
+        }
+    }
+
+    pub fn into_parts(self, numerals: Items<u16>) -> Parts
+        ensures { result ≡ parts_of_draft numerals self }
+    {
+        let Draft {
+            scope,
+            invariants: _,
+            start,
+            topology,
+            safety,
+            trans,
+            handlers,
+        } = self;
+        let declared = scope.into_declared();
+        Parts {
+            relations: declared.relations,
+            constants: declared.constants,
+            start,
+            topology,
+            safety,
+            trans,
+            handlers,
+            numerals,
+        }
+    }
+}
+
+/// The program that a tree stands for, or the refusal at the least place that breaks a rule.
+pub fn resolve(alloc: Global, raw: &RawProgram) -> Result<Program, SortRefusal>
+    requires { IsFromText raw.now }
+    ensures { MatchResult result (Types raw.now) (IsRefusal raw.now) }
+{
+    let mut draft = Draft::new(alloc);
+    items(alloc, &mut draft, raw.items.as_slice())?;
+    let numerals = all_numerals(alloc, raw.items.as_slice())?;
+    Ok(Program::seal(draft.into_parts(numerals)))
+}

@@ -1,0 +1,146 @@
+-- A worked example: the step condition of a program that keeps a relation of hosts to one host at most.
+--
+--   rel r(HO);
+--   safety one: forall X:HO, Y:HO. r(X) and r(Y) -> X = Y;
+--   pktIn(s, src->dst, i) { r.insert(src); }
+use Rattle.std.specs.Prelude.{ℕ, Bool, true, false, ◌==◌, if◌then◌else◌, List, [], ◌∷◌, None}
+use Rattle.csdn_core.specs.declared.terms.VarId.{VarId}
+use Rattle.csdn_core.specs.declared.terms.Sort.{Sort}
+use Rattle.csdn_core.specs.declared.terms.Sort.TheVariants.{Sw, Ho, Pr}
+use Rattle.csdn_core.specs.declared.terms.Term.{Term}
+use Rattle.csdn_core.specs.declared.terms.Term.TheVariants.{Var}
+use Rattle.csdn_core.specs.declared.terms.Pred.{Pred}
+use Rattle.csdn_core.specs.declared.terms.Pred.TheVariants.{Stored}
+use Rattle.csdn_core.specs.declared.program.Parts.{Parts}
+use Rattle.csdn_core.specs.declared.syntax.Formula.{Formula}
+use Rattle.csdn_core.specs.declared.syntax.Formula.TheVariants.{True, Atom, Same}
+use Rattle.csdn_core.specs.declared.syntax.Command.TheVariants.{Insert}
+use Rattle.csdn_core.specs.Tree.{negation, conjunction, disjunction, implication, universal}
+use Rattle.csdn_core.specs.Network.{Network}
+use Rattle.decision_laws.specs.Copies.{Fact, Tuple, Equation, Copy, Literal, Both, Either, Each}
+use Rattle.decision_laws.specs.Clauses.{Lit, yes, no}
+
+abbrev pub variable : ℕ → VarId
+variable k = record { 0 = k }
+
+abbrev pub r : Pred
+r = Stored (record { 0 = 0 })
+
+-- r(x)
+abbrev pub has : ℕ → Formula
+has x = Atom r (Var (variable x) ∷ [])
+
+abbrev pub equal : ℕ → ℕ → Formula
+equal x y = Same (Var (variable x)) (Var (variable y))
+
+-- X is 0 and Y is 1
+abbrev pub one : Formula
+one = universal (variable 0) Ho (universal (variable 1) Ho (implication (conjunction (has 0) (has 1)) (equal 0 1)))
+
+-- the same after src, which is 3, was put into r: X is 6 and Y is 7
+abbrev pub one_after : Formula
+one_after =
+    universal (variable 6) Ho (universal (variable 7) Ho
+    (implication (conjunction (disjunction (has 6) (equal 6 3)) (disjunction (has 7) (equal 7 3))) (equal 6 7)))
+
+-- for every packet: s is 2, src 3, dst 4, i 5
+abbrev pub goal : Formula
+goal = universal (variable 2) Sw (universal (variable 3) Ho (universal (variable 4) Ho (universal (variable 5) Pr one_after)))
+
+-- there is no topology invariant, so that the hypothesis begins with `true`
+abbrev pub sentence : Formula
+sentence = conjunction (conjunction True one) (negation goal)
+
+abbrev pub program : Parts
+program = record {
+  relations = record { name = []; sorts = Ho ∷ []; fixed = false } ∷ [];
+  constants = [];
+  start = [];
+  topology = [];
+  safety = record { name = []; formula = one } ∷ [];
+  trans = [];
+  handlers = record { port = None; s = variable 2; a = variable 3; b = variable 4; i = variable 5; body = Insert (record { 0 = 0 }) (Var (variable 3) ∷ []) } ∷ [];
+  numerals = [];
+}
+
+-- By hand. There are no names. The `exists` of the negated goal need one switch, four hosts (src is 0, dst 1, X 2, Y 3) and
+-- one port.
+abbrev pub example_counts : Sort → ℕ
+example_counts Sw = 1
+example_counts Ho = 4
+example_counts Pr = 1
+
+-- r of a host, and that two hosts are equal
+abbrev pub r_of : ℕ → Fact
+r_of a = Tuple r (a ∷ [])
+
+abbrev pub hosts_equal : ℕ → ℕ → Fact
+hosts_equal a b = Equation Ho a b
+
+-- The hypothesis for each X and each Y, and the negated goal: X and Y have r or are src, and differ.
+abbrev pub example_copies : Copy
+example_copies =
+    Both
+    (Each 4 (λ a. Each 4 (λ b. Either (Either (Literal false (r_of a)) (Literal false (r_of b))) (Literal true (hosts_equal a b)))))
+    (Both
+    (Both (Either (Literal true (r_of 2)) (Literal true (hosts_equal 2 0))) (Either (Literal true (r_of 3)) (Literal true (hosts_equal 3 0))))
+    (Literal false (hosts_equal 2 3)))
+
+-- Numbers: 0 for the one switch equal to itself; for hosts a up to b, a = b has 1 + 4 * b + a; 17 for the one port; r(a) has
+-- 18 + a. The 42 nodes have 22 to 63: 22 is the whole, 23 the hypothesis, 24, 33, 42 and 51 its copies for each X, each
+-- with two nodes for each Y; 60 is the negated goal, 61 its left side, with 62 and 63.
+abbrev pub example_first : ℕ
+example_first = 22
+
+abbrev pub example_node_clauses : List (List Lit)
+example_node_clauses =
+    (no 26 ∷ no 18 ∷ []) ∷ (no 25 ∷ yes 26 ∷ yes 1 ∷ []) ∷ (no 24 ∷ yes 25 ∷ []) ∷ (no 28 ∷ no 18 ∷ no 19 ∷ []) ∷
+    (no 27 ∷ yes 28 ∷ yes 5 ∷ []) ∷ (no 24 ∷ yes 27 ∷ []) ∷ (no 30 ∷ no 18 ∷ no 20 ∷ []) ∷
+    (no 29 ∷ yes 30 ∷ yes 9 ∷ []) ∷ (no 24 ∷ yes 29 ∷ []) ∷ (no 32 ∷ no 18 ∷ no 21 ∷ []) ∷
+    (no 31 ∷ yes 32 ∷ yes 13 ∷ []) ∷ (no 24 ∷ yes 31 ∷ []) ∷ (no 23 ∷ yes 24 ∷ []) ∷
+    (no 35 ∷ no 19 ∷ no 18 ∷ []) ∷ (no 34 ∷ yes 35 ∷ yes 5 ∷ []) ∷ (no 33 ∷ yes 34 ∷ []) ∷ (no 37 ∷ no 19 ∷ []) ∷
+    (no 36 ∷ yes 37 ∷ yes 6 ∷ []) ∷ (no 33 ∷ yes 36 ∷ []) ∷ (no 39 ∷ no 19 ∷ no 20 ∷ []) ∷
+    (no 38 ∷ yes 39 ∷ yes 10 ∷ []) ∷ (no 33 ∷ yes 38 ∷ []) ∷ (no 41 ∷ no 19 ∷ no 21 ∷ []) ∷
+    (no 40 ∷ yes 41 ∷ yes 14 ∷ []) ∷ (no 33 ∷ yes 40 ∷ []) ∷ (no 23 ∷ yes 33 ∷ []) ∷
+    (no 44 ∷ no 20 ∷ no 18 ∷ []) ∷ (no 43 ∷ yes 44 ∷ yes 9 ∷ []) ∷ (no 42 ∷ yes 43 ∷ []) ∷
+    (no 46 ∷ no 20 ∷ no 19 ∷ []) ∷ (no 45 ∷ yes 46 ∷ yes 10 ∷ []) ∷ (no 42 ∷ yes 45 ∷ []) ∷
+    (no 48 ∷ no 20 ∷ []) ∷ (no 47 ∷ yes 48 ∷ yes 11 ∷ []) ∷ (no 42 ∷ yes 47 ∷ []) ∷
+    (no 50 ∷ no 20 ∷ no 21 ∷ []) ∷ (no 49 ∷ yes 50 ∷ yes 15 ∷ []) ∷ (no 42 ∷ yes 49 ∷ []) ∷
+    (no 23 ∷ yes 42 ∷ []) ∷ (no 53 ∷ no 21 ∷ no 18 ∷ []) ∷ (no 52 ∷ yes 53 ∷ yes 13 ∷ []) ∷
+    (no 51 ∷ yes 52 ∷ []) ∷ (no 55 ∷ no 21 ∷ no 19 ∷ []) ∷ (no 54 ∷ yes 55 ∷ yes 14 ∷ []) ∷
+    (no 51 ∷ yes 54 ∷ []) ∷ (no 57 ∷ no 21 ∷ no 20 ∷ []) ∷ (no 56 ∷ yes 57 ∷ yes 15 ∷ []) ∷
+    (no 51 ∷ yes 56 ∷ []) ∷ (no 59 ∷ no 21 ∷ []) ∷ (no 58 ∷ yes 59 ∷ yes 16 ∷ []) ∷ (no 51 ∷ yes 58 ∷ []) ∷
+    (no 23 ∷ yes 51 ∷ []) ∷ (no 22 ∷ yes 23 ∷ []) ∷ (no 62 ∷ yes 20 ∷ yes 9 ∷ []) ∷ (no 61 ∷ yes 62 ∷ []) ∷
+    (no 63 ∷ yes 21 ∷ yes 13 ∷ []) ∷ (no 61 ∷ yes 63 ∷ []) ∷ (no 60 ∷ yes 61 ∷ []) ∷ (no 60 ∷ no 15 ∷ []) ∷
+    (no 22 ∷ yes 60 ∷ []) ∷ (yes 22 ∷ []) ∷ []
+
+-- each constant is itself; equality of hosts is transitive; equal hosts replace each other in r
+abbrev pub example_equality_clauses : List (List Lit)
+example_equality_clauses =
+    (yes 0 ∷ []) ∷ (yes 1 ∷ []) ∷ (yes 6 ∷ []) ∷ (yes 11 ∷ []) ∷ (yes 16 ∷ []) ∷ (no 5 ∷ no 10 ∷ yes 9 ∷ []) ∷
+    (no 5 ∷ no 14 ∷ yes 13 ∷ []) ∷ (no 9 ∷ no 10 ∷ yes 5 ∷ []) ∷ (no 9 ∷ no 15 ∷ yes 13 ∷ []) ∷
+    (no 13 ∷ no 14 ∷ yes 5 ∷ []) ∷ (no 13 ∷ no 15 ∷ yes 9 ∷ []) ∷ (no 5 ∷ no 9 ∷ yes 10 ∷ []) ∷
+    (no 5 ∷ no 13 ∷ yes 14 ∷ []) ∷ (no 10 ∷ no 15 ∷ yes 14 ∷ []) ∷ (no 14 ∷ no 15 ∷ yes 10 ∷ []) ∷
+    (no 9 ∷ no 13 ∷ yes 15 ∷ []) ∷ (no 10 ∷ no 14 ∷ yes 15 ∷ []) ∷ (yes 17 ∷ []) ∷ (no 5 ∷ no 18 ∷ yes 19 ∷ []) ∷
+    (no 9 ∷ no 18 ∷ yes 20 ∷ []) ∷ (no 13 ∷ no 18 ∷ yes 21 ∷ []) ∷ (no 5 ∷ no 19 ∷ yes 18 ∷ []) ∷
+    (no 10 ∷ no 19 ∷ yes 20 ∷ []) ∷ (no 14 ∷ no 19 ∷ yes 21 ∷ []) ∷ (no 9 ∷ no 20 ∷ yes 18 ∷ []) ∷
+    (no 10 ∷ no 20 ∷ yes 19 ∷ []) ∷ (no 15 ∷ no 20 ∷ yes 21 ∷ []) ∷ (no 13 ∷ no 21 ∷ yes 18 ∷ []) ∷
+    (no 14 ∷ no 21 ∷ yes 19 ∷ []) ∷ (no 15 ∷ no 21 ∷ yes 20 ∷ []) ∷ []
+
+-- A judgement in which src, dst and Y are one host and X is another, which alone has r.
+abbrev pub host_of : ℕ → ℕ
+host_of a = if a == 2 then 2 else 1
+
+abbrev pub example_meaning : Sort → ℕ → ℕ
+example_meaning Sw a = 1
+example_meaning Ho a = host_of a
+example_meaning Pr a = 1
+
+abbrev pub example_judgement : Fact → Bool
+example_judgement (Tuple q []) = false
+example_judgement (Tuple q (a ∷ as')) = host_of a == 2
+example_judgement (Equation s a b) = example_meaning s a == example_meaning s b
+
+-- its network, in whose state r holds of host 2 alone
+abbrev pub example_network : Network
+example_network = record { switches = 1 ∷ []; hosts = 1 ∷ 2 ∷ []; ports = 1 ∷ []; constants = []; rows = [] }

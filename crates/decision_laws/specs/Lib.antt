@@ -1,0 +1,13 @@
+pub mod Forms
+pub mod Vocabulary
+pub mod Copies
+pub mod Classes
+pub mod Clauses
+pub mod Tied
+pub mod Numbers
+pub mod Sublists
+pub mod Laws
+pub mod Example
+pub mod Trees
+pub mod Leaves
+pub mod Walk

@@ -1,0 +1,22 @@
+-- Clauses of a finite list that are there already, and how many are left.
+use Rattle.std.specs.Prelude.{◌≡◌, ℕ, ◌-◌, Bool, false, List, [], ◌∷◌, length, IsFalse}
+use Rattle.decision_laws.specs.Vocabulary.{IsIn}
+use Rattle.decision_laws.specs.Clauses.{Lit, clause_true}
+
+abbrev pub AreDistinct : {X : Type 0} → List X → Type 0
+AreDistinct [] = Unit {0}
+AreDistinct (x ∷ xs) = (IsIn x xs → ⊥) × AreDistinct xs
+
+-- different clauses, each of the list
+pub record ArePart (whole cs : List (List Lit)) : Type 0 where
+  pub distinct : AreDistinct cs
+  pub within : (c : List Lit) → IsIn c cs → IsIn c whole
+
+-- how many clauses of the list are not there yet
+abbrev pub left_of : List (List Lit) → List (List Lit) → ℕ
+left_of whole cs = length whole - length cs
+
+-- different clauses of the list that this valuation breaks
+pub record AreBroken (whole : List (List Lit)) (v : ℕ → Bool) (new : List (List Lit)) : Type 0 where
+  pub part : ArePart whole new
+  pub broken : (c : List Lit) → IsIn c new → IsFalse (clause_true v c)

@@ -1,0 +1,10 @@
+//! Lists what a stream of OpenFlow 1.0 holds: a line for each message, and one for what is left.
+#![tactic(auto)]
+
+mod lines;
+mod listing;
+
+pub use listing::{Listing, list};
+
+#[cfg(test)]
+mod tests;
