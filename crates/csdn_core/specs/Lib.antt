@@ -11,3 +11,5 @@ pub mod Variables
 pub mod Names
 pub mod Sorted
 pub mod WellSorted
+pub mod History
+pub mod Finite
