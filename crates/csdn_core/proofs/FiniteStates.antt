@@ -1,8 +1,7 @@
 -- Every state that a run reaches has finitely many tuples.
-use Rattle.std.proofs.Common.{◌≡◌, ◌∙◌, ap, sym, subst, refl, ℕ, ◌==◌, Bool, true, false, not, ◌&&◌, ◌||◌, List, [], ◌∷◌, map, inl, inr, arith, if◌then◌else◌, Option, Some, None}
+use Rattle.std.proofs.Common.{◌≡◌, ◌∙◌, ap, sym, subst, refl, ℕ, ◌==◌, Bool, true, false, not, ◌&&◌, ◌||◌, List, [], ◌∷◌, inl, inr, arith, if◌then◌else◌, Option, Some, None}
 use Rattle.std.specs.List.{list_any}
 use Rattle.csdn_core.specs.declared.terms.RelId.{RelId}
-use Rattle.csdn_core.specs.declared.terms.Term.{Term}
 use Rattle.csdn_core.specs.declared.terms.Pred.{Pred}
 use Rattle.csdn_core.specs.declared.terms.Pred.TheVariants.{Stored, Ft, Sent, RcvThis}
 use Rattle.csdn_core.specs.declared.terms.Sort.TheVariants.{Pr}
@@ -28,12 +27,12 @@ equal m n h = grind arith
 
 ==-sym : (m n : ℕ) → (m == n) ≡ (n == m)
 ==-sym m n = elim (m == n) as (λ b. (m == n) ≡ b → b ≡ (n == m)) [
-    | true ↦ λ h. let is : m ≡ n = equal m n h in let Q : ℕ → Type 0 = λ k. true ≡ (k == m) in subst Q is (subst (λ (k : ℕ). true ≡ (m == k)) (sym is) (sym h))
-    | false ↦ λ h. elim (n == m) as (λ b. (n == m) ≡ b → false ≡ b) [
-        | true ↦ λ back. let is : n ≡ m = equal n m back in absurd (let apart : (m == n) ≡ false = h in let Q : ℕ → Type 0 = λ k. (k == n) ≡ false in let same : (n == n) ≡ false = subst Q (sym is) apart in grind arith)
-        | false ↦ λ back. refl
-      ] refl
+  | true ↦ λ h. let is : m ≡ n = equal m n h in let Q : ℕ → Type 0 = λ k. true ≡ (k == m) in subst Q is (subst (λ (k : ℕ). true ≡ (m == k)) (sym is) (sym h))
+  | false ↦ λ h. elim (n == m) as (λ b. (n == m) ≡ b → false ≡ b) [
+    | true ↦ λ back. let is : n ≡ m = equal n m back in absurd (let apart : (m == n) ≡ false = h in let Q : ℕ → Type 0 = λ k. (k == n) ≡ false in let same : (n == n) ≡ false = subst Q (sym is) apart in grind arith)
+    | false ↦ λ back. refl
   ] refl
+] refl
 
 both : (a b : Bool) → (a && b) ≡ true → (a ≡ true) × (b ≡ true)
 both true b is = (refl, is)

@@ -1,12 +1,12 @@
 -- A run is what lies between the first and the last state of a history.
-use Rattle.std.proofs.Common.{◌≡◌, ◌↔◌, ◌∙◌, ap, ℕ, zero, suc, ◌<◌, List, [], ◌∷◌, ◌++◌, length, take, Option, Some, None, get_or, refl, sym, subst, arith, length-append}
+use Rattle.std.proofs.Common.{◌≡◌, ◌↔◌, ◌∙◌, ap, ℕ, zero, suc, ◌<◌, List, [], ◌∷◌, ◌++◌, length, take, Some, None, get_or, refl, sym, subst, arith}
 use Rattle.std.specs.Prelude.{slice_get}
 use Rattle.std.proofs.lemmas.Option.{slice_get_within, slice_get-get_or}
 use Rattle.csdn_core.specs.declared.event.Event.{Event}
 use Rattle.csdn_core.specs.declared.program.Parts.{Parts}
 use Rattle.csdn_core.specs.Network.{Network, State}
 use Rattle.csdn_core.specs.Run.{initial, Step, Run}
-use Rattle.csdn_core.specs.Holds.{IsTopology, HoldsIn, Holds}
+use Rattle.csdn_core.specs.Holds.{HoldsIn, Holds}
 use Rattle.csdn_core.specs.History.{IsHistory, HoldsInHistories, HoldsInAllHistories}
 
 none_is : {X : Type 0} (x : X) → None ≡ Some x → ⊥
