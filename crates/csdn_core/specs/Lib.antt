@@ -13,3 +13,4 @@ pub mod Sorted
 pub mod WellSorted
 pub mod History
 pub mod Finite
+pub mod Agreement
