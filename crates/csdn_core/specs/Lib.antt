@@ -12,3 +12,6 @@ pub mod Names
 pub mod Numerals
 pub mod Sorted
 pub mod WellSorted
+pub mod History
+pub mod Finite
+pub mod Agreement

@@ -6,5 +6,6 @@ pub mod event;
 pub mod laws;
 pub mod names;
 pub mod program;
+pub mod run_laws;
 pub mod syntax;
 pub mod terms;

@@ -1,5 +1,5 @@
 -- A program of the first form keeps an invariant exactly where every row of the table does.
-use Rattle.std.proofs.Common.{◌≡◌, ℕ, ◌<◌, ◌≤◌, Bool, true, false, List, [], ◌∷◌, length, Option, Some, None, IsTrue, sym, ◌∙◌, ap, refl, subst, arith, replicate, All, if◌then◌else◌, ◌||◌, ◌≢◌, Contains, AllPairs, rules}
+use Rattle.std.proofs.Common.{◌≡◌, ℕ, ◌≤◌, Bool, true, false, List, [], ◌∷◌, length, Option, Some, None, IsTrue, sym, ◌∙◌, ap, refl, subst, arith, replicate, All, if◌then◌else◌, ◌||◌, ◌≢◌, Contains, AllPairs, rules}
 use Rattle.std.specs.Prelude.{slice_get}
 use Rattle.std.proofs.lemmas.List.Elements.{All-head, All-nil}
 use Rattle.csdn_core.specs.declared.terms.Sort.{Sort}
@@ -121,7 +121,7 @@ module _ (P : Parts) (form : IsFirstForm P) where
   inductive initially each = λ N top. record {
     initially = safe_now N (initial P N) (starts_safe N initially);
     safety = step_safe each N top;
-    trans = λ x event y safe step. let Q : List Invariant → Type 0 = λ vs. AllTrue P N y (packet_of event) vs in subst Q (sym form.nothing_else.transitions) (All-nil _);
+    trans = λ x event y safe step. let Q : List Invariant → Type 0 = λ vs. AllTrue P N y (packet_of event) vs in subst Q (sym form.nothing_else.transitions) (All-nil (λ (v : Invariant). IsTrue (truth (structure P N y (packet_of event)) v.formula no_values)));
   }
 
   pub one_meets : IsTopology P one_each

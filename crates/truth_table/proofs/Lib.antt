@@ -4,3 +4,4 @@ pub mod Places
 pub mod Seen
 pub mod Decided
 pub mod Verdicts
+pub mod Numbers

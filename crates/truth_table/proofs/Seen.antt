@@ -74,7 +74,6 @@ pub both : (a b : Bool) → (a && b) ≡ true → (a ≡ true) × (b ≡ true)
 both true b is = (refl, is)
 both false b is = absurd (cc)
 
-
 -- the invariant is true in the state
 abbrev pub IsTrueOne : Parts → Network → State → Invariant → Type 0
 IsTrueOne P N x v = IsTrue (truth (structure P N x Nothing) v.formula no_values)

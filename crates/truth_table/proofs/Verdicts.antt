@@ -1,26 +1,24 @@
 -- From the table to the verdict.
-use Rattle.std.proofs.Common.{◌≡◌, ℕ, suc, ◌+◌, ◌-◌, ◌*◌, ◌<◌, ◌≤◌, Bool, true, false, ◌&&◌, List, [], ◌∷◌, ◌++◌, length, take, drop, IsTrue, All, sym, ◌∙◌, refl, subst, arith, append_assoc, get_or, ◌⊎◌, inl, inr, replicate, ap, nat_lt, Option, Some, None}
+use Rattle.std.proofs.Common.{◌≡◌, ℕ, ◌+◌, ◌-◌, ◌<◌, ◌≤◌, Bool, true, false, List, [], ◌∷◌, ◌++◌, length, take, drop, IsTrue, All, sym, ◌∙◌, refl, subst, arith, append_assoc, get_or, ◌⊎◌, inl, inr, replicate, ap, Some}
 use Rattle.std.specs.Prelude.{slice_get, slice_set}
 use Rattle.std.specs.Cmp.Derive.{both_true}
-use Rattle.std.proofs.lemmas.Bool.Decides.{nat_tests}
-use Rattle.std.proofs.lemmas.Option.{slice_get_past, slice_get_within, get_or_from_slice_get}
+use Rattle.std.proofs.lemmas.Option.{slice_get_within, get_or_from_slice_get}
 use Rattle.std.proofs.lemmas.List.{append-nil, take-take, take-set, take_at, take_more_set, length-set}
 use Rattle.std.proofs.lemmas.List.Elements.{All-head, All-tail, All-cons, All-nil}
 use Rattle.csdn_core.specs.declared.event.Event.TheVariants.{PktIn, PktFlow}
 use Rattle.csdn_core.specs.declared.program.Parts.{Parts}
 use Rattle.csdn_core.specs.declared.program.Invariant.{Invariant}
 use Rattle.csdn_core.specs.declared.syntax.Formula.{Formula}
-use Rattle.csdn_core.specs.Network.{Network, State}
 use Rattle.csdn_core.specs.Run.{initial}
-use Rattle.csdn_core.specs.Holds.{IsInductive, IsTopology}
-use Rattle.truth_table.specs.Valuation.{truth_at, values_handled, all_true_at}
+use Rattle.csdn_core.specs.Holds.{IsInductive}
+use Rattle.truth_table.specs.Valuation.{truth_at, all_true_at}
 use Rattle.truth_table.specs.FirstForm.{IsFirstForm}
-use Rattle.truth_table.specs.Table.{IsKeptAt, IsBrokenAt, NoneBroken, TrueBefore, IsFirstFalse, IsKeptByTable, IsFirstBroken}
-use Rattle.truth_table.specs.Condition.{Condition, network, init, step_in, step_flow, number_of, IsTrueIn, IsFalseIn, IsMet, EarlierMet}
+use Rattle.truth_table.specs.Table.{IsKeptAt, NoneBroken, TrueBefore, IsFirstFalse, IsKeptByTable, IsFirstBroken}
+use Rattle.truth_table.specs.Condition.{network, init, step_in, step_flow, IsFalseIn, EarlierMet}
 use Rattle.truth_table.specs.Decision.{IsFalseAtStart, IsFalseAfter, IsBrokenFrom, one_each, state_of}
 use Rattle.truth_table.proofs.Places.{if_some, all_places, all_at}
 use Rattle.truth_table.proofs.Seen.{both, below_or_last}
-use Rattle.truth_table.proofs.Decided.{IsKept, StartsTrue, kept, one_meets, false_at_start, true_at_start, starts_safe, broken_from, not_inductive_at_start, not_inductive_after, inductive}
+use Rattle.truth_table.proofs.Decided.{IsKept, StartsTrue, kept, one_meets, false_at_start, true_at_start, broken_from, not_inductive_at_start, not_inductive_after, inductive}
 
 pub TrueBefore-more : (invariants : List Invariant) (values : List Bool) (v : ℕ) (i : Invariant) → i ≡ get_or invariants v i → truth_at values i.formula ≡ true → TrueBefore invariants values v → TrueBefore invariants values (v + 1)
 TrueBefore-more invariants values v i is holds before = λ w lt j there. by_case w j there (below_or_last w v (omega arith))
@@ -41,7 +39,7 @@ all_from (v ∷ vs) values all = both_true (All-head (HoldsOf values) v vs all) 
 pub all_before : (invariants : List Invariant) (values : List Bool) (n : ℕ) → length invariants ≡ n → TrueBefore invariants values n → all_true_at invariants values ≡ true
 all_before invariants values n is before =
     all_from invariants values (all_places (HoldsOf values) invariants (λ k. if_some (HoldsOf values) (slice_get invariants k) (λ i there.
-      let lt : k < length invariants = slice_get_within invariants k i there in before k (omega arith) i there)))
+    let lt : k < length invariants = slice_get_within invariants k i there in before k (omega arith) i there)))
 
 all_to : (invariants : List Invariant) (values : List Bool) → all_true_at invariants values ≡ true → All (HoldsOf values) invariants
 all_to [] values is = All-nil (HoldsOf values)
@@ -107,6 +105,7 @@ at_start P form v first = (not_inductive_at_start P form v broken, record { is_n
   where
     broken : IsFalseIn P one_each (initial P one_each) v
     broken = false_at_start P form v first.invariant first.there first.is_false
+
     earlier : EarlierMet P (length P.safety) (init v)
     earlier network lt = (one_each, one_meets P form)
     earlier (init w) lt = λ N top. true_at_start P form N w (first.before w (omega arith))
@@ -128,8 +127,10 @@ after_case P form v values initially first len =
   where
     broken : IsBrokenFrom P (state_of values) v
     broken = broken_from P form v values first.invariant len first.there first.row
+
     before : (w : ℕ) → w < v → IsKept P w
     before w lt = kept P form w (first.before w lt)
+
     earlier : EarlierMet P (length P.safety) (step_in v)
     earlier network lt = (one_each, one_meets P form)
     earlier (init w) lt = λ N top. true_at_start P form N w (all_at_start P initially w)

@@ -1,5 +1,5 @@
 -- The conditions of level 0, and which of them is the first that is broken.
-use Rattle.std.specs.Prelude.{◌≡◌, ℕ, ◌+◌, ◌*◌, ◌<◌, slice_get, Some, IsTrue, IsFalse, IfSome}
+use Rattle.std.specs.Prelude.{◌≡◌, ℕ, zero, suc, ◌+◌, ◌*◌, ◌<◌, List, [], ◌∷◌, ◌++◌, slice_get, Some, IsTrue, IsFalse, IfSome}
 use Rattle.csdn_core.specs.declared.event.Event.TheVariants.{PktIn, PktFlow}
 use Rattle.csdn_core.specs.declared.event.Packet.TheVariants.{Nothing}
 use Rattle.csdn_core.specs.declared.program.Parts.{Parts}
@@ -27,6 +27,20 @@ number_of count network = 0
 number_of count (init v) = 1 + v
 number_of count (step_in v) = 1 + count + 2 * v
 number_of count (step_flow v) = 2 + count + 2 * v
+
+-- `init 0` of so many invariants from this one on
+abbrev pub inits : ℕ → ℕ → List Condition
+inits v zero = []
+inits v (suc n) = init v ∷ inits (v + 1) n
+
+-- both kinds of `step` of so many invariants from this one on
+abbrev pub steps : ℕ → ℕ → List Condition
+steps v zero = []
+steps v (suc n) = step_in v ∷ step_flow v ∷ steps (v + 1) n
+
+-- the conditions of a program with so many safety invariants, in their order
+abbrev pub conditions : ℕ → List Condition
+conditions count = network ∷ (inits 0 count ++ steps 0 count)
 
 module _ (P : Parts) where
   -- the safety invariant of this number is true in a state; there is none past the last

@@ -8,7 +8,7 @@ use Rattle.csdn_core.specs.Holds.{IsTopology, IsSafe, IsInductive}
 use Rattle.truth_table.specs.declared.decide.Verdict.{Verdict}
 use Rattle.truth_table.specs.declared.decide.Verdict.TheVariants.{Kept, FalseAtStart, FalseAfter}
 use Rattle.truth_table.specs.Valuation.{atom_value}
-use Rattle.truth_table.specs.Condition.{Condition, network, init, step_in, EarlierMet, IsFalseIn}
+use Rattle.truth_table.specs.Condition.{Condition, init, step_in, EarlierMet, IsFalseIn}
 
 -- one switch, one host and one port, each the number 1
 abbrev pub one_each : Network

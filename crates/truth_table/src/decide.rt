@@ -6,11 +6,10 @@ ghost use Rattle.truth_table.specs.Decision.{IsRight, IsWithin, condition_of};
 ghost use Rattle.truth_table.specs.Valuation.{all_true_at};
 ghost use Rattle.truth_table.specs.Table.{IsKeptAt, IsBrokenAt, NoneBroken, IsFirstFalse, IsKeptByTable, IsFirstBroken};
 
-use std::alloc::{AllocError, Global};
-
 use crate::valuation::{all_true, handle, truth};
 use csdn_core::program::{Invariant, Parts};
 use csdn_core::syntax::Formula;
+use std::alloc::{AllocError, Global};
 
 /// What is decided of a program. Safety invariants go by their number, from 0 in the order of the text.
 #[derive(Debug, PartialEq, Eq, Drop)]

@@ -152,7 +152,11 @@ pub fn is_first_form(parts: &Parts) -> bool
     let count = parts.relations.len();
     has_limits(parts)
         && has_nothing_else(parts)
-        && parts.relations.as_slice().iter().all(is_propositional_relation)
+        && parts
+            .relations
+            .as_slice()
+            .iter()
+            .all(is_propositional_relation)
         && parts
             .safety
             .as_slice()

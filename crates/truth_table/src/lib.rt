@@ -7,5 +7,7 @@
 
 pub mod decide;
 pub mod form;
-
+pub mod laws;
+#[cfg(test)]
+mod tests;
 mod valuation;

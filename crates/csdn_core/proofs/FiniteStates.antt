@@ -1,0 +1,274 @@
+-- Every state that a run reaches has finitely many tuples.
+use Rattle.std.proofs.Common.{◌≡◌, ◌∙◌, ap, sym, subst, refl, ℕ, ◌==◌, Bool, true, false, not, ◌&&◌, ◌||◌, List, [], ◌∷◌, inl, inr, arith, if◌then◌else◌, Option, Some, None}
+use Rattle.std.specs.List.{list_any}
+use Rattle.csdn_core.specs.declared.terms.RelId.{RelId}
+use Rattle.csdn_core.specs.declared.terms.Pred.{Pred}
+use Rattle.csdn_core.specs.declared.terms.Pred.TheVariants.{Stored, Ft, Sent, RcvThis}
+use Rattle.csdn_core.specs.declared.terms.Sort.TheVariants.{Pr}
+use Rattle.csdn_core.specs.declared.event.Event.{Event}
+use Rattle.csdn_core.specs.declared.event.Event.TheVariants.{PktIn, PktFlow}
+use Rattle.csdn_core.specs.declared.event.Packet.TheVariants.{Nothing}
+use Rattle.csdn_core.specs.declared.program.Parts.{Parts}
+use Rattle.csdn_core.specs.declared.program.Handler.{Handler}
+use Rattle.csdn_core.specs.declared.program.StartRow.{StartRow}
+use Rattle.csdn_core.specs.declared.syntax.Command.{Command}
+use Rattle.csdn_core.specs.declared.syntax.Command.TheVariants.{Skip, Insert, Remove, Install, Forward, Flood}
+use Rattle.csdn_core.specs.Tree.{sequence, conditional, choice}
+use Rattle.csdn_core.specs.Truth.{Assignment, with_var, values}
+use Rattle.csdn_core.specs.Network.{Network, State, elements, structure, same_pred, same_cells}
+use Rattle.csdn_core.specs.Execution.{put, take_out, flooded, is_flood, tuple, Executes}
+use Rattle.csdn_core.specs.Run.{empty_state, no_values, initial, first_fit, for_packet, Handles, Step, Run}
+use Rattle.csdn_core.specs.Finite.{Tuple, state_of_tuples, IsFinite}
+
+-- equal numbers
+
+equal : (m n : ℕ) → (m == n) ≡ true → m ≡ n
+equal m n h = grind arith
+
+==-sym : (m n : ℕ) → (m == n) ≡ (n == m)
+==-sym m n = elim (m == n) as (λ b. (m == n) ≡ b → b ≡ (n == m)) [
+  | true ↦ λ h. let is : m ≡ n = equal m n h in let Q : ℕ → Type 0 = λ k. true ≡ (k == m) in subst Q is (subst (λ (k : ℕ). true ≡ (m == k)) (sym is) (sym h))
+  | false ↦ λ h. elim (n == m) as (λ b. (n == m) ≡ b → false ≡ b) [
+    | true ↦ λ back. let is : n ≡ m = equal n m back in absurd (let apart : (m == n) ≡ false = h in let Q : ℕ → Type 0 = λ k. (k == n) ≡ false in let same : (n == n) ≡ false = subst Q (sym is) apart in grind arith)
+    | false ↦ λ back. refl
+  ] refl
+] refl
+
+both : (a b : Bool) → (a && b) ≡ true → (a ≡ true) × (b ≡ true)
+both true b is = (refl, is)
+both false b is = absurd (cc)
+
+same_cells-sym : (ms ns : List ℕ) → same_cells ms ns ≡ same_cells ns ms
+same_cells-sym [] [] = refl
+same_cells-sym [] (n ∷ ns) = refl
+same_cells-sym (m ∷ ms) [] = refl
+same_cells-sym (m ∷ ms) (n ∷ ns) = rw (==-sym m n, same_cells-sym ms ns)
+
+cells_equal : (ms ns : List ℕ) → same_cells ms ns ≡ true → ms ≡ ns
+cells_equal [] [] is = refl
+cells_equal [] (n ∷ ns) is = absurd (cc)
+cells_equal (m ∷ ms) [] is = absurd (cc)
+cells_equal (m ∷ ms) (n ∷ ns) is =
+    let parts : ((m == n) ≡ true) × (same_cells ms ns ≡ true) = both _ _ is in
+    let head : m ≡ n = equal m n parts.0 in
+    let tail : ms ≡ ns = cells_equal ms ns parts.1 in
+    cc
+
+stored_equal : (r q : RelId) → r.0 ≡ q.0 → Stored r ≡ Stored q
+stored_equal r q is = ap (λ (n : ℕ). Stored (record { 0 = n })) is
+
+pred_equal : (r q : Pred) → same_pred r q ≡ true → r ≡ q
+pred_equal (Stored r) (Stored q) is = stored_equal r q (equal r.0 q.0 is)
+pred_equal (Stored r) Ft is = absurd (cc)
+pred_equal (Stored r) Sent is = absurd (cc)
+pred_equal (Stored r) RcvThis is = absurd (cc)
+pred_equal Ft (Stored q) is = absurd (cc)
+pred_equal Ft Ft is = refl
+pred_equal Ft Sent is = absurd (cc)
+pred_equal Ft RcvThis is = absurd (cc)
+pred_equal Sent (Stored q) is = absurd (cc)
+pred_equal Sent Ft is = absurd (cc)
+pred_equal Sent Sent is = refl
+pred_equal Sent RcvThis is = absurd (cc)
+pred_equal RcvThis (Stored q) is = absurd (cc)
+pred_equal RcvThis Ft is = absurd (cc)
+pred_equal RcvThis Sent is = absurd (cc)
+pred_equal RcvThis RcvThis is = refl
+
+or_swapped : (a b : Bool) → (a || b) ≡ (b || a)
+or_swapped true true = refl
+or_swapped true false = refl
+or_swapped false true = refl
+or_swapped false false = refl
+
+or_false : (a : Bool) → (a || false) ≡ a
+or_false true = refl
+or_false false = refl
+
+-- one tuple more
+
+pub IsFinite-put : (x : State) (r : Pred) (cells : List ℕ) → IsFinite x → IsFinite (put x r cells)
+IsFinite-put x r cells finite = record {
+  tuples = record { rel = r; cells = cells } ∷ finite.tuples;
+  same = λ q ds. rw (finite.same q ds) (or_swapped (state_of_tuples finite.tuples q ds) (same_pred q r && same_cells ds cells));
+}
+
+-- one tuple fewer
+
+abbrev is_it : Pred → List ℕ → Pred → List ℕ → Bool
+is_it r cells q ds = same_pred q r && same_cells ds cells
+
+without : Pred → List ℕ → List Tuple → List Tuple
+without r cells [] = []
+without r cells (t ∷ ts) = if is_it r cells t.rel t.cells then without r cells ts else (t ∷ without r cells ts)
+
+is_it-same : (r q p : Pred) (cells ds es : List ℕ) → (same_pred q p && same_cells ds es) ≡ true → is_it r cells q ds ≡ is_it r cells p es
+is_it-same r q p cells ds es is =
+    let parts : (same_pred q p ≡ true) × (same_cells ds es ≡ true) = both _ _ is in
+    let rel : q ≡ p = pred_equal q p parts.0 in
+    let row : ds ≡ es = cells_equal ds es parts.1 in
+    let A : Pred → Type 0 = λ a. is_it r cells q ds ≡ is_it r cells a ds in
+    let B : List ℕ → Type 0 = λ b. is_it r cells q ds ≡ is_it r cells p b in
+    subst B row (subst A rel refl)
+
+dropped : (here hit mine rest : Bool) (left : Bool) → (here ≡ true → hit ≡ mine) → (rest && not hit) ≡ left → ((here || rest) && not hit) ≡ (if mine then left else (here || left))
+dropped true true true true left same is = is
+dropped true true true false left same is = is
+dropped true true false rest left same is = absurd (let h : true ≡ false = same refl in cc)
+dropped true false true rest left same is = absurd (let h : false ≡ true = same refl in cc)
+dropped true false false rest left same is = refl
+dropped false hit true rest left same is = is
+dropped false hit false rest left same is = is
+
+without-among : (r : Pred) (cells : List ℕ) (ts : List Tuple) (q : Pred) (ds : List ℕ) → (state_of_tuples ts q ds && not (is_it r cells q ds)) ≡ state_of_tuples (without r cells ts) q ds
+unfolding without
+without-among r cells [] q ds = refl
+without-among r cells (t ∷ ts) q ds =
+    dropped (same_pred q t.rel && same_cells ds t.cells) (is_it r cells q ds) (is_it r cells t.rel t.cells) (state_of_tuples ts q ds) (state_of_tuples (without r cells ts) q ds)
+    (is_it-same r q t.rel cells ds t.cells) (without-among r cells ts q ds)
+    ∙ chosen (is_it r cells t.rel t.cells) t (without r cells ts) q ds
+  where
+    chosen : (b : Bool) (t : Tuple) (us : List Tuple) (q : Pred) (ds : List ℕ)
+        → (if b then state_of_tuples us q ds else ((same_pred q t.rel && same_cells ds t.cells) || state_of_tuples us q ds)) ≡ state_of_tuples (if b then us else (t ∷ us)) q ds
+    chosen true t us q ds = refl
+    chosen false t us q ds = refl
+
+pub IsFinite-take_out : (x : State) (r : Pred) (cells : List ℕ) → IsFinite x → IsFinite (take_out x r cells)
+IsFinite-take_out x r cells finite = record {
+  tuples = without r cells finite.tuples;
+  same = λ q ds. rw (finite.same q ds) (without-among r cells finite.tuples q ds);
+}
+
+-- a flood
+
+with_all : List Tuple → List Tuple → List Tuple
+with_all [] ts = ts
+with_all (u ∷ us) ts = u ∷ with_all us ts
+
+or_grouped : (a b c : Bool) → ((a || b) || c) ≡ (a || (b || c))
+or_grouped true b c = refl
+or_grouped false b c = refl
+
+with_all-among : (us ts : List Tuple) (q : Pred) (ds : List ℕ) → state_of_tuples (with_all us ts) q ds ≡ (state_of_tuples us q ds || state_of_tuples ts q ds)
+unfolding with_all
+with_all-among [] ts q ds = refl
+with_all-among (u ∷ us) ts q ds = rw (with_all-among us ts q ds) (sym (or_grouped (same_pred q u.rel && same_cells ds u.cells) (state_of_tuples us q ds) (state_of_tuples ts q ds)))
+
+flood_tuples : List ℕ → ℕ → ℕ → ℕ → ℕ → List Tuple
+flood_tuples [] s a b i = []
+flood_tuples (o ∷ ports) s a b i = if o == i then flood_tuples ports s a b i else (record { rel = Sent; cells = s ∷ a ∷ b ∷ i ∷ o ∷ [] } ∷ flood_tuples ports s a b i)
+
+spread : (here own rest left : Bool) → (here && rest) ≡ left → (c : Bool) → (here && ((not own && c) || rest)) ≡ (if own then left else ((here && c) || left))
+spread true true rest left is c = is
+spread true false rest left is true = refl
+spread true false rest left is false = is
+spread false true rest left is c = is
+spread false false rest left is c = is
+
+flood_tuples-among : (ports : List ℕ) (s a b i : ℕ) (q : Pred) (ds : List ℕ) → (same_pred q Sent && is_flood ports (s ∷ a ∷ b ∷ i ∷ []) ds) ≡ state_of_tuples (flood_tuples ports s a b i) q ds
+unfolding flood_tuples
+flood_tuples-among [] s a b i q ds = and_false (same_pred q Sent)
+  where
+    and_false : (a : Bool) → (a && false) ≡ false
+    and_false true = refl
+    and_false false = refl
+flood_tuples-among (o ∷ ports) s a b i q ds =
+    spread (same_pred q Sent) (o == i) (is_flood ports (s ∷ a ∷ b ∷ i ∷ []) ds) (state_of_tuples (flood_tuples ports s a b i) q ds) (flood_tuples-among ports s a b i q ds)
+    (same_cells ds (s ∷ a ∷ b ∷ i ∷ o ∷ []))
+    ∙ chosen (o == i) (record { rel = Sent; cells = s ∷ a ∷ b ∷ i ∷ o ∷ [] }) (flood_tuples ports s a b i)
+  where
+    chosen : (own : Bool) (t : Tuple) (us : List Tuple)
+        → (if own then state_of_tuples us q ds else ((same_pred q t.rel && same_cells ds t.cells) || state_of_tuples us q ds)) ≡ state_of_tuples (if own then us else (t ∷ us)) q ds
+    chosen true t us = refl
+    chosen false t us = refl
+
+unchanged : (a b : Bool) → (a || (b && false)) ≡ a
+unchanged true b = refl
+unchanged false true = refl
+unchanged false false = refl
+
+pub IsFinite-flooded : (x : State) (ports cells : List ℕ) → IsFinite x → IsFinite (flooded x ports cells)
+IsFinite-flooded x ports [] finite = record { tuples = finite.tuples; same = λ q ds. unchanged (x q ds) (same_pred q Sent) ∙ finite.same q ds }
+IsFinite-flooded x ports (s ∷ []) finite = record { tuples = finite.tuples; same = λ q ds. unchanged (x q ds) (same_pred q Sent) ∙ finite.same q ds }
+IsFinite-flooded x ports (s ∷ a ∷ []) finite = record { tuples = finite.tuples; same = λ q ds. unchanged (x q ds) (same_pred q Sent) ∙ finite.same q ds }
+IsFinite-flooded x ports (s ∷ a ∷ b ∷ []) finite = record { tuples = finite.tuples; same = λ q ds. unchanged (x q ds) (same_pred q Sent) ∙ finite.same q ds }
+IsFinite-flooded x ports (s ∷ a ∷ b ∷ i ∷ []) finite = record {
+  tuples = with_all (flood_tuples ports s a b i) finite.tuples;
+  same = λ q ds. rw (finite.same q ds, flood_tuples-among ports s a b i q ds) (or_swapped (state_of_tuples finite.tuples q ds) (state_of_tuples (flood_tuples ports s a b i) q ds) ∙ sym (with_all-among (flood_tuples ports s a b i) finite.tuples q ds));
+}
+IsFinite-flooded x ports (s ∷ a ∷ b ∷ i ∷ o ∷ more) finite = record { tuples = finite.tuples; same = λ q ds. unchanged (x q ds) (same_pred q Sent) ∙ finite.same q ds }
+
+-- the start
+
+start_tuples : (StartRow → List ℕ) → List StartRow → List Tuple
+start_tuples cells_of [] = []
+start_tuples cells_of (row ∷ rows) = record { rel = Stored row.rel; cells = cells_of row } ∷ start_tuples cells_of rows
+
+start_tuples-among : (cells_of : StartRow → List ℕ) (rows : List StartRow) (r : RelId) (cells : List ℕ)
+    → list_any (λ row. (row.rel.0 == r.0) && same_cells (cells_of row) cells) rows ≡ state_of_tuples (start_tuples cells_of rows) (Stored r) cells
+unfolding start_tuples
+start_tuples-among cells_of [] r cells = refl
+start_tuples-among cells_of (row ∷ rows) r cells = rw (==-sym row.rel.0 r.0, same_cells-sym (cells_of row) cells, start_tuples-among cells_of rows r cells)
+
+start_tuples-Ft : (cells_of : StartRow → List ℕ) (rows : List StartRow) (cells : List ℕ) → false ≡ state_of_tuples (start_tuples cells_of rows) Ft cells
+unfolding start_tuples
+start_tuples-Ft cells_of [] cells = refl
+start_tuples-Ft cells_of (row ∷ rows) cells = start_tuples-Ft cells_of rows cells
+
+start_tuples-Sent : (cells_of : StartRow → List ℕ) (rows : List StartRow) (cells : List ℕ) → false ≡ state_of_tuples (start_tuples cells_of rows) Sent cells
+unfolding start_tuples
+start_tuples-Sent cells_of [] cells = refl
+start_tuples-Sent cells_of (row ∷ rows) cells = start_tuples-Sent cells_of rows cells
+
+start_tuples-RcvThis : (cells_of : StartRow → List ℕ) (rows : List StartRow) (cells : List ℕ) → false ≡ state_of_tuples (start_tuples cells_of rows) RcvThis cells
+unfolding start_tuples
+start_tuples-RcvThis cells_of [] cells = refl
+start_tuples-RcvThis cells_of (row ∷ rows) cells = start_tuples-RcvThis cells_of rows cells
+
+module _ (P : Parts) (N : Network) where
+  cells_at_start : StartRow → List ℕ
+  cells_at_start row = values (structure P N empty_state Nothing) no_values row.terms
+
+  pub IsFinite-initial : IsFinite (initial P N)
+  unfolding cells_at_start
+  IsFinite-initial = record { tuples = start_tuples cells_at_start P.start; same = same }
+    where
+      same : (r : Pred) (cells : List ℕ) → initial P N r cells ≡ state_of_tuples (start_tuples cells_at_start P.start) r cells
+      same (Stored r) cells = start_tuples-among cells_at_start P.start r cells
+      same Ft cells = start_tuples-Ft cells_at_start P.start cells
+      same Sent cells = start_tuples-Sent cells_at_start P.start cells
+      same RcvThis cells = start_tuples-RcvThis cells_at_start P.start cells
+
+  -- what commands, events and runs do
+
+  is_made : (x y : State) → y ≡ x → IsFinite x → IsFinite y
+  is_made x y is finite = let F : State → Type 0 = λ s. IsFinite s in subst F (sym is) finite
+
+  pub IsFinite-executed : (c : Command) (e : Assignment) (x y : State) → IsFinite x → Executes P N c e x y → IsFinite y
+  unfolding Executes
+  IsFinite-executed Skip e x y finite is = is_made x y is finite
+  IsFinite-executed (sequence a b) e x y finite (z, to_z, to_y) = IsFinite-executed b e z y (IsFinite-executed a e x z finite to_z) to_y
+  IsFinite-executed (conditional p a b) e x y finite (inl (is, to_y)) = IsFinite-executed a e x y finite to_y
+  IsFinite-executed (conditional p a b) e x y finite (inr (is, to_y)) = IsFinite-executed b e x y finite to_y
+  IsFinite-executed (choice v s p a b) e x y finite (inl (m, there, is, to_y)) = IsFinite-executed a (with_var e v m) x y finite to_y
+  IsFinite-executed (choice v s p a b) e x y finite (inr (none, to_y)) = IsFinite-executed b e x y finite to_y
+  IsFinite-executed (Insert r ts) e x y finite is = is_made (put x (Stored r) (tuple P N ts e x)) y is (IsFinite-put x (Stored r) (tuple P N ts e x) finite)
+  IsFinite-executed (Remove r ts) e x y finite is = is_made (take_out x (Stored r) (tuple P N ts e x)) y is (IsFinite-take_out x (Stored r) (tuple P N ts e x) finite)
+  IsFinite-executed (Install ts) e x y finite is = is_made (put x Ft (tuple P N ts e x)) y is (IsFinite-put x Ft (tuple P N ts e x) finite)
+  IsFinite-executed (Forward ts) e x y finite is = is_made (put x Sent (tuple P N ts e x)) y is (IsFinite-put x Sent (tuple P N ts e x) finite)
+  IsFinite-executed (Flood ts) e x y finite is = is_made (flooded x (elements N Pr) (tuple P N ts e x)) y is (IsFinite-flooded x (elements N Pr) (tuple P N ts e x) finite)
+
+  handled : (h : Option Handler) (s a b i : ℕ) (x y : State) → IsFinite x → Handles P N h s a b i x y → IsFinite y
+  handled None s a b i x y finite is = is_made x y is finite
+  handled (Some h) s a b i x y finite runs = IsFinite-executed h.body (for_packet h s a b i) x y finite runs
+
+  pub IsFinite-step : (x : State) (event : Event) (y : State) → IsFinite x → Step P N x event y → IsFinite y
+  IsFinite-step x (PktIn s a b i) y finite step = handled (first_fit P.handlers i) s a b i x y finite step.4
+  IsFinite-step x (PktFlow s a b i o) y finite step = is_made (put x Sent (s ∷ a ∷ b ∷ i ∷ o ∷ [])) y step.6 (IsFinite-put x Sent (s ∷ a ∷ b ∷ i ∷ o ∷ []) finite)
+
+  pub IsFinite-run : (x : State) (events : List Event) (y : State) → IsFinite x → Run P N x events y → IsFinite y
+  IsFinite-run x [] y finite is = is_made x y is finite
+  IsFinite-run x (event ∷ events) y finite (z, step, run) = IsFinite-run z events y (IsFinite-step x event z finite step) run
+
+pub reached_finite : (P : Parts) (N : Network) (events : List Event) (y : State) → Run P N (initial P N) events y → IsFinite y
+reached_finite P N events y run = IsFinite-run P N (initial P N) events y (IsFinite-initial P N) run
