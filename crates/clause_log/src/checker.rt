@@ -35,7 +35,12 @@ fn clause_at<'a>(clauses: &'a Clauses, log: &'a Log, steps: usize, number: u64) 
 
 // Whether the hints of the step at this place reach a conflict from this assignment, among the clauses and
 // those of the steps before it.
-fn reaches_conflict(values: &mut Values, clauses: &Clauses, log: &Log, at: usize) -> Result<bool, Memory>
+fn reaches_conflict(
+    values: &mut Values,
+    clauses: &Clauses,
+    log: &Log,
+    at: usize,
+) -> Result<bool, Memory>
     requires { at < length log.now }
     ensures { IfOk result (λ b. b ≡ reaches (known clauses.now.clauses log.now at) (slice_index_or log.now at no_step).hints (assigned values.old)) }
 {
