@@ -3,7 +3,6 @@
 ghost use Rattle.std.specs.Prelude.{◌≡◌, ◌<◌, ◌≤◌, ◌+◌, ◌++◌, [], ◌∷◌, OnOk, OnErr, length, slice_index, slice_index_or};
 ghost use Rattle.clause_log.specs.Rows.{split, IsSplit, begins};
 
-
 use std::alloc::AllocError;
 
 // Where a row begins and ends among so many items.
@@ -33,7 +32,11 @@ pub fn row_of<'a, T: Copy>(items: &'a [T], ends: &[usize], at: usize) -> &'a [T]
 }
 
 /// Appends a row: its items, and the place of their end. Nothing is changed on want of memory.
-pub fn append<T: Copy>(items: &mut Vec<T>, ends: &mut Vec<usize>, row: &[T]) -> Result<(), AllocError>
+pub fn append<T: Copy>(
+    items: &mut Vec<T>,
+    ends: &mut Vec<usize>,
+    row: &[T],
+) -> Result<(), AllocError>
     ensures items { OnOk result (items.new.items ≡ items.old.items ++ row.now) }
     ensures ends { OnOk result (ends.new.items ≡ ends.old.items ++ (length items.old.items + length row.now) ∷ []) }
     ensures err { OnErr result (items.new.items ≡ items.old.items) }

@@ -128,24 +128,75 @@ fn texts_are_read_or_refused_at_their_first_bad_line(rt: HostRuntime) {
         (b"vericon-log 1\nblock a\x7f\n", Verdict::Refused(2)),
         (b"vericon-log 1\nblock a\nblock b\n", Verdict::Refused(3)),
         (b"vericon-log 1\nblock a\natoms 01\n", Verdict::Refused(3)),
-        (b"vericon-log 1\nblock a\natoms 4611686018427387904\n", Verdict::Refused(3)),
+        (
+            b"vericon-log 1\nblock a\natoms 4611686018427387904\n",
+            Verdict::Refused(3),
+        ),
         (b"vericon-log 1\nblock a\natoms 1 1\n", Verdict::Refused(3)),
-        (b"vericon-log 1\nblock  a  b \n#\natoms 4611686018427387903\n\n end", Verdict::NoLog),
-        (b"vericon-log 1\nblock a\natoms 2\nc 1 -2 0", Verdict::Refused(5)),
-        (b"vericon-log 1\nblock a\natoms 2\nc 1 -2\nend\n", Verdict::Refused(4)),
-        (b"vericon-log 1\nblock a\natoms 2\nc 1 0 2\nend\n", Verdict::Refused(4)),
-        (b"vericon-log 1\nblock a\natoms 2\nc 3 0\nend\n", Verdict::Refused(4)),
-        (b"vericon-log 1\nblock a\natoms 2\nc -3 0\nend\n", Verdict::Refused(4)),
-        (b"vericon-log 1\nblock a\natoms 2\nc -0 0\nend\n", Verdict::Refused(4)),
-        (b"vericon-log 1\nblock a\natoms 2\nc +1 0\nend\n", Verdict::Refused(4)),
-        (b"vericon-log 1\nblock a\natoms 2\nc 1 -1 0\nend\n", Verdict::Refused(4)),
-        (b"vericon-log 1\nblock a\natoms 9\nc 1 2 3 4 5 6 7 8 9 -1 0\nend\n", Verdict::Refused(4)),
-        (b"vericon-log 1\nblock a\natoms 9\nc 9 8 7 6 5 4 3 2 -1 0\nend\n", Verdict::NoLog),
-        (b"vericon-log 1\nblock a\natoms 2\ns 0 9223372036854775808 0\nend\n", Verdict::Refused(4)),
-        (b"vericon-log 1\nblock a\natoms 2\ns 0 -1 0\nend\n", Verdict::Refused(4)),
-        (b"vericon-log 1\nblock a\natoms 2\ns 1 0\nend\n", Verdict::Refused(4)),
-        (b"vericon-log 1\nblock a\natoms 2\ns 1 0 1 0\nc 1 0\nend\n", Verdict::Refused(5)),
-        (b"vericon-log 1\nblock a\natoms 2\nend 0\n", Verdict::Refused(4)),
+        (
+            b"vericon-log 1\nblock  a  b \n#\natoms 4611686018427387903\n\n end",
+            Verdict::NoLog,
+        ),
+        (
+            b"vericon-log 1\nblock a\natoms 2\nc 1 -2 0",
+            Verdict::Refused(5),
+        ),
+        (
+            b"vericon-log 1\nblock a\natoms 2\nc 1 -2\nend\n",
+            Verdict::Refused(4),
+        ),
+        (
+            b"vericon-log 1\nblock a\natoms 2\nc 1 0 2\nend\n",
+            Verdict::Refused(4),
+        ),
+        (
+            b"vericon-log 1\nblock a\natoms 2\nc 3 0\nend\n",
+            Verdict::Refused(4),
+        ),
+        (
+            b"vericon-log 1\nblock a\natoms 2\nc -3 0\nend\n",
+            Verdict::Refused(4),
+        ),
+        (
+            b"vericon-log 1\nblock a\natoms 2\nc -0 0\nend\n",
+            Verdict::Refused(4),
+        ),
+        (
+            b"vericon-log 1\nblock a\natoms 2\nc +1 0\nend\n",
+            Verdict::Refused(4),
+        ),
+        (
+            b"vericon-log 1\nblock a\natoms 2\nc 1 -1 0\nend\n",
+            Verdict::Refused(4),
+        ),
+        (
+            b"vericon-log 1\nblock a\natoms 9\nc 1 2 3 4 5 6 7 8 9 -1 0\nend\n",
+            Verdict::Refused(4),
+        ),
+        (
+            b"vericon-log 1\nblock a\natoms 9\nc 9 8 7 6 5 4 3 2 -1 0\nend\n",
+            Verdict::NoLog,
+        ),
+        (
+            b"vericon-log 1\nblock a\natoms 2\ns 0 9223372036854775808 0\nend\n",
+            Verdict::Refused(4),
+        ),
+        (
+            b"vericon-log 1\nblock a\natoms 2\ns 0 -1 0\nend\n",
+            Verdict::Refused(4),
+        ),
+        (
+            b"vericon-log 1\nblock a\natoms 2\ns 1 0\nend\n",
+            Verdict::Refused(4),
+        ),
+        (
+            b"vericon-log 1\nblock a\natoms 2\ns 1 0 1 0\nc 1 0\nend\n",
+            Verdict::Refused(5),
+        ),
+        (
+            b"vericon-log 1\nblock a\natoms 2\nend 0\n",
+            Verdict::Refused(4),
+        ),
     ];
     for (text, wanted) in cases {
         assert_eq!(rt; checked(rt.alloc(), text), wanted);
@@ -162,7 +213,11 @@ fn a_block_is_printed_line_by_line(rt: HostRuntime) -> Result<(), Fail> {
     log.push(&[Lit::negative(2)], &[2, 1])?;
     let name = Items::from_slice(alloc, b"two  words")?;
     let mut blocks = Items::new(alloc);
-    blocks.push(Block { name, clauses, log: Some(log) })?;
+    blocks.push(Block {
+        name,
+        clauses,
+        log: Some(log),
+    })?;
     let text = print_log(alloc, &blocks)?;
     let wanted = b"vericon-log 1\nblock two  words\natoms 2\nc 1 -2 0\nc -1 0\ns -2 0 2 1 0\nend\n";
     assert_eq!(rt; text.as_slice(), wanted.as_slice());
