@@ -5,7 +5,7 @@ use Rattle.std.proofs.lemmas.List.{drop-append-le, take-append-le}
 use Rattle.std.proofs.lemmas.Bool.{and_from}
 use Rattle.std.proofs.lemmas.List.Folds.{list_all-append}
 use Rattle.std.specs.List.{list_all}
-use Rattle.clause_log.specs.Literals.{Literal, is_clause, has_distinct_atoms}
+use Rattle.clause_log.specs.Literals.{Literal, is_clause}
 use Rattle.clause_log.specs.Rows.{split, IsSplit, begins, AreFlatClauses}
 
 pub split_below : (low : ℕ) (es : List ℕ) (n : ℕ) → IsSplit low es n → low ≤ n

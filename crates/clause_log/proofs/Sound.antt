@@ -1,14 +1,14 @@
 -- A log that refutes clauses shows that no valuation makes them true.
-use Rattle.std.proofs.Common.{◌≡◌, ◌⊎◌, ℕ, zero, suc, Bool, true, false, cond, not, ◌&&◌, ◌||◌, List, [], ◌∷◌, ◌++◌, Option, Some, None, eqb, length, drop, ◌≤◌, refl, sym, ap, ◌∙◌, subst, inl, inr, eqb-true}
+use Rattle.std.proofs.Common.{◌≡◌, ℕ, zero, suc, Bool, true, false, cond, not, ◌&&◌, ◌||◌, List, [], ◌∷◌, ◌++◌, Option, Some, None, eqb, length, drop, ◌≤◌, refl, sym, ap, ◌∙◌, inl, inr, eqb-true}
 use Rattle.std.specs.Prelude.{slice_get, is_none}
 use Rattle.std.specs.Option.{option_map}
-use Rattle.std.specs.List.{list_any, list_all}
+use Rattle.std.specs.List.{list_all}
 use Rattle.std.proofs.lemmas.Bool.{and_parts, and_from, cases_Bool, false≢true}
 use Rattle.std.proofs.lemmas.Option.{same_Some}
 use Rattle.std.proofs.lemmas.List.{drop_all}
 use Rattle.std.proofs.lemmas.List.Folds.{list_all-append}
 use Rattle.clause_log.specs.Literals.{Literal, negated, signed, literal_true, clause_true, IsModel}
-use Rattle.clause_log.specs.Assignments.{Assignment, no_values, literal_value, says_false, is_false, assign, with_false, open_literals, only_new, unit_literal, is_empty, is_conflict}
+use Rattle.clause_log.specs.Assignments.{Assignment, no_values, says_false, is_false, assign, with_false, open_literals, only_new, unit_literal, is_empty, is_conflict}
 use Rattle.clause_log.specs.Refutations.{Step, clause_at, is_conflict_at, unit_at, with_unit, reaches_conflict, step_holds, steps_hold, ends_empty, is_refutation, known}
 
 -- the valuation gives each atom the value that the assignment gives it

@@ -4,7 +4,7 @@ use Rattle.std.specs.List.{list_all}
 use Rattle.std.proofs.lemmas.Bool.{and_parts}
 use Rattle.clause_log.specs.Literals.{Literal, has_distinct_atoms}
 use Rattle.clause_log.specs.Refutations.{Step, no_step}
-use Rattle.clause_log.specs.Rows.{split, IsSplit, steps_of, AreFlatSteps}
+use Rattle.clause_log.specs.Rows.{split, steps_of, AreFlatSteps}
 use Rattle.clause_log.proofs.Flat.{pushed, pushed_split, length-split, all_more}
 
 pub length-steps_of : (ls : List (List Literal)) (hs : List (List ℕ)) → length ls ≡ length hs → length (steps_of ls hs) ≡ length ls

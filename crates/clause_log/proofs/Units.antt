@@ -1,10 +1,10 @@
 -- Going through a clause under a partial assignment.
-use Rattle.std.proofs.Common.{◌≡◌, ℕ, ◌-◌, ◌≤◌, Bool, true, false, cond, not, List, [], ◌∷◌, ◌++◌, filter, length, take, drop, get_or, Option, Some, None, refl, sym, ap, ap₂, ◌∙◌, arith}
+use Rattle.std.proofs.Common.{◌≡◌, ◌-◌, ◌≤◌, Bool, true, false, cond, not, List, [], ◌∷◌, ◌++◌, length, take, drop, get_or, Option, Some, None, refl, sym, ap, ap₂, ◌∙◌, arith}
 use Rattle.std.proofs.Math.Seq.{take-length}
 use Rattle.std.specs.Prelude.{is_none}
 use Rattle.std.specs.Option.{option_map}
 use Rattle.clause_log.specs.Literals.{Literal, signed, negated}
-use Rattle.clause_log.specs.Assignments.{Assignment, assign, with_false, literal_value, says_false, is_false, open_literals, only_new, unit_literal, is_empty, is_conflict}
+use Rattle.clause_log.specs.Assignments.{Assignment, assign, with_false, literal_value, says_false, open_literals, only_new, is_empty, is_conflict}
 
 -- a false literal is left out
 pub open-false : (f : Assignment) (l : Literal) (ls : List Literal) → literal_value f l ≡ Some false → open_literals f (l ∷ ls) ≡ open_literals f ls

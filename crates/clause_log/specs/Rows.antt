@@ -1,7 +1,7 @@
 -- A list of rows that is kept flat: the items one after the other, and the place where each row ends.
 use Rattle.std.specs.Prelude.{◌≡◌, ℕ, zero, suc, slice_index, ◌-◌, ◌^◌, ◌<◌, ◌≤◌, true, length, List, [], ◌∷◌, take, drop}
 use Rattle.std.specs.List.{list_all}
-use Rattle.clause_log.specs.Literals.{Literal, ClauseList, is_clause, has_distinct_atoms}
+use Rattle.clause_log.specs.Literals.{Literal, is_clause, has_distinct_atoms}
 use Rattle.clause_log.specs.Refutations.{Step}
 
 -- the parts of a list, from a place to each end

@@ -5,8 +5,7 @@ ghost use Rattle.clause_log.specs.Assignments.{assign as assign_literal, is_conf
 ghost use Rattle.clause_log.specs.Values.{assigned};
 
 use crate::lit::Lit;
-use crate::memory::Memory;
-use std::alloc::Global;
+use std::alloc::{AllocError, Global};
 use std::collections::BTreeMap;
 
 /// The truth values of the atoms that have one.
@@ -23,7 +22,7 @@ pub fn value_of(values: &Values, l: Lit) -> Option<bool>
 }
 
 /// Makes the literal true.
-pub fn assign(values: &mut Values, l: Lit) -> Result<(), Memory>
+pub fn assign(values: &mut Values, l: Lit) -> Result<(), AllocError>
     ensures { OnOk result (assigned values.new ≡ assign_literal l (assigned values.old)) }
 {
     values.insert(l.atom(), l.is_positive())?;
@@ -31,7 +30,7 @@ pub fn assign(values: &mut Values, l: Lit) -> Result<(), Memory>
 }
 
 /// The assignment that makes these literals false, and gives no other atom a value.
-pub fn false_alone(alloc: Global, literals: &[Lit]) -> Result<Values, Memory>
+pub fn false_alone(alloc: Global, literals: &[Lit]) -> Result<Values, AllocError>
     ensures { IfOk result (λ m. assigned m ≡ with_false no_values literals.now) }
 {
     let mut values = BTreeMap::new(alloc);

@@ -9,8 +9,7 @@ use crate::assignment::{Values, assign, false_alone, is_conflict, unit};
 use crate::clauses::Clauses;
 use crate::lit::Lit;
 use crate::log::Log;
-use crate::memory::Memory;
-use std::alloc::Global;
+use std::alloc::{AllocError, Global};
 
 // The clause of this number, of the clauses and of this many steps.
 fn clause_at<'a>(clauses: &'a Clauses, log: &'a Log, steps: usize, number: u64) -> Option<&'a [Lit]>
@@ -35,7 +34,12 @@ fn clause_at<'a>(clauses: &'a Clauses, log: &'a Log, steps: usize, number: u64) 
 
 // Whether the hints of the step at this place reach a conflict from this assignment, among the clauses and
 // those of the steps before it.
-fn reaches_conflict(values: &mut Values, clauses: &Clauses, log: &Log, at: usize) -> Result<bool, Memory>
+fn reaches_conflict(
+    values: &mut Values,
+    clauses: &Clauses,
+    log: &Log,
+    at: usize,
+) -> Result<bool, AllocError>
     requires { at < length log.now }
     ensures { IfOk result (λ b. b ≡ reaches (known clauses.now.clauses log.now at) (slice_index_or log.now at no_step).hints (assigned values.old)) }
 {
@@ -57,7 +61,7 @@ fn reaches_conflict(values: &mut Values, clauses: &Clauses, log: &Log, at: usize
 }
 
 // Whether the step at this place holds over the clauses and those of the steps before it.
-fn step_holds(alloc: Global, clauses: &Clauses, log: &Log, at: usize) -> Result<bool, Memory>
+fn step_holds(alloc: Global, clauses: &Clauses, log: &Log, at: usize) -> Result<bool, AllocError>
     requires { at < length log.now }
     ensures { IfOk result (λ b. b ≡ holds (known clauses.now.clauses log.now at) (slice_index_or log.now at no_step)) }
 {
@@ -85,7 +89,7 @@ fn ends_empty(log: &Log) -> bool
 ///
 /// A step takes n log n steps of time in the number n of its literals and of those of the clauses that its
 /// hints name. Values are kept for atoms that these name, and for no longer than the step.
-pub fn accepts(alloc: Global, clauses: &Clauses, log: &Log) -> Result<bool, Memory>
+pub fn accepts(alloc: Global, clauses: &Clauses, log: &Log) -> Result<bool, AllocError>
     ensures exact { IfOk result (λ b. b ≡ is_refutation clauses.now.clauses log.now) }
     ensures sound { IfOk result (λ b. b ≡ true → (v : ℕ → Bool) → IsModel v clauses.now.clauses → ⊥) }
 {

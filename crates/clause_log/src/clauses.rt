@@ -1,9 +1,8 @@
 ghost use Rattle.std.specs.Prelude.{◌≡◌, ◌<◌, ◌^◌, ◌++◌, [], ◌∷◌, OnOk, OnErr, length, true};
 
 use crate::lit::Lit;
-use crate::memory::Memory;
 use crate::rows::{append, row_of};
-use std::alloc::Global;
+use std::alloc::{AllocError, Global};
 use std::marker::Model;
 
 /// A list of clauses over the atoms from 1 to `atoms`; each clause has literals of distinct atoms.
@@ -34,7 +33,7 @@ impl Clauses {
     ghost use Rattle.clause_log.specs.Literals.{is_clause};
 
     /// No clauses, over the atoms from 1 to `atoms`.
-    pub fn try_new(alloc: Global, atoms: u64) -> Result<Clauses, Memory>
+    pub fn try_new(alloc: Global, atoms: u64) -> Result<Clauses, AllocError>
         requires { atoms < 2 ^ 62 }
         ensures { IfOk result (λ c. c ≡ record { atoms = atoms; clauses = [] }) }
     {
@@ -46,7 +45,7 @@ impl Clauses {
     }
 
     /// Appends the clause with these literals. Nothing is changed on want of memory.
-    pub fn push(&mut self, lits: &[Lit]) -> Result<(), Memory>
+    pub fn push(&mut self, lits: &[Lit]) -> Result<(), AllocError>
         requires { is_clause self.old.atoms lits.now ≡ true }
         ensures ok { OnOk result (self.new ≡ record self.old { clauses = self.old.clauses ++ lits.now ∷ [] }) }
         ensures err { OnErr result (self.new ≡ self.old) }

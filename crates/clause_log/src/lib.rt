@@ -6,7 +6,6 @@ mod checker;
 mod clauses;
 mod lit;
 mod log;
-mod memory;
 mod rows;
 mod valuation;
 
@@ -14,5 +13,4 @@ pub use checker::accepts;
 pub use clauses::Clauses;
 pub use lit::Lit;
 pub use log::Log;
-pub use memory::Memory;
 pub use valuation::Valuation;

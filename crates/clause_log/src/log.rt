@@ -1,9 +1,8 @@
 ghost use Rattle.std.specs.Prelude.{◌≡◌, ◌+◌, ◌++◌, [], ◌∷◌, OnOk, OnErr, length};
 
 use crate::lit::Lit;
-use crate::memory::Memory;
 use crate::rows::{append, row_of};
-use std::alloc::Global;
+use std::alloc::{AllocError, Global};
 use std::marker::Model;
 
 /// A list of steps. A step adds a clause, of literals of distinct atoms; its hints are the numbers of earlier
@@ -36,7 +35,7 @@ impl Log {
     ghost use Rattle.clause_log.specs.Refutations.{no_step};
 
     /// A log without steps.
-    pub fn try_new(alloc: Global) -> Result<Log, Memory>
+    pub fn try_new(alloc: Global) -> Result<Log, AllocError>
         ensures { IfOk result (λ l. l ≡ []) }
     {
         Ok(Log {
@@ -48,7 +47,7 @@ impl Log {
     }
 
     /// Appends the step with these literals and hints. Nothing is changed on want of memory.
-    pub fn push(&mut self, lits: &[Lit], hints: &[u64]) -> Result<(), Memory>
+    pub fn push(&mut self, lits: &[Lit], hints: &[u64]) -> Result<(), AllocError>
         requires { has_distinct_atoms lits.now ≡ true }
         ensures ok { OnOk result (self.new ≡ self.old ++ record { literals = lits.now; hints = hints.now } ∷ []) }
         ensures err { OnErr result (self.new ≡ self.old) }
@@ -96,7 +95,7 @@ fn append_step(
     hint_ends: &mut Vec<usize>,
     lits: &[Lit],
     named: &[u64],
-) -> Result<(), Memory>
+) -> Result<(), AllocError>
     ensures literals { OnOk result (literals.new.items ≡ literals.old.items ++ lits.now) }
     ensures literal_ends { OnOk result (literal_ends.new.items ≡ literal_ends.old.items ++ (length literals.old.items + length lits.now) ∷ []) }
     ensures hints { OnOk result (hints.new.items ≡ hints.old.items ++ named.now) }
@@ -112,7 +111,7 @@ fn append_step(
     if append(hints, hint_ends, named).is_err() {
         literals.truncate(start);
         literal_ends.truncate(steps);
-        return Err(Memory);
+        return Err(AllocError);
     }
     Ok(())
 }

@@ -3,7 +3,7 @@
 ghost use Rattle.std.specs.Prelude.{◌≡◌, ◌<◌, ◌≤◌, ◌+◌, ◌++◌, [], ◌∷◌, OnOk, OnErr, length, slice_index, slice_index_or};
 ghost use Rattle.clause_log.specs.Rows.{split, IsSplit, begins};
 
-use crate::memory::Memory;
+use std::alloc::AllocError;
 
 // Where a row begins and ends among so many items.
 fn place_of(ends: &[usize], at: usize, count: usize) -> (usize, usize)
@@ -32,7 +32,11 @@ pub fn row_of<'a, T: Copy>(items: &'a [T], ends: &[usize], at: usize) -> &'a [T]
 }
 
 /// Appends a row: its items, and the place of their end. Nothing is changed on want of memory.
-pub fn append<T: Copy>(items: &mut Vec<T>, ends: &mut Vec<usize>, row: &[T]) -> Result<(), Memory>
+pub fn append<T: Copy>(
+    items: &mut Vec<T>,
+    ends: &mut Vec<usize>,
+    row: &[T],
+) -> Result<(), AllocError>
     ensures items { OnOk result (items.new.items ≡ items.old.items ++ row.now) }
     ensures ends { OnOk result (ends.new.items ≡ ends.old.items ++ (length items.old.items + length row.now) ∷ []) }
     ensures err { OnErr result (items.new.items ≡ items.old.items) }
@@ -40,11 +44,11 @@ pub fn append<T: Copy>(items: &mut Vec<T>, ends: &mut Vec<usize>, row: &[T]) -> 
 {
     let start = items.len();
     if items.extend_from_slice(row).is_err() {
-        return Err(Memory);
+        return Err(AllocError);
     }
     if ends.push(items.len()).is_err() {
         items.truncate(start);
-        return Err(Memory);
+        return Err(AllocError);
     }
     Ok(())
 }

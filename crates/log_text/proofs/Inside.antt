@@ -1,5 +1,5 @@
 -- What is read of a clause or a step keeps the limits of its block.
-use Rattle.std.proofs.Common.{◌≡◌, ℕ, zero, suc, ◌<◌, ◌≤◌, Bool, true, false, cond, eqb, leb, ltb, ◌&&◌, List, [], ◌∷◌, ◌++◌, Option, Some, None, refl, sym, ap, ◌∙◌, subst, arith}
+use Rattle.std.proofs.Common.{◌≡◌, ℕ, zero, suc, ◌<◌, ◌≤◌, Bool, true, false, cond, eqb, leb, ltb, ◌&&◌, List, [], ◌∷◌, ◌++◌, Some, None, refl, ◌∙◌, subst, arith}
 use Rattle.std.specs.List.{list_all}
 use Rattle.std.proofs.lemmas.Bool.{and_from, le-leb, lt-ltb}
 use Rattle.std.proofs.lemmas.Option.{same_Some, cond_some}
@@ -10,7 +10,7 @@ use Rattle.text_lines.proofs.Numerals.{number_is}
 use Rattle.text_lines.proofs.Inverse.{bind_some}
 use Rattle.clause_log.specs.Literals.{Literal, has_distinct_atoms, is_within, is_clause}
 use Rattle.clause_log.specs.Refutations.{Step}
-use Rattle.log_text.specs.Words.{most_hint, positive_of, literal_of, is_zero, literals_from, hints_from, clause_of, step_of}
+use Rattle.log_text.specs.Words.{positive_of, literal_of, is_zero, literals_from, hints_from, clause_of, step_of}
 
 positive_by : (most n m : ℕ) (t : Bool) → t ≡ eqb n 0 → cond t None (Some n) ≡ Some m → n ≤ most → (ltb 0 m && leb m most) ≡ true
 positive_by most n m true q e l = absurd cc

@@ -1,17 +1,17 @@
 -- What is printed of blocks reads as these blocks.
-use Rattle.std.proofs.Common.{◌≡◌, ℕ, ◌+◌, ◌<◌, ◌^◌, Bool, true, false, List, [], ◌∷◌, ◌++◌, map, Option, Some, None, Result, Ok, Err, refl, sym, ap, subst, ◌∙◌, arith, append_assoc, append-nil}
+use Rattle.std.proofs.Common.{◌≡◌, ℕ, ◌+◌, ◌<◌, ◌^◌, true, List, [], ◌∷◌, ◌++◌, map, Option, Some, None, Ok, refl, sym, ap, subst, ◌∙◌, arith, append_assoc, append-nil}
 use Rattle.std.specs.Prelude.{decimal, codes}
 use Rattle.std.specs.List.{list_all, flat_map}
 use Rattle.std.proofs.lemmas.Bool.{and_parts}
-use Rattle.text_lines.specs.Text.{words, next, lines_left}
-use Rattle.text_lines.specs.Machine.{run, after_step, reading, Refused}
+use Rattle.text_lines.specs.Text.{next, lines_left}
+use Rattle.text_lines.specs.Machine.{run, after_step, reading}
 use Rattle.text_lines.specs.Printed.{joined, numbered}
 use Rattle.text_lines.proofs.PrintedLaws.{words_joined, lines_fine}
 use Rattle.clause_log.specs.Literals.{Literal, ClauseList, is_clause}
 use Rattle.clause_log.specs.Refutations.{Step}
 use Rattle.log_text.specs.declared.block.Block.{Block}
 use Rattle.log_text.specs.declared.read.Place.TheVariants as place
-use Rattle.log_text.specs.Words.{atoms_of, clause_of, step_of}
+use Rattle.log_text.specs.Words.{atoms_of, step_of}
 use Rattle.log_text.specs.LogText.{State, log_format, step, by_key, goes_to, new_block, with_clause, with_step, steps_so_far, clause_words, step_words, header, end, block_lines, log_lines, log_text, is_step, is_log, is_block, are_blocks}
 use Rattle.log_text.proofs.WordsAgain.{clause_again, step_again, atoms_again, name_again, header_again}
 use Rattle.log_text.proofs.FineLines.{clause_line, step_line, parts_of, log_steps, atoms_line, blocks_fine}

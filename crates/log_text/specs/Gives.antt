@@ -1,12 +1,11 @@
 -- What the reader's functions answer.
-use Rattle.std.specs.Prelude.{◌≡◌, ℕ, List, Option, Some, None, Result, Ok, Err}
+use Rattle.std.specs.Prelude.{◌≡◌, List, Option, Some, None, Result, Ok, Err}
 use Rattle.text_lines.specs.Machine.{Refused}
 use Rattle.clause_log.specs.Literals.{Literal}
 use Rattle.clause_log.specs.Refutations.{Step}
 use Rattle.log_text.specs.LogText.{State, with_clause, with_step}
 use Rattle.log_text.specs.declared.block.Block.{Block}
 use Rattle.log_text.specs.declared.read.Place.{Place}
-use Rattle.log_text.specs.declared.read.Place.TheVariants as place
 use Rattle.log_text.specs.declared.read.LogRefusal.{LogRefusal}
 use Rattle.log_text.specs.declared.read.LogRefusal.TheVariants as refusal
 use Rattle.log_text.specs.declared.words.Stop.{Stop}

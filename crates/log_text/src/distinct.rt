@@ -3,7 +3,7 @@
 ghost use Rattle.std.specs.Prelude.{◌≡◌, IfOk, map};
 ghost use Rattle.clause_log.specs.Literals.{has_atom as has_atom_in, has_distinct_atoms as distinct};
 
-use clause_log::{Lit, Memory};
+use clause_log::Lit;
 use std::alloc::{AllocError, Global};
 
 // Up to so many literals are compared in pairs.
@@ -42,7 +42,7 @@ fn atoms_of(alloc: Global, literals: &[Lit]) -> Result<Vec<u64>, AllocError>
 }
 
 /// Whether no two of the literals are of one atom. It takes n log n steps.
-pub fn has_distinct_atoms(alloc: Global, literals: &[Lit]) -> Result<bool, Memory>
+pub fn has_distinct_atoms(alloc: Global, literals: &[Lit]) -> Result<bool, AllocError>
     ensures { IfOk result (λ b. b ≡ distinct literals.now) }
 {
     if literals.len() <= FEW {

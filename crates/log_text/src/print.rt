@@ -8,7 +8,7 @@ ghost use Rattle.text_lines.specs.Printed.{line_text, spaced};
 ghost use Rattle.log_text.specs.LogText.{are_blocks, block_lines, clause_words, literal_word, log_format, log_text, step_words};
 
 use crate::block::{Block, Blocks, Text};
-use clause_log::{Clauses, Lit, Log, Memory};
+use clause_log::{Clauses, Lit, Log};
 use sqlite_items::Items;
 use std::alloc::{AllocError, Global};
 use text_lines::{put_line, put_line_end, put_next_number, put_next_word, put_number, put_word};
@@ -17,7 +17,7 @@ use text_lines::{put_line, put_line_end, put_next_number, put_next_word, put_num
 ///
 /// Names have 1 to 200 bytes from 0x20 to 0x7e and no space at either end; literals of steps are of atoms from 1
 /// to the block's `atoms`, hints are from 1 to 2^63 - 1, and a log that is there has a step.
-pub fn print_log(alloc: Global, blocks: &Blocks) -> Result<Text, Memory>
+pub fn print_log(alloc: Global, blocks: &Blocks) -> Result<Text, AllocError>
     requires { are_blocks blocks.now ≡ true }
     ensures text { IfOk result (λ text. text ≡ log_text blocks.now) }
     ensures again { IfOk result (λ text. reading log_format text ≡ Ok blocks.now) }

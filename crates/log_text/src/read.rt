@@ -10,9 +10,9 @@ ghost use Rattle.log_text.specs.Gives.{ClauseTaken, Gives, StepTaken, Stepped};
 
 use crate::block::{Block, Blocks, Text};
 use crate::words::{StepLine, Stop, atoms, clause, header, name, step};
-use clause_log::{Clauses, Log, Memory};
+use clause_log::{Clauses, Log};
 use sqlite_items::Items;
-use std::alloc::Global;
+use std::alloc::{AllocError, Global};
 use text_lines::{Lines, Next, Words};
 use thiserror::Error;
 
@@ -79,7 +79,7 @@ fn take(alloc: Global, place: Place, blocks: &mut Blocks, line: &[u8]) -> Result
         Place::Named(name) => match atoms(Words::new(line)) {
             Some(atoms) => match new_block(alloc, name, atoms) {
                 Ok(block) => Ok(Place::Open(block)),
-                Err(Memory) => Err(Stop::Memory),
+                Err(_) => Err(Stop::Memory),
             },
             None => Err(Stop::Refused),
         },
@@ -87,7 +87,7 @@ fn take(alloc: Global, place: Place, blocks: &mut Blocks, line: &[u8]) -> Result
     }
 }
 
-fn new_block(alloc: Global, name: Text, atoms: u64) -> Result<Block, Memory>
+fn new_block(alloc: Global, name: Text, atoms: u64) -> Result<Block, AllocError>
     requires { atoms < 2 ^ 62 }
     ensures { IfOk result (λ b. b ≡ empty_block name atoms) }
 {
@@ -133,7 +133,7 @@ fn with_clause(alloc: Global, block: Block, words: Words) -> Result<Block, Stop>
     let literals = clause(alloc, words, block.clauses.atoms())?;
     match block.clauses.push(&literals) {
         Ok(()) => Ok(block),
-        Err(Memory) => Err(Stop::Memory),
+        Err(_) => Err(Stop::Memory),
     }
 }
 
@@ -149,11 +149,11 @@ fn with_step(alloc: Global, block: Block, words: Words) -> Result<Block, Stop>
             clauses,
             log: Some(log),
         }),
-        Err(Memory) => Err(Stop::Memory),
+        Err(_) => Err(Stop::Memory),
     }
 }
 
-fn with_line(alloc: Global, log: Option<Log>, line: &StepLine) -> Result<Log, Memory>
+fn with_line(alloc: Global, log: Option<Log>, line: &StepLine) -> Result<Log, AllocError>
     requires { has_distinct_atoms line.now.literals.items ≡ true }
     ensures { IfOk result (λ l. l ≡ steps_so_far log ++ record { literals = line.now.literals.items; hints = line.now.hints.items } ∷ []) }
 {

@@ -7,7 +7,7 @@ ghost use Rattle.log_text.specs.Words.{are_printable as printable, atoms_of, cla
 ghost use Rattle.log_text.specs.Gives.{Finds};
 
 use crate::distinct::has_distinct_atoms;
-use clause_log::{Lit, Memory};
+use clause_log::Lit;
 use std::alloc::Global;
 use text_lines::{Words, behind_word, read_number};
 
@@ -176,7 +176,7 @@ pub fn clause(alloc: Global, words: Words, atoms: u64) -> Result<Vec<Lit>, Stop>
     match has_distinct_atoms(alloc, &found) {
         Ok(true) => Ok(found),
         Ok(false) => Err(Stop::Refused),
-        Err(Memory) => Err(Stop::Memory),
+        Err(_) => Err(Stop::Memory),
     }
 }
 
@@ -206,6 +206,6 @@ pub fn step(alloc: Global, words: Words, atoms: u64) -> Result<StepLine, Stop>
             hints: named,
         }),
         Ok(false) => Err(Stop::Refused),
-        Err(Memory) => Err(Stop::Memory),
+        Err(_) => Err(Stop::Memory),
     }
 }

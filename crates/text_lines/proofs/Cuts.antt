@@ -1,11 +1,11 @@
 -- Cutting a text at the first such byte.
-use Rattle.std.proofs.Common.{◌≡◌, ℕ, zero, suc, ◌+◌, ◌-◌, ◌<◌, ◌≤◌, ◌^◌, Bool, true, false, not, cond, eqb, List, [], ◌∷◌, length, get_or, take, drop, All, refl, sym, ap, ap₂, subst, ◌∙◌, arith, inl, inr, length-drop}
-use Rattle.std.specs.List.{slice_split, onto_first, filter, before_first, after_first, position_or_len, prefix_len}
+use Rattle.std.proofs.Common.{◌≡◌, ℕ, zero, suc, ◌+◌, ◌-◌, ◌<◌, ◌≤◌, Bool, true, false, not, cond, eqb, List, [], ◌∷◌, length, get_or, take, drop, refl, sym, ap, ap₂, subst, ◌∙◌, arith, inl, inr}
+use Rattle.std.specs.List.{slice_split, onto_first, filter, before_first, after_first, position_or_len}
 use Rattle.std.proofs.lemmas.Bool.{cases_lt, cases_Bool}
 use Rattle.std.proofs.lemmas.List.{take_all, drop_all, take_rest}
 use Rattle.std.proofs.lemmas.List.Sums.{position_or_len_is, fails_before_first}
 use Rattle.std.proofs.lemmas.List.Splits.{slice_split_first, slice_split_none}
-use Rattle.text_lines.specs.Text.{lines, words, has_bytes, is_passed_over, counted, Line, LinesLeft, lines_left}
+use Rattle.text_lines.specs.Text.{lines, words, has_bytes, is_passed_over, counted, LinesLeft, lines_left}
 
 pub first_at : (text : List ℕ) (byte at : ℕ) → at ≤ length text → ((k : ℕ) → k < at → eqb (get_or text k 0) byte ≡ false) → (at < length text → eqb (get_or text at 0) byte ≡ true)
     → position_or_len (λ b. eqb b byte) text ≡ at

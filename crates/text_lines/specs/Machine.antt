@@ -1,6 +1,6 @@
 -- A format is a machine over the lines that count: a state and a line give the next state, or the reason why the line is refused.
 use Rattle.std.specs.Prelude.{ℕ, List, [], ◌∷◌, Result, Ok, Err}
-use Rattle.text_lines.specs.Text.{Line, LinesLeft, lines_left}
+use Rattle.text_lines.specs.Text.{Line, lines_left}
 
 pub record Format (State Value Reason : Type 0) : Type 0 where
   pub start : State

@@ -1,6 +1,6 @@
 -- What the next line of a text is.
 use Rattle.std.specs.Prelude.{◌≡◌, [], ◌∷◌}
-use Rattle.text_lines.specs.Text.{Line, LinesLeft}
+use Rattle.text_lines.specs.Text.{LinesLeft}
 use Rattle.text_lines.specs.declared.lines.Next.{Next}
 use Rattle.text_lines.specs.declared.lines.Next.TheVariants as found
 

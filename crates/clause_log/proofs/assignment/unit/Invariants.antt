@@ -1,4 +1,4 @@
-use Rattle.std.proofs.Common.{◌≡◌, length}
+use Rattle.std.proofs.Common.{length}
 use Rattle.clause_log.specs.Assignments.{unit_literal}
 use Rattle.clause_log.specs.Values.{assigned}
 use Rattle.clause_log.proofs.Units.{IsUnitOf}

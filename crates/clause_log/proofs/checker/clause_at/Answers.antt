@@ -1,4 +1,4 @@
-use Rattle.std.proofs.Common.{◌≡◌, ◌+◌, ◌-◌, ◌∙◌, length, Some, ap, arith}
+use Rattle.std.proofs.Common.{◌-◌, ◌∙◌, Some, ap, arith}
 use Rattle.clause_log.proofs.Known.{clause_of_step, clause_past}
 use Rattle.clause_log.proofs.checker.clause_at.Goals as goal
 

@@ -1,4 +1,4 @@
-use Rattle.std.proofs.Common.{◌≡◌, refl, arith}
+use Rattle.std.proofs.Common.{arith}
 use Rattle.clause_log.proofs.Flat.{row_in, begins_later}
 use Rattle.clause_log.proofs.rows.place_of.Goals as goal
 

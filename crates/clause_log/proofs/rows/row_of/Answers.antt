@@ -1,4 +1,4 @@
-use Rattle.std.proofs.Common.{◌≡◌, sym, ap₂, ◌∙◌, ◌-◌, take, drop}
+use Rattle.std.proofs.Common.{sym, ap₂, ◌∙◌, ◌-◌, take, drop}
 use Rattle.clause_log.proofs.Flat.{row_at}
 use Rattle.clause_log.proofs.rows.row_of.Goals as goal
 

@@ -1,4 +1,4 @@
-use Rattle.std.proofs.Common.{◌≡◌, ◌∙◌, true, ap, sym}
+use Rattle.std.proofs.Common.{◌∙◌, ap, sym}
 use Rattle.clause_log.specs.Literals.{is_clause}
 use Rattle.log_text.proofs.Inside.{clause_within}
 use Rattle.log_text.proofs.read.with_clause.Goals as goal

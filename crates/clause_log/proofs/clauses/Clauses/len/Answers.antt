@@ -1,4 +1,4 @@
-use Rattle.std.proofs.Common.{◌≡◌, ◌∙◌, length, sym, ap}
+use Rattle.std.proofs.Common.{◌∙◌, length, sym, ap}
 use Rattle.clause_log.proofs.Flat.{length-split}
 use Rattle.clause_log.proofs.clauses.Clauses.len.Goals as goal
 

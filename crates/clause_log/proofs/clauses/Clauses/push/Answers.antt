@@ -1,4 +1,4 @@
-use Rattle.std.proofs.Common.{◌≡◌, ◌++◌, [], ◌∷◌, true, List, ℕ, ap, ap₂, ◌∙◌, sym, subst}
+use Rattle.std.proofs.Common.{◌≡◌, ◌++◌, [], ◌∷◌, true, List, ap, ◌∙◌, sym, subst}
 use Rattle.clause_log.specs.Literals.{Literal, ClauseList, is_clause}
 use Rattle.clause_log.proofs.Flat.{pushed, clause_more, clauses_same, on_ok, either_way}
 use Rattle.clause_log.proofs.clauses.Clauses.push.Goals as goal

@@ -1,4 +1,4 @@
-use Rattle.std.proofs.Common.{◌≡◌, ◌<◌, ◌∙◌, [], length, get_or, sym, ap, ap₂, subst}
+use Rattle.std.proofs.Common.{◌<◌, ◌∙◌, [], length, get_or, sym, ap, ap₂, subst}
 use Rattle.clause_log.specs.Refutations.{no_step}
 use Rattle.clause_log.specs.Rows.{split}
 use Rattle.clause_log.proofs.Steps.{steps_count, step_is}

@@ -1,4 +1,4 @@
-use Rattle.std.proofs.Common.{◌≡◌, ◌∙◌, length, sym, ap}
+use Rattle.std.proofs.Common.{◌∙◌, length, sym, ap}
 use Rattle.clause_log.proofs.Steps.{steps_count}
 use Rattle.clause_log.proofs.log.Log.len.Goals as goal
 

@@ -1,4 +1,4 @@
-use Rattle.std.proofs.Common.{◌≡◌, ◌++◌, [], ◌∷◌, List, ◌∙◌, ap}
+use Rattle.std.proofs.Common.{◌++◌, [], ◌∷◌, ◌∙◌, ap}
 use Rattle.clause_log.specs.Refutations.{Step}
 use Rattle.clause_log.proofs.Steps.{steps_more, flat_more, flat_same, by_ways, on_all}
 use Rattle.clause_log.proofs.log.Log.push.Goals as goal
