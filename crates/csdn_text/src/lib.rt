@@ -1,0 +1,45 @@
+//! Reads a program's text.
+//!
+//! `parse` answers the tree that the text spells, or the first thing that is wrong and where it stands
+//! (docs/LANGUAGE.md). What a text spells is a definition of its own, `Reads`, over the grammar of specs/Grammar.antt.
+#![tactic(auto)]
+
+use std::alloc::AllocError;
+use thiserror::Error;
+
+mod parts;
+
+/// Why a text is no program. Places are bytes from the beginning of the text.
+#[derive(Debug, Drop, Error)]
+pub enum TextRefusal {
+    #[error("out of memory")]
+    Memory,
+    /// The text has more than 65,536 bytes.
+    #[error("the text is too long")]
+    TooLong,
+    /// A byte that begins no token.
+    #[error("byte {at} begins no token")]
+    BadByte { at: usize },
+    /// A number that begins with 0 or isn't from 1 to 65,280.
+    #[error("the number at byte {at} is not from 1 to 65280")]
+    BadNumber { at: usize },
+    /// A word of more than 64 bytes.
+    #[error("the word at byte {at} is longer than 64 bytes")]
+    BadName { at: usize },
+    /// A token, or the end of the text, with which what was read begins no program.
+    #[error("what stands at byte {at} does not fit")]
+    Unexpected { at: usize },
+    /// A token that would stand deeper than 64.
+    #[error("what stands at byte {at} is nested too deep")]
+    TooDeep { at: usize },
+}
+
+impl From<AllocError> for TextRefusal {
+    ghost use Rattle.csdn_text.specs.declared.TextRefusal.TheVariants.{Memory};
+    ghost use Rattle.std.specs.Prelude.{◌≡◌};
+    ghost from_gives = { λ _ e. e ≡ Memory };
+
+    fn from(_: AllocError) -> Self {
+        TextRefusal::Memory
+    }
+}
