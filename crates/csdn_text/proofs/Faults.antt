@@ -14,7 +14,7 @@ use Rattle.csdn_text.specs.Machine.{Takes, Fails, choose, pick, begins, next_is,
 use Rattle.csdn_text.specs.Machine.Takes.{done, step, down}
 use Rattle.csdn_text.specs.Machine.Fails.{memory, unexpected, deep, after_one, inside, after_rule}
 use Rattle.csdn_text.proofs.Sets.{same_is, is_same}
-use Rattle.csdn_text.proofs.Words.{Word, word}
+use Rattle.csdn_text.proofs.Samples.{Word, word}
 use Rattle.csdn_text.proofs.Theory.{Within-append, tokens-append, regroup, sound, down_by, choose-is_rule}
 
 -- a parse has one result
@@ -70,7 +70,7 @@ pick-alike : {n : Nonterminal} (rs : List (Rule n)) (l : Rule n) (ts ts' : List 
 pick-alike [] l ts ts' alike = refl
 pick-alike (r ∷ rs) l ts ts' alike = rw (begins-alike r.parts ts ts' alike, pick-alike rs l ts ts' alike) refl
 
-choose-alike : (n : Nonterminal) (ts ts' : List Token) → Alike ts ts' → choose n ts ≡ choose n ts'
+pub choose-alike : (n : Nonterminal) (ts ts' : List Token) → Alike ts ts' → choose n ts ≡ choose n ts'
 choose-alike n ts ts' alike = pick-alike (rules n).led (rules n).last ts ts' alike
 
 Alike-front : (pre rest rest' : List Token) → Alike rest rest' → Alike (pre ++ rest) (pre ++ rest')

@@ -11,6 +11,7 @@ use Rattle.csdn_text.specs.Machine.{Takes, Fails, Parses, choose, pick, begins, 
 use Rattle.csdn_text.specs.Machine.Takes.{done, step, down}
 use Rattle.csdn_text.specs.Machine.Fails.{memory, unexpected, deep, after_one, inside, after_rule}
 use Rattle.csdn_text.specs.Machine.Parses.{reads, refuses}
+use Rattle.csdn_text.specs.Answers.{seen}
 
 -- which right side is taken
 pub data Chosen {n : Nonterminal} : List (Rule n) → Rule n → List Token → Rule n → Type 0 where

@@ -7,7 +7,13 @@
 use std::alloc::AllocError;
 use thiserror::Error;
 
+mod build;
+mod commands;
+mod formulas;
+mod items;
+mod parser;
 mod parts;
+mod words;
 
 /// Why a text is no program. Places are bytes from the beginning of the text.
 #[derive(Debug, Drop, Error)]
