@@ -7,3 +7,4 @@ pub mod Whole
 pub mod Steps
 pub mod Loops
 pub mod Refusals
+pub mod Clauses

@@ -5,16 +5,14 @@ ghost use Rattle.csdn_tree.specs.declared.syntax.RawCommand.TheVariants as c;
 ghost use Rattle.csdn_text.specs.declared.TextRefusal.TheVariants.{Memory};
 ghost use Rattle.csdn_text.specs.Grammar as grammar;
 
-use std::alloc::{AllocError, Global};
-
+use crate::TextRefusal;
+use crate::parts::{Action, AtomRest, FlowTerms, PacketTerms, Quantifier};
 use csdn_core::terms::Sort;
 use csdn_tokens::Token;
 use csdn_tree::names::{RawName, RawTerm};
 use csdn_tree::syntax::{RawCommand, RawFlow, RawFormula, RawPacket};
 use sqlite_items::{Boxed, Items};
-
-use crate::TextRefusal;
-use crate::parts::{Action, AtomRest, FlowTerms, PacketTerms, Quantifier};
+use std::alloc::{AllocError, Global};
 
 /// The name that a token is.
 pub fn name_at(alloc: Global, word: &Token) -> Result<RawName, AllocError>
@@ -87,10 +85,7 @@ pub fn conjoined(
 ) -> Result<RawFormula, TextRefusal>
     ensures { MatchResult result (λ p. p ≡ f.And left right) (λ e. e ≡ Memory) }
 {
-    Ok(RawFormula::And(
-        Boxed::new(alloc, left)?,
-        Boxed::new(alloc, right)?,
-    ))
+    Ok(RawFormula::And(Boxed::new(alloc, left)?, Boxed::new(alloc, right)?))
 }
 
 pub fn disjoined(
@@ -100,10 +95,7 @@ pub fn disjoined(
 ) -> Result<RawFormula, TextRefusal>
     ensures { MatchResult result (λ p. p ≡ f.Or left right) (λ e. e ≡ Memory) }
 {
-    Ok(RawFormula::Or(
-        Boxed::new(alloc, left)?,
-        Boxed::new(alloc, right)?,
-    ))
+    Ok(RawFormula::Or(Boxed::new(alloc, left)?, Boxed::new(alloc, right)?))
 }
 
 pub fn implied(
@@ -113,10 +105,7 @@ pub fn implied(
 ) -> Result<RawFormula, TextRefusal>
     ensures { MatchResult result (λ p. p ≡ f.Implies left right) (λ e. e ≡ Memory) }
 {
-    Ok(RawFormula::Implies(
-        Boxed::new(alloc, left)?,
-        Boxed::new(alloc, right)?,
-    ))
+    Ok(RawFormula::Implies(Boxed::new(alloc, left)?, Boxed::new(alloc, right)?))
 }
 
 pub fn equated(
@@ -126,10 +115,7 @@ pub fn equated(
 ) -> Result<RawFormula, TextRefusal>
     ensures { MatchResult result (λ p. p ≡ f.Iff left right) (λ e. e ≡ Memory) }
 {
-    Ok(RawFormula::Iff(
-        Boxed::new(alloc, left)?,
-        Boxed::new(alloc, right)?,
-    ))
+    Ok(RawFormula::Iff(Boxed::new(alloc, left)?, Boxed::new(alloc, right)?))
 }
 
 pub fn quantified(
@@ -155,10 +141,7 @@ pub fn followed(
 ) -> Result<RawCommand, TextRefusal>
     ensures { MatchResult result (λ x. x ≡ c.Seq first rest) (λ e. e ≡ Memory) }
 {
-    Ok(RawCommand::Seq(
-        Boxed::new(alloc, first)?,
-        Boxed::new(alloc, rest)?,
-    ))
+    Ok(RawCommand::Seq(Boxed::new(alloc, first)?, Boxed::new(alloc, rest)?))
 }
 
 pub fn branching(

@@ -3,15 +3,13 @@ ghost use Rattle.std.specs.Prelude.{◌≡◌, ◌+◌, ◌≤◌, length, OnOk}
 ghost use Rattle.csdn_text.specs.Symbols.{here, part, block, commands, command, branch, choice, otherwise, action};
 ghost use Rattle.csdn_text.specs.Machine.{Parses, limit};
 
-use std::alloc::Global;
-
-use csdn_tokens::Kind;
-use csdn_tree::syntax::RawCommand;
-
 use crate::TextRefusal;
 use crate::build::{branching, choosing, command_of, followed};
 use crate::parser::Parser;
 use crate::parts::Action;
+use csdn_tokens::Kind;
+use csdn_tree::syntax::RawCommand;
+use std::alloc::Global;
 
 impl<'a> Parser<'a> {
     /// `{commands}`.

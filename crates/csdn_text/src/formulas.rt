@@ -3,16 +3,14 @@ ghost use Rattle.std.specs.Prelude.{◌≡◌, ◌+◌, ◌≤◌, length, OnOk}
 ghost use Rattle.csdn_text.specs.Symbols.{here, part, formula, binds, more_binds, iff, implies, either, both, unary, atom, atom_rest, fact};
 ghost use Rattle.csdn_text.specs.Machine.{Parses, limit};
 
-use std::alloc::Global;
-
-use csdn_tokens::Kind;
-use csdn_tree::names::RawTerm;
-use csdn_tree::syntax::{FlowWord, RawFormula};
-
 use crate::TextRefusal;
 use crate::build::{atom_of, conjoined, disjoined, equated, implied, negated, quantified};
 use crate::parser::Parser;
 use crate::parts::{AtomRest, Quantifier};
+use csdn_tokens::Kind;
+use csdn_tree::names::RawTerm;
+use csdn_tree::syntax::{FlowWord, RawFormula};
+use std::alloc::Global;
 
 impl<'a> Parser<'a> {
     /// A formula.
@@ -38,7 +36,12 @@ impl<'a> Parser<'a> {
 
     /// Bound names and what they are bound in, behind the word.
     #[cycle(formula)]
-    pub fn binds(&mut self, alloc: Global, which: Quantifier, depth: usize) -> Result<RawFormula, TextRefusal>
+    pub fn binds(
+        &mut self,
+        alloc: Global,
+        which: Quantifier,
+        depth: usize,
+    ) -> Result<RawFormula, TextRefusal>
         requires { depth ≤ limit }
         ensures parses { Parses depth (part (binds which) here) self.old self.new result }
         ensures shorter { OnOk result (length self.new + 1 ≤ length self.old) }
@@ -53,7 +56,12 @@ impl<'a> Parser<'a> {
 
     /// Further bound names, or `.` and what they are bound in.
     #[cycle(formula)]
-    pub fn more_binds(&mut self, alloc: Global, which: Quantifier, depth: usize) -> Result<RawFormula, TextRefusal>
+    pub fn more_binds(
+        &mut self,
+        alloc: Global,
+        which: Quantifier,
+        depth: usize,
+    ) -> Result<RawFormula, TextRefusal>
         requires { depth ≤ limit }
         ensures parses { Parses depth (part (more_binds which) here) self.old self.new result }
         ensures shorter { OnOk result (length self.new + 1 ≤ length self.old) }

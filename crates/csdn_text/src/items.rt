@@ -3,16 +3,14 @@ ghost use Rattle.std.specs.Prelude.{◌≡◌, ◌+◌, ◌≤◌, length, OnOk}
 ghost use Rattle.csdn_text.specs.Symbols.{here, part, program, item, static_item, const_item, rel_item, invariant_item, invariant_kind, handler_item, handler_port, initial};
 ghost use Rattle.csdn_text.specs.Machine.{Parses, limit};
 
-use std::alloc::Global;
-
+use crate::TextRefusal;
+use crate::parser::Parser;
 use csdn_tokens::Kind;
 use csdn_tree::syntax::{
     InvariantKind, RawHandler, RawItem, RawPattern, RawProgram, RawRelation, RawRows,
 };
 use sqlite_items::Items;
-
-use crate::TextRefusal;
-use crate::parser::Parser;
+use std::alloc::Global;
 
 impl<'a> Parser<'a> {
     /// An item.

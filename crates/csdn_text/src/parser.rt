@@ -6,11 +6,9 @@ ghost use Rattle.csdn_text.specs.Symbols.{here, token};
 ghost use Rattle.csdn_text.specs.Machine.{Parses, next_is, next_in, in_sort, in_term, in_command, in_item, refused_at, limit};
 ghost use Rattle.csdn_text.specs.Answers.{seen};
 
-use std::marker::Model;
-
-use csdn_tokens::{Kind, Token};
-
 use crate::TextRefusal;
+use csdn_tokens::{Kind, Token};
+use std::marker::Model;
 
 /// The greatest depth.
 const LIMIT: usize = 64;

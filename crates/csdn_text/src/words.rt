@@ -3,19 +3,17 @@ ghost use Rattle.std.specs.Prelude.{◌≡◌, ◌+◌, ◌≤◌, length, OnOk}
 ghost use Rattle.csdn_text.specs.Symbols.{here, part, name, port, term, terms, row, rows, flow, packet, sort, sorts, sort_list};
 ghost use Rattle.csdn_text.specs.Machine.{Parses, limit};
 
-use std::alloc::Global;
-
+use crate::TextRefusal;
+use crate::build::name_at;
+use crate::parser::Parser;
+use crate::parts::{FlowTerms, PacketTerms};
 use csdn_core::program::Sorts;
 use csdn_core::terms::Sort;
 use csdn_tokens::Kind;
 use csdn_tree::names::{RawName, RawNumeral, RawTerm, RawTerms};
 use csdn_tree::syntax::{RawRow, RawRows};
 use sqlite_items::Items;
-
-use crate::TextRefusal;
-use crate::build::name_at;
-use crate::parser::Parser;
-use crate::parts::{FlowTerms, PacketTerms};
+use std::alloc::Global;
 
 impl<'a> Parser<'a> {
     /// A name.
