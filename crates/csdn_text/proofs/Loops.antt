@@ -21,89 +21,97 @@ pub record GoesOn (d : ℕ) (n m : Nonterminal) (old now : List Token) (put : Va
   pub shorter : length now ≤ length old
 
 pub sorts_from : {d : ℕ} {old now : List Token} {x : Sort} → next_in old (first sort) ≡ true → Parses d (part sort here) old now (Ok x)
-  → length now ≤ length old → GoesOn d sort_list more_sorts old now (λ xs. (x ∷ []) ++ xs)
+    → length now ≤ length old → GoesOn d sort_list more_sorts old now (λ xs. (x ∷ []) ++ xs)
 sorts_from begun one shorter = record {
   takes = λ xs rest more. by (this begun) (then one (then more done)) refl;
   fails = λ f rest more. not_by (this begun) (after_part one more);
-  shorter = shorter }
+  shorter = shorter;
+}
 
 pub sorts_on : {d : ℕ} {old now mid later : List Token} {c : Token} {x : Sort} (found : List Sort) → GoesOn d sort_list more_sorts old now (λ xs. found ++ xs)
-  → next_is now k.Comma ≡ true → Parses d (token k.Comma here) now mid (Ok c) → Parses d (part sort here) mid later (Ok x)
-  → length later ≤ length now → GoesOn d sort_list more_sorts old later (λ xs. (found ++ x ∷ []) ++ xs)
+    → next_is now k.Comma ≡ true → Parses d (token k.Comma here) now mid (Ok c) → Parses d (part sort here) mid later (Ok x)
+    → length later ≤ length now → GoesOn d sort_list more_sorts old later (λ xs. (found ++ x ∷ []) ++ xs)
 sorts_on {d} {old} {x = x} found goes comma a b shorter = record {
   takes = λ xs rest more. subst (λ ys. Parses d (part sort_list here) old rest (Ok ys)) (sym (append_assoc found (x ∷ []) xs))
-    (goes.takes (x ∷ xs) rest (by (this comma) (then_token a (then b (then more done))) refl));
+      (goes.takes (x ∷ xs) rest (by (this comma) (then_token a (then b (then more done))) refl));
   fails = λ f rest more. goes.fails f rest (no_part_by (this comma) (after_token a (after_part b more)));
-  shorter = omega arith }
+  shorter = omega arith;
+}
 
 pub sorts_end : {d : ℕ} {old now : List Token} (found : List Sort) → GoesOn d sort_list more_sorts old now (λ xs. found ++ xs) → next_is now k.Comma ≡ false
-  → Parses d (part sort_list here) old now (Ok found)
+    → Parses d (part sort_list here) old now (Ok found)
 sorts_end {d} {old} {now} found goes ended = subst (λ ys. Parses d (part sort_list here) old now (Ok ys)) (append-nil found)
-  (goes.takes [] now (by (other ended last) done refl))
+    (goes.takes [] now (by (other ended last) done refl))
 
 pub rows_from : {d : ℕ} {old now : List Token} {x : RawRow} → next_in old (first row) ≡ true → Parses d (part row here) old now (Ok x)
-  → length now ≤ length old → GoesOn d rows more_rows old now (λ xs. (x ∷ []) ++ xs)
+    → length now ≤ length old → GoesOn d rows more_rows old now (λ xs. (x ∷ []) ++ xs)
 rows_from begun one shorter = record {
   takes = λ xs rest more. by (this begun) (then one (then more done)) refl;
   fails = λ f rest more. not_by (this begun) (after_part one more);
-  shorter = shorter }
+  shorter = shorter;
+}
 
 pub rows_on : {d : ℕ} {old now mid later : List Token} {c : Token} {x : RawRow} (found : List RawRow) → GoesOn d rows more_rows old now (λ xs. found ++ xs)
-  → next_is now k.Comma ≡ true → Parses d (token k.Comma here) now mid (Ok c) → Parses d (part row here) mid later (Ok x)
-  → length later ≤ length now → GoesOn d rows more_rows old later (λ xs. (found ++ x ∷ []) ++ xs)
+    → next_is now k.Comma ≡ true → Parses d (token k.Comma here) now mid (Ok c) → Parses d (part row here) mid later (Ok x)
+    → length later ≤ length now → GoesOn d rows more_rows old later (λ xs. (found ++ x ∷ []) ++ xs)
 rows_on {d} {old} {x = x} found goes comma a b shorter = record {
   takes = λ xs rest more. subst (λ ys. Parses d (part rows here) old rest (Ok ys)) (sym (append_assoc found (x ∷ []) xs))
-    (goes.takes (x ∷ xs) rest (by (this comma) (then_token a (then b (then more done))) refl));
+      (goes.takes (x ∷ xs) rest (by (this comma) (then_token a (then b (then more done))) refl));
   fails = λ f rest more. goes.fails f rest (no_part_by (this comma) (after_token a (after_part b more)));
-  shorter = omega arith }
+  shorter = omega arith;
+}
 
 pub rows_end : {d : ℕ} {old now : List Token} (found : List RawRow) → GoesOn d rows more_rows old now (λ xs. found ++ xs) → next_is now k.Comma ≡ false
-  → Parses d (part rows here) old now (Ok found)
+    → Parses d (part rows here) old now (Ok found)
 rows_end {d} {old} {now} found goes ended = subst (λ ys. Parses d (part rows here) old now (Ok ys)) (append-nil found)
-  (goes.takes [] now (by (other ended last) done refl))
+    (goes.takes [] now (by (other ended last) done refl))
 
 pub terms_from : {d : ℕ} {old now : List Token} {x : RawTerm} → next_in old (first term) ≡ true → Parses d (part term here) old now (Ok x)
-  → length now ≤ length old → GoesOn d terms more_terms old now (λ xs. (x ∷ []) ++ xs)
+    → length now ≤ length old → GoesOn d terms more_terms old now (λ xs. (x ∷ []) ++ xs)
 terms_from begun one shorter = record {
   takes = λ xs rest more. by (this begun) (then one (then more done)) refl;
   fails = λ f rest more. not_by (this begun) (after_part one more);
-  shorter = shorter }
+  shorter = shorter;
+}
 
 pub terms_on : {d : ℕ} {old now mid later : List Token} {c : Token} {x : RawTerm} (found : List RawTerm) → GoesOn d terms more_terms old now (λ xs. found ++ xs)
-  → next_is now k.Comma ≡ true → Parses d (token k.Comma here) now mid (Ok c) → Parses d (part term here) mid later (Ok x)
-  → length later ≤ length now → GoesOn d terms more_terms old later (λ xs. (found ++ x ∷ []) ++ xs)
+    → next_is now k.Comma ≡ true → Parses d (token k.Comma here) now mid (Ok c) → Parses d (part term here) mid later (Ok x)
+    → length later ≤ length now → GoesOn d terms more_terms old later (λ xs. (found ++ x ∷ []) ++ xs)
 terms_on {d} {old} {x = x} found goes comma a b shorter = record {
   takes = λ xs rest more. subst (λ ys. Parses d (part terms here) old rest (Ok ys)) (sym (append_assoc found (x ∷ []) xs))
-    (goes.takes (x ∷ xs) rest (by (this comma) (then_token a (then b (then more done))) refl));
+      (goes.takes (x ∷ xs) rest (by (this comma) (then_token a (then b (then more done))) refl));
   fails = λ f rest more. goes.fails f rest (no_part_by (this comma) (after_token a (after_part b more)));
-  shorter = omega arith }
+  shorter = omega arith;
+}
 
 pub terms_end : {d : ℕ} {old now : List Token} (found : List RawTerm) → GoesOn d terms more_terms old now (λ xs. found ++ xs) → next_is now k.Comma ≡ false
-  → Parses d (part terms here) old now (Ok found)
+    → Parses d (part terms here) old now (Ok found)
 terms_end {d} {old} {now} found goes ended = subst (λ ys. Parses d (part terms here) old now (Ok ys)) (append-nil found)
-  (goes.takes [] now (by (other ended last) done refl))
+    (goes.takes [] now (by (other ended last) done refl))
 
 -- the tree of some items
 abbrev pub of_items : List RawItem → RawProgram
 of_items xs = record { items = xs }
 
 pub items_from : {d : ℕ} {old now : List Token} {x : RawItem} → Parses d (part item here) old now (Ok x)
-  → length now ≤ length old → GoesOn d program items old now (λ xs. of_items ((x ∷ []) ++ xs))
+    → length now ≤ length old → GoesOn d program items old now (λ xs. of_items ((x ∷ []) ++ xs))
 items_from one shorter = record {
   takes = λ xs rest more. by last (then one (then more done)) refl;
   fails = λ f rest more. not_by last (after_part one more);
-  shorter = shorter }
+  shorter = shorter;
+}
 
 pub items_on : {d : ℕ} {old now later : List Token} {x : RawItem} (found : List RawItem) → GoesOn d program items old now (λ xs. of_items (found ++ xs)) → next_in now (first item) ≡ true
-  → Parses d (part item here) now later (Ok x)
-  → length later ≤ length now → GoesOn d program items old later (λ xs. of_items ((found ++ x ∷ []) ++ xs))
+    → Parses d (part item here) now later (Ok x)
+    → length later ≤ length now → GoesOn d program items old later (λ xs. of_items ((found ++ x ∷ []) ++ xs))
 items_on {d} {old} {x = x} found goes begun one shorter = record {
   takes = λ xs rest more. subst (λ ys. Parses d (part program here) old rest (Ok (of_items ys))) (sym (append_assoc found (x ∷ []) xs))
-    (goes.takes (x ∷ xs) rest (by (this begun) (then one (then more done)) refl));
+      (goes.takes (x ∷ xs) rest (by (this begun) (then one (then more done)) refl));
   fails = λ f rest more. goes.fails f rest (no_part_by (this begun) (after_part one more));
-  shorter = omega arith }
+  shorter = omega arith;
+}
 
 pub items_end : {d : ℕ} {old now : List Token} (found : List RawItem) → GoesOn d program items old now (λ xs. of_items (found ++ xs)) → next_in now (first item) ≡ false
-  → Parses d (part program here) old now (Ok (of_items found))
+    → Parses d (part program here) old now (Ok (of_items found))
 items_end {d} {old} {now} found goes ended = subst (λ ys. Parses d (part program here) old now (Ok (of_items ys))) (append-nil found)
-  (goes.takes [] now (by (other ended last) done refl))
+    (goes.takes [] now (by (other ended last) done refl))

@@ -109,7 +109,7 @@ none_at ks after (r ∷ rs) = apart ks (heads after r.parts) && none_at ks after
 abbrev pub told_apart : {n : Nonterminal} → List Kind → List (Rule n) → Rule n → Bool
 told_apart after [] last = true
 told_apart after (r ∷ rs) last =
-  (not (erasable r.parts) && within (starts r.parts) (lead r.parts)) && (none_at (lead r.parts) after (rs ++ last ∷ []) && told_apart after rs last)
+    (not (erasable r.parts) && within (starts r.parts) (lead r.parts)) && (none_at (lead r.parts) after (rs ++ last ∷ []) && told_apart after rs last)
 
 -- whether a right side keeps the tables
 abbrev pub keeps_rule : (n : Nonterminal) → Rule n → Bool

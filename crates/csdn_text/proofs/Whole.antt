@@ -21,17 +21,17 @@ use Rattle.csdn_text.proofs.Theory.{Within-append, Within-front, Within-back, re
 use Rattle.csdn_text.proofs.Faults.{unique, not_both, Counts, front, Front, refused_at-counts, IsMisfit as Again}
 
 takes_then : {most d : ℕ} {l : Level} {n : Nonterminal} {ss : List Symbol} {ts mid rest : List Token} {v : Value n} {vs : Values ss}
-  → Takes most d (part n l ∷ []) ts (v, tt) mid → Takes most d ss mid vs rest → Takes most d (part n l ∷ ss) ts (v, vs) rest
+    → Takes most d (part n l ∷ []) ts (v, tt) mid → Takes most d ss mid vs rest → Takes most d (part n l ∷ ss) ts (v, vs) rest
 takes_then (down inner done) later = down inner later
 
 -- a program is taken at every depth that it keeps
 takes_whole : {most : ℕ} {ms : List Mark} {raw : RawProgram} {stop : Token} (rest : List Token) → Derives 1 whole ms (raw, (stop, tt))
-  → Within most ms → Takes most 1 whole (tokens_of ms ++ rest) (raw, (stop, tt)) rest
+    → Within most ms → Takes most 1 whole (tokens_of ms ++ rest) (raw, (stop, tt)) rest
 takes_whole {most} {raw = raw} {stop = stop} rest (by_rule {ms = ms} {ms' = ms'} r is inner (one ends nothing)) deep =
-  let alone : Within most (ms ++ []) = Within-append most ms [] (Within-front most ms ms' deep) tt in
-  let next : next_in (stop ∷ rest) (k.Stop ∷ []) ≡ true = rw (is_same stop.kind k.Stop ends) refl in
-  let first = complete (k.Stop ∷ []) (stop ∷ rest) (by_rule r is inner nothing) alone refl next in
-  subst (λ ts. Takes most 1 whole ts (raw, (stop, tt)) rest)
+    let alone : Within most (ms ++ []) = Within-append most ms [] (Within-front most ms ms' deep) tt in
+    let next : next_in (stop ∷ rest) (k.Stop ∷ []) ≡ true = rw (is_same stop.kind k.Stop ends) refl in
+    let first = complete (k.Stop ∷ []) (stop ∷ rest) (by_rule r is inner nothing) alone refl next in
+    subst (λ ts. Takes most 1 whole ts (raw, (stop, tt)) rest)
     (regroup ms [] (stop ∷ rest) ∙ sym (regroup ms ms' rest))
     (takes_then first (step (is_same stop.kind k.Stop ends) (Within-back most ms ms' deep).0 done))
 
@@ -43,28 +43,33 @@ Within-up most most' (m ∷ ms) up h = (omega (arith, h.0), Within-up most most'
 deepest : (ms : List Mark) → (most : ℕ) × (limit ≤ most) × Within most ms
 deepest [] = (limit, omega arith, tt)
 deepest (m ∷ ms) = let more = deepest ms in
-  (m.depth + more.0, omega (arith, more.1), (omega arith, Within-up more.0 (m.depth + more.0) ms (omega arith) more.2))
+    (m.depth + more.0, omega (arith, more.1), (omega arith, Within-up more.0 (m.depth + more.0) ms (omega arith) more.2))
 
 -- where a text reads as a program, it is taken
 taken : {ts : List Token} {raw : RawProgram} (h : ReadsTokens ts raw) → Takes limit 1 whole ts (raw, (h.program.stop, tt)) h.rest
 taken {ts} {raw} h = subst (λ xs. Takes limit 1 whole xs (raw, (h.program.stop, tt)) h.rest) (sym h.spelled)
-  (takes_whole h.rest h.program.derives h.within)
+    (takes_whole h.rest h.program.derives h.within)
 
 pub answers_ok : {ts rest : List Token} {raw : RawProgram} {stop : Token} → Takes limit 1 whole ts (raw, (stop, tt)) rest → Answers ts (Ok raw)
 answers_ok {ts} {rest} {raw} {stop} whole_taken =
-  let s = sound whole_taken in
-  record {
-    right = record { marks = s.0; rest = rest; program = record { stop = stop; derives = s.3 }; spelled = s.1; within = s.2 };
-    only = λ raw' reads. ap (λ vs. vs.0) (unique whole_taken (taken reads)).0 }
+    let s = sound whole_taken in
+    record {
+      right = record { marks = s.0; rest = rest; program = record { stop = stop; derives = s.3 }; spelled = s.1; within = s.2 };
+      only = λ raw' reads. ap (λ vs. vs.0) (unique whole_taken (taken reads)).0;
+    }
 
 misfit : {ts : List Token} (f : TextRefusal) → (h : Front limit 1 whole ts f) → Again f → Counts f → f ≡ refused_at h.rest → IsMisfit ts f
 misfit f h kept counts is = record {
-  before = tokens_of h.taken; rest = h.rest; split = h.split; refusal_is = is;
+  before = tokens_of h.taken;
+  rest = h.rest;
+  split = h.split;
+  refusal_is = is;
   begins = record { marks = h.taken; more = h.more; raw = h.values.0; program = record { stop = h.values.1.0; derives = h.derives }; spelled = refl; within = h.within };
   none = λ ms raw rest' is alike spelled.
-    let d = deepest ms in
-    not_both (subst (λ xs. Takes d.0 1 whole xs (raw, (is.stop, tt)) []) (append-nil (tokens_of ms) ∙ spelled) (takes_whole [] is.derives d.2))
-      (h.again kept d.0 d.1 rest' alike) (refused_at-counts rest') }
+      let d = deepest ms in
+      not_both (subst (λ xs. Takes d.0 1 whole xs (raw, (is.stop, tt)) []) (append-nil (tokens_of ms) ∙ spelled) (takes_whole [] is.derives d.2))
+      (h.again kept d.0 d.1 rest' alike) (refused_at-counts rest');
+}
 
 refused : {ts : List Token} (f : TextRefusal) → Front limit 1 whole ts f → IsRefused ts f
 refused Memory h = tt
@@ -74,9 +79,17 @@ refused (BadName p) h = misfit (BadName p) h tt tt h.stands
 refused (BadNumber p) h = misfit (BadNumber p) h tt tt h.stands
 refused (Unexpected p) h = misfit (Unexpected p) h tt tt h.stands
 refused (TooDeep p) h = record {
-  before = h.taken; next = h.stands.mark; more = h.stands.others; rest = h.stands.after; raw = h.values.0;
+  before = h.taken;
+  next = h.stands.mark;
+  more = h.stands.others;
+  rest = h.stands.after;
+  raw = h.values.0;
   program = record { stop = h.values.1.0; derives = subst (λ ms. Derives 1 whole (h.taken ++ ms) h.values) h.stands.more_is h.derives };
-  split = h.split ∙ ap (λ xs. tokens_of h.taken ++ xs) h.stands.rest_is; place_is = h.stands.place_is; within = h.within; deep = h.stands.deep }
+  split = h.split ∙ ap (λ xs. tokens_of h.taken ++ xs) h.stands.rest_is;
+  place_is = h.stands.place_is;
+  within = h.within;
+  deep = h.stands.deep;
+}
 
 disagrees : {ts : List Token} {raw : RawProgram} (f : TextRefusal) → Fails limit 1 whole ts f → ReadsTokens ts raw → Agrees raw (Err f)
 disagrees Memory fault reads = tt
@@ -97,10 +110,13 @@ answers_exit {ts} {f} (Err e) is fault = subst (λ x. Answers ts (Err x)) (sym i
 pub text_answers : {text : List ℕ} {ts : List Token} (r : Result RawProgram TextRefusal) → length text ≤ 65536 → Lexes 0 text ts → Answers ts r → AnswersText text r
 text_answers {text} {ts} r short lexes h = record {
   right = right_of r h.right;
-  only = λ raw reads. h.only raw (subst (λ xs. ReadsTokens xs raw) (lexes_one reads.lexes lexes) reads.reads) }
+  only = λ raw reads. h.only raw (subst (λ xs. ReadsTokens xs raw) (lexes_one reads.lexes lexes) reads.reads);
+  too_long = λ many. absurd (omega arith);
+}
   where
     misfit_of : (f : TextRefusal) → IsMisfit ts f → IsRefusedText text f
     misfit_of f refused = misfits (record { short = short; tokens = ts; lexes = lexes; misfit = refused })
+
     right_of : (x : Result RawProgram TextRefusal) → Right ts x → RightText text x
     right_of (Ok raw) reads = record { short = short; tokens = ts; lexes = lexes; reads = reads }
     right_of (Err Memory) refused = tt
@@ -115,14 +131,14 @@ pub text_exit : {text : List ℕ} {f : TextRefusal} (r : Result RawProgram TextR
 text_exit (Ok v) is fault = elim is [ ]
 text_exit {text} {f} (Err e) is fault = subst (λ x. AnswersText text (Err x)) (sym is) fault
 
-pub text_memory : {text : List ℕ} → AnswersText text (Err Memory)
-text_memory = record { right = tt; only = λ raw reads. tt }
+pub text_memory : {text : List ℕ} → length text ≤ 65536 → AnswersText text (Err Memory)
+text_memory short = record { right = tt; only = λ raw reads. tt; too_long = λ many. absurd (omega arith) }
 
 pub text_long : {text : List ℕ} → 65536 < length text → AnswersText text (Err TooLong)
-text_long many = record { right = long many; only = λ raw reads. absurd (let short = reads.short in omega arith) }
+text_long many = record { right = long many; only = λ raw reads. absurd (let short = reads.short in omega arith); too_long = λ _. refl }
 
 -- a text reads as one tree
 pub reads_one : {text : List ℕ} {raw raw' : RawProgram} → Reads text raw → Reads text raw' → raw ≡ raw'
 reads_one {text} {raw} {raw'} h h' =
-  let reads : ReadsTokens h.tokens raw' = subst (λ ts. ReadsTokens ts raw') (lexes_one h'.lexes h.lexes) h'.reads in
-  ap (λ vs. vs.0) (unique (taken h.reads) (taken reads)).0
+    let reads : ReadsTokens h.tokens raw' = subst (λ ts. ReadsTokens ts raw') (lexes_one h'.lexes h.lexes) h'.reads in
+    ap (λ vs. vs.0) (unique (taken h.reads) (taken reads)).0

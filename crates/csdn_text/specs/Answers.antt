@@ -1,5 +1,5 @@
 -- What the private steps of reading answer.
-use Rattle.std.specs.Prelude.{◌≡◌, ℕ, List, Result, Ok, Err}
+use Rattle.std.specs.Prelude.{◌≡◌, ℕ, ◌<◌, List, length, Result, Ok, Err}
 use denote.Bor.{Bor}
 use Rattle.csdn_tokens.specs.declared.Token.{Token}
 use Rattle.csdn_tree.specs.declared.syntax.RawProgram.{RawProgram}
@@ -38,7 +38,8 @@ RightText text (Ok raw) = Reads text raw
 RightText text (Err Memory) = Unit {0}
 RightText text (Err f) = IsRefusedText text f
 
--- What the reading of a text answers.
+-- What the reading of a text answers. That it is too long comes before want of memory.
 pub record AnswersText (text : List ℕ) (r : Result RawProgram TextRefusal) : Type 0 where
   pub right : RightText text r
   pub only : (raw : RawProgram) → Reads text raw → Agrees raw r
+  pub too_long : 65536 < length text → r ≡ Err TooLong

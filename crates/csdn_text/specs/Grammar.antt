@@ -76,178 +76,226 @@ command_of x (a.Flood ts) = c.Flood (packet_of x ts)
 abbrev pub rules : (n : Nonterminal) → Rules n
 rules program = record {
   led = [];
-  last = rule (part item here ∷ part items here ∷ []) (λ first rest. record { items = first ∷ rest }) }
+  last = rule (part item here ∷ part items here ∷ []) (λ first rest. record { items = first ∷ rest });
+}
 rules items = record {
   led = rule (part item here ∷ part items here ∷ []) (λ first rest. first ∷ rest) ∷ [];
-  last = rule [] [] }
+  last = rule [] [];
+}
 rules item = record {
   led = rule (part static_item here ∷ []) (λ x. x)
-    ∷ rule (part const_item here ∷ []) (λ x. x)
-    ∷ rule (part rel_item here ∷ []) (λ x. x)
-    ∷ rule (part handler_item here ∷ []) (λ x. x)
-    ∷ [];
-  last = rule (part invariant_item here ∷ []) (λ x. x) }
+      ∷ rule (part const_item here ∷ []) (λ x. x)
+      ∷ rule (part rel_item here ∷ []) (λ x. x)
+      ∷ rule (part handler_item here ∷ []) (λ x. x)
+      ∷ [];
+  last = rule (part invariant_item here ∷ []) (λ x. x);
+}
 rules static_item = record {
   led = [];
   last = rule (token k.Static here ∷ part name here ∷ part sorts here ∷ token k.Semicolon here ∷ [])
-    (λ _ x ss _. i.Relation (record { name = x; sorts = ss; fixed = true; rows = [] })) }
+      (λ _ x ss _. i.Relation (record { name = x; sorts = ss; fixed = true; rows = [] }));
+}
 rules const_item = record {
   led = [];
   last = rule (token k.Const here ∷ part name here ∷ token k.Colon here ∷ part sort here ∷ token k.Semicolon here ∷ [])
-    (λ _ x _ s _. i.Constant x s) }
+      (λ _ x _ s _. i.Constant x s);
+}
 rules rel_item = record {
   led = [];
   last = rule (token k.Rel here ∷ part name here ∷ part sorts here ∷ part initial here ∷ token k.Semicolon here ∷ [])
-    (λ _ x ss rs _. i.Relation (record { name = x; sorts = ss; fixed = false; rows = rs })) }
+      (λ _ x ss rs _. i.Relation (record { name = x; sorts = ss; fixed = false; rows = rs }));
+}
 rules invariant_item = record {
   led = [];
   last = rule (part invariant_kind here ∷ part name here ∷ token k.Colon here ∷ part formula here ∷ token k.Semicolon here ∷ [])
-    (λ kind x _ p _. i.Invariant kind x p) }
+      (λ kind x _ p _. i.Invariant kind x p);
+}
 rules invariant_kind = record {
   led = rule (token k.Topology here ∷ []) (λ _. v.Topology)
-    ∷ rule (token k.Safety here ∷ []) (λ _. v.Safety)
-    ∷ [];
-  last = rule (token k.Trans here ∷ []) (λ _. v.Trans) }
+      ∷ rule (token k.Safety here ∷ []) (λ _. v.Safety)
+      ∷ [];
+  last = rule (token k.Trans here ∷ []) (λ _. v.Trans);
+}
 rules handler_item = record {
   led = [];
   last = rule (token k.PktIn here ∷ token k.Open here ∷ part name here ∷ token k.Comma here ∷ part name here ∷ token k.Arrow here
       ∷ part name here ∷ token k.Comma here ∷ part handler_port here ∷ token k.Close here ∷ part block here ∷ [])
-    (λ word _ switch _ source _ target _ ingress _ body. i.Handler (record { at = word.at; switch = switch; source = source; target = target; ingress = ingress; body = body })) }
+      (λ word _ switch _ source _ target _ ingress _ body. i.Handler (record { at = word.at; switch = switch; source = source; target = target; ingress = ingress; body = body }));
+}
 rules handler_port = record {
   led = rule (part port here ∷ []) (λ n. p.Port n) ∷ [];
-  last = rule (part name here ∷ []) (λ x. p.Any x) }
+  last = rule (part name here ∷ []) (λ x. p.Any x);
+}
 rules sorts = record {
   led = [];
-  last = rule (token k.Open here ∷ part sort_list here ∷ token k.Close here ∷ []) (λ _ ss _. ss) }
+  last = rule (token k.Open here ∷ part sort_list here ∷ token k.Close here ∷ []) (λ _ ss _. ss);
+}
 rules sort_list = record {
   led = rule (part sort here ∷ part more_sorts here ∷ []) (λ s ss. s ∷ ss) ∷ [];
-  last = rule [] [] }
+  last = rule [] [];
+}
 rules more_sorts = record {
   led = rule (token k.Comma here ∷ part sort here ∷ part more_sorts here ∷ []) (λ _ s ss. s ∷ ss) ∷ [];
-  last = rule [] [] }
+  last = rule [] [];
+}
 rules sort = record {
   led = rule (token k.Sw here ∷ []) (λ _. s.Sw) ∷ rule (token k.Ho here ∷ []) (λ _. s.Ho) ∷ [];
-  last = rule (token k.Pr here ∷ []) (λ _. s.Pr) }
+  last = rule (token k.Pr here ∷ []) (λ _. s.Pr);
+}
 rules initial = record {
   led = rule (token k.Equals here ∷ token k.Begin here ∷ part rows here ∷ token k.End here ∷ []) (λ _ _ rs _. rs) ∷ [];
-  last = rule [] [] }
+  last = rule [] [];
+}
 rules rows = record {
   led = rule (part row here ∷ part more_rows here ∷ []) (λ r rs. r ∷ rs) ∷ [];
-  last = rule [] [] }
+  last = rule [] [];
+}
 rules more_rows = record {
   led = rule (token k.Comma here ∷ part row here ∷ part more_rows here ∷ []) (λ _ r rs. r ∷ rs) ∷ [];
-  last = rule [] [] }
+  last = rule [] [];
+}
 rules row = record {
   led = [];
-  last = rule (token k.Open here ∷ part terms here ∷ token k.Close here ∷ []) (λ begin ts _. record { at = begin.at; terms = ts }) }
+  last = rule (token k.Open here ∷ part terms here ∷ token k.Close here ∷ []) (λ begin ts _. record { at = begin.at; terms = ts });
+}
 rules terms = record {
   led = rule (part term here ∷ part more_terms here ∷ []) (λ u us. u ∷ us) ∷ [];
-  last = rule [] [] }
+  last = rule [] [];
+}
 rules more_terms = record {
   led = rule (token k.Comma here ∷ part term here ∷ part more_terms here ∷ []) (λ _ u us. u ∷ us) ∷ [];
-  last = rule [] [] }
+  last = rule [] [];
+}
 rules name = record {
   led = [];
-  last = rule (token k.Name here ∷ []) (λ x. name_of x) }
+  last = rule (token k.Name here ∷ []) (λ x. name_of x);
+}
 rules term = record {
   led = rule (part port here ∷ []) (λ n. t.Port n) ∷ [];
-  last = rule (part name here ∷ []) (λ x. t.Name x) }
+  last = rule (part name here ∷ []) (λ x. t.Name x);
+}
 rules port = record {
   led = [];
-  last = rule (token k.Prt here ∷ token k.Open here ∷ token k.Number here ∷ token k.Close here ∷ []) (λ word _ number _. numeral_of word number) }
+  last = rule (token k.Prt here ∷ token k.Open here ∷ token k.Number here ∷ token k.Close here ∷ []) (λ word _ number _. numeral_of word number);
+}
 rules formula = record {
   led = rule (token k.Forall here ∷ part (binds q.All) here ∷ []) (λ _ p. p)
-    ∷ rule (token k.Exists here ∷ part (binds q.Some) here ∷ []) (λ _ p. p) ∷ [];
-  last = rule (part iff here ∷ []) (λ p. p) }
+      ∷ rule (token k.Exists here ∷ part (binds q.Some) here ∷ []) (λ _ p. p) ∷ [];
+  last = rule (part iff here ∷ []) (λ p. p);
+}
 rules (binds which) = record {
   led = [];
-  last = rule (part name deeper ∷ token k.Colon deeper ∷ part sort deeper ∷ part (more_binds which) deeper ∷ []) (λ x _ s body. quantified which x s body) }
+  last = rule (part name deeper ∷ token k.Colon deeper ∷ part sort deeper ∷ part (more_binds which) deeper ∷ []) (λ x _ s body. quantified which x s body);
+}
 rules (more_binds which) = record {
   led = rule (token k.Comma here ∷ part (binds which) here ∷ []) (λ _ p. p) ∷ [];
-  last = rule (token k.Dot here ∷ part formula here ∷ []) (λ _ p. p) }
+  last = rule (token k.Dot here ∷ part formula here ∷ []) (λ _ p. p);
+}
 rules iff = record {
   led = [];
-  last = rule (part implies here ∷ part iff_tail here ∷ []) (λ p tail. joined f.Iff p tail) }
+  last = rule (part implies here ∷ part iff_tail here ∷ []) (λ p tail. joined f.Iff p tail);
+}
 rules iff_tail = record {
   led = rule (token k.Both deeper ∷ part implies deeper ∷ []) (λ _ p. Some p) ∷ [];
-  last = rule [] None }
+  last = rule [] None;
+}
 rules implies = record {
   led = [];
-  last = rule (part either here ∷ part implies_tail here ∷ []) (λ p tail. joined f.Implies p tail) }
+  last = rule (part either here ∷ part implies_tail here ∷ []) (λ p tail. joined f.Implies p tail);
+}
 rules implies_tail = record {
   led = rule (token k.Arrow deeper ∷ part implies deeper ∷ []) (λ _ p. Some p) ∷ [];
-  last = rule [] None }
+  last = rule [] None;
+}
 rules either = record {
   led = [];
-  last = rule (part both here ∷ part either_tail here ∷ []) (λ p tail. joined f.Or p tail) }
+  last = rule (part both here ∷ part either_tail here ∷ []) (λ p tail. joined f.Or p tail);
+}
 rules either_tail = record {
   led = rule (token k.Or deeper ∷ part either deeper ∷ []) (λ _ p. Some p) ∷ [];
-  last = rule [] None }
+  last = rule [] None;
+}
 rules both = record {
   led = [];
-  last = rule (part unary here ∷ part both_tail here ∷ []) (λ p tail. joined f.And p tail) }
+  last = rule (part unary here ∷ part both_tail here ∷ []) (λ p tail. joined f.And p tail);
+}
 rules both_tail = record {
   led = rule (token k.And deeper ∷ part both deeper ∷ []) (λ _ p. Some p) ∷ [];
-  last = rule [] None }
+  last = rule [] None;
+}
 rules unary = record {
   led = rule (token k.Not deeper ∷ part unary deeper ∷ []) (λ _ p. f.Not p) ∷ [];
-  last = rule (part atom here ∷ []) (λ p. p) }
+  last = rule (part atom here ∷ []) (λ p. p);
+}
 rules atom = record {
   led = rule (token k.True here ∷ []) (λ _. f.True)
-    ∷ rule (token k.False here ∷ []) (λ _. f.False)
-    ∷ rule (token k.Open deeper ∷ part formula deeper ∷ token k.Close deeper ∷ []) (λ _ p _. p)
-    ∷ rule (part port here ∷ token k.Equals here ∷ part term here ∷ []) (λ n _ u. f.Same (t.Port n) u)
-    ∷ [];
-  last = rule (part name here ∷ part atom_rest here ∷ []) (λ x rest. atom_of x rest) }
+      ∷ rule (token k.False here ∷ []) (λ _. f.False)
+      ∷ rule (token k.Open deeper ∷ part formula deeper ∷ token k.Close deeper ∷ []) (λ _ p _. p)
+      ∷ rule (part port here ∷ token k.Equals here ∷ part term here ∷ []) (λ n _ u. f.Same (t.Port n) u)
+      ∷ [];
+  last = rule (part name here ∷ part atom_rest here ∷ []) (λ x rest. atom_of x rest);
+}
 rules atom_rest = record {
   led = rule (token k.Equals here ∷ part term here ∷ []) (λ _ u. r.Same u)
-    ∷ rule (token k.Dot here ∷ part fact here ∷ []) (λ _ x. x)
-    ∷ [];
-  last = rule (part row here ∷ []) (λ x. r.Row x.terms) }
+      ∷ rule (token k.Dot here ∷ part fact here ∷ []) (λ _ x. x)
+      ∷ [];
+  last = rule (part row here ∷ []) (λ x. r.Row x.terms);
+}
 rules fact = record {
   led = rule (token k.Ft here ∷ part flow here ∷ []) (λ word ts. r.Flow word.at w.Ft ts)
-    ∷ rule (token k.Sent here ∷ part flow here ∷ []) (λ word ts. r.Flow word.at w.Sent ts)
-    ∷ [];
-  last = rule (token k.RcvThis here ∷ part packet here ∷ []) (λ word ts. r.RcvThis word.at ts) }
+      ∷ rule (token k.Sent here ∷ part flow here ∷ []) (λ word ts. r.Flow word.at w.Sent ts)
+      ∷ [];
+  last = rule (token k.RcvThis here ∷ part packet here ∷ []) (λ word ts. r.RcvThis word.at ts);
+}
 rules flow = record {
   led = [];
   last = rule (token k.Open here ∷ part term here ∷ token k.Arrow here ∷ part term here ∷ token k.Comma here ∷ part term here
       ∷ token k.Arrow here ∷ part term here ∷ token k.Close here ∷ [])
-    (λ _ source _ target _ ingress _ egress _. record { source = source; target = target; ingress = ingress; egress = egress }) }
+      (λ _ source _ target _ ingress _ egress _. record { source = source; target = target; ingress = ingress; egress = egress });
+}
 rules packet = record {
   led = [];
   last = rule (token k.Open here ∷ part term here ∷ token k.Arrow here ∷ part term here ∷ token k.Comma here ∷ part term here ∷ token k.Close here ∷ [])
-    (λ _ source _ target _ ingress _. record { source = source; target = target; ingress = ingress }) }
+      (λ _ source _ target _ ingress _. record { source = source; target = target; ingress = ingress });
+}
 rules block = record {
   led = [];
-  last = rule (token k.Begin deeper ∷ part commands deeper ∷ token k.End deeper ∷ []) (λ _ body _. body) }
+  last = rule (token k.Begin deeper ∷ part commands deeper ∷ token k.End deeper ∷ []) (λ _ body _. body);
+}
 rules commands = record {
   led = [];
-  last = rule (part command here ∷ part more_commands here ∷ []) (λ first rest. joined c.Seq first rest) }
+  last = rule (part command here ∷ part more_commands here ∷ []) (λ first rest. joined c.Seq first rest);
+}
 rules more_commands = record {
   led = rule (part commands deeper ∷ []) (λ rest. Some rest) ∷ [];
-  last = rule [] None }
+  last = rule [] None;
+}
 rules command = record {
   led = rule (token k.Skip here ∷ token k.Semicolon here ∷ []) (λ _ _. c.Skip)
-    ∷ rule (part branch here ∷ []) (λ x. x)
-    ∷ rule (part choice here ∷ []) (λ x. x)
-    ∷ [];
-  last = rule (part name here ∷ token k.Dot here ∷ part action here ∷ token k.Semicolon here ∷ []) (λ x _ act _. command_of x act) }
+      ∷ rule (part branch here ∷ []) (λ x. x)
+      ∷ rule (part choice here ∷ []) (λ x. x)
+      ∷ [];
+  last = rule (part name here ∷ token k.Dot here ∷ part action here ∷ token k.Semicolon here ∷ []) (λ x _ act _. command_of x act);
+}
 rules branch = record {
   led = [];
-  last = rule (token k.If here ∷ part formula here ∷ part block here ∷ part otherwise here ∷ []) (λ _ p body other. c.If p body other) }
+  last = rule (token k.If here ∷ part formula here ∷ part block here ∷ part otherwise here ∷ []) (λ _ p body other. c.If p body other);
+}
 rules choice = record {
   led = [];
   last = rule (token k.Pick here ∷ part name here ∷ token k.Colon here ∷ part sort here ∷ token k.Where here ∷ part formula here
       ∷ part block here ∷ part otherwise here ∷ [])
-    (λ _ x _ s _ p body other. c.Pick x s p body other) }
+      (λ _ x _ s _ p body other. c.Pick x s p body other);
+}
 rules otherwise = record {
   led = rule (token k.Else here ∷ part block here ∷ []) (λ _ body. body) ∷ [];
-  last = rule [] c.Skip }
+  last = rule [] c.Skip;
+}
 rules action = record {
   led = rule (token k.Insert here ∷ part row here ∷ []) (λ _ x. a.Insert x.terms)
-    ∷ rule (token k.Remove here ∷ part row here ∷ []) (λ _ x. a.Remove x.terms)
-    ∷ rule (token k.Install here ∷ part flow here ∷ []) (λ _ ts. a.Install ts)
-    ∷ rule (token k.Forward here ∷ part flow here ∷ []) (λ _ ts. a.Forward ts)
-    ∷ [];
-  last = rule (token k.Flood here ∷ part packet here ∷ []) (λ _ ts. a.Flood ts) }
+      ∷ rule (token k.Remove here ∷ part row here ∷ []) (λ _ x. a.Remove x.terms)
+      ∷ rule (token k.Install here ∷ part flow here ∷ []) (λ _ ts. a.Install ts)
+      ∷ rule (token k.Forward here ∷ part flow here ∷ []) (λ _ ts. a.Forward ts)
+      ∷ [];
+  last = rule (token k.Flood here ∷ part packet here ∷ []) (λ _ ts. a.Flood ts);
+}

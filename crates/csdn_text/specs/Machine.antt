@@ -128,29 +128,29 @@ choose n ts = pick (rules n).led (rules n).last ts
 pub data Takes (most : ℕ) : ℕ → (ss : List Symbol) → List Token → Values ss → List Token → Type 0 where
   done : {d : ℕ} {ts : List Token} → Takes most d [] ts tt ts
   step : {d : ℕ} {l : Level} {k : Kind} {ss : List Symbol} {t : Token} {ts rest : List Token} {vs : Values ss}
-    → same t.kind k ≡ true → depth_of d l ≤ most → Takes most d ss ts vs rest
-    → Takes most d (token k l ∷ ss) (t ∷ ts) (t, vs) rest
+      → same t.kind k ≡ true → depth_of d l ≤ most → Takes most d ss ts vs rest
+      → Takes most d (token k l ∷ ss) (t ∷ ts) (t, vs) rest
   down : {d : ℕ} {l : Level} {n : Nonterminal} {ss : List Symbol} {ts mid rest : List Token} {vs : Values ss}
-    → {us : Values (choose n ts).parts}
-    → Takes most (depth_of d l) (choose n ts).parts ts us mid → Takes most d ss mid vs rest
-    → Takes most d (part n l ∷ ss) ts (made (choose n ts).parts (choose n ts).gives us, vs) rest
+      → {us : Values (choose n ts).parts}
+      → Takes most (depth_of d l) (choose n ts).parts ts us mid → Takes most d ss mid vs rest
+      → Takes most d (part n l ∷ ss) ts (made (choose n ts).parts (choose n ts).gives us, vs) rest
 
 -- A row of symbols meets a fault. Memory may run out anywhere.
 pub data Fails (most : ℕ) : ℕ → (ss : List Symbol) → List Token → TextRefusal → Type 0 where
   memory : {d : ℕ} {ss : List Symbol} {ts : List Token} → Fails most d ss ts Memory
   unexpected : {d : ℕ} {l : Level} {k : Kind} {ss : List Symbol} {ts : List Token}
-    → next_is ts k ≡ false → Fails most d (token k l ∷ ss) ts (refused_at ts)
+      → next_is ts k ≡ false → Fails most d (token k l ∷ ss) ts (refused_at ts)
   deep : {d : ℕ} {l : Level} {k : Kind} {ss : List Symbol} {t : Token} {ts : List Token}
-    → same t.kind k ≡ true → most < depth_of d l → Fails most d (token k l ∷ ss) (t ∷ ts) (TooDeep t.at)
+      → same t.kind k ≡ true → most < depth_of d l → Fails most d (token k l ∷ ss) (t ∷ ts) (TooDeep t.at)
   after_one : {d : ℕ} {l : Level} {k : Kind} {ss : List Symbol} {t : Token} {ts : List Token} {f : TextRefusal}
-    → same t.kind k ≡ true → depth_of d l ≤ most → Fails most d ss ts f
-    → Fails most d (token k l ∷ ss) (t ∷ ts) f
+      → same t.kind k ≡ true → depth_of d l ≤ most → Fails most d ss ts f
+      → Fails most d (token k l ∷ ss) (t ∷ ts) f
   inside : {d : ℕ} {l : Level} {n : Nonterminal} {ss : List Symbol} {ts : List Token} {f : TextRefusal}
-    → Fails most (depth_of d l) (choose n ts).parts ts f → Fails most d (part n l ∷ ss) ts f
+      → Fails most (depth_of d l) (choose n ts).parts ts f → Fails most d (part n l ∷ ss) ts f
   after_rule : {d : ℕ} {l : Level} {n : Nonterminal} {ss : List Symbol} {ts mid : List Token} {f : TextRefusal}
-    → {us : Values (choose n ts).parts}
-    → Takes most (depth_of d l) (choose n ts).parts ts us mid → Fails most d ss mid f
-    → Fails most d (part n l ∷ ss) ts f
+      → {us : Values (choose n ts).parts}
+      → Takes most (depth_of d l) (choose n ts).parts ts us mid → Fails most d ss mid f
+      → Fails most d (part n l ∷ ss) ts f
 
 abbrev pub limit : ℕ
 limit = 64

@@ -4,10 +4,24 @@
 //! (docs/LANGUAGE.md). What a text spells is a definition of its own, `Reads`, over the grammar of specs/Grammar.antt.
 #![tactic(auto)]
 
-use std::alloc::AllocError;
+ghost use Rattle.std.specs.Prelude.{◌≡◌, ◌↔◌, ◌<◌, ◌⊎◌, ℕ, length, Err, IfOk, IfErr};
+ghost use Rattle.csdn_tree.specs.declared.syntax.RawProgram.{RawProgram as AnyProgram};
+ghost use Rattle.csdn_text.specs.declared.TextRefusal.TheVariants.{Memory, TooLong, TooDeep};
+ghost use Rattle.csdn_text.specs.Reading.{Reads, Agrees, NamesMisfit, Misfits, NestsTooDeep, IsRefusedText};
+
+use csdn_tree::syntax::RawProgram;
+use std::alloc::{AllocError, Global};
 use thiserror::Error;
 
+mod build;
+mod commands;
+mod formulas;
+mod items;
+pub mod laws;
+mod parser;
 mod parts;
+mod reading;
+mod words;
 
 /// Why a text is no program. Places are bytes from the beginning of the text.
 #[derive(Debug, Drop, Error)]
@@ -37,9 +51,25 @@ pub enum TextRefusal {
 impl From<AllocError> for TextRefusal {
     ghost use Rattle.csdn_text.specs.declared.TextRefusal.TheVariants.{Memory};
     ghost use Rattle.std.specs.Prelude.{◌≡◌};
+
     ghost from_gives = { λ _ e. e ≡ Memory };
 
     fn from(_: AllocError) -> Self {
         TextRefusal::Memory
     }
+}
+
+/// The tree that the text spells.
+///
+/// Refused are, first, a text of more than 65,536 bytes, and else the first token that doesn't fit or that stands deeper
+/// than 64: a byte, number or word that is no token is told by its own refusal. Memory is taken from `alloc`.
+pub fn parse(alloc: Global, text: &[u8]) -> Result<RawProgram, TextRefusal>
+    ensures reads { IfOk result (λ raw. Reads text.now raw) }
+    ensures only { (raw : AnyProgram) → Reads text.now raw → Agrees raw result }
+    ensures too_long { (result ≡ Err TooLong) ↔ (65536 < length text.now) }
+    ensures misfit { IfErr result (λ e. NamesMisfit e → Misfits text.now e) }
+    ensures too_deep { (at : ℕ) → result ≡ Err (TooDeep at) → NestsTooDeep text.now at }
+    ensures refused { IfErr result (λ e. (e ≡ Memory) ⊎ IsRefusedText text.now e) }
+{
+    reading::read(alloc, text)
 }

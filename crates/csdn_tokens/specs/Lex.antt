@@ -46,30 +46,30 @@ word text = let len = front class.Word text in if nat_lt 64 len then p.Bad k.Bad
 -- a number: as many digits as follow, the first not 0, of a value of at most 65,280
 abbrev pub number : List ℕ → Piece
 number text =
-  let len = front class.Digit text in
-  let value = digits_value 10 (take len text) in
-  if slice_index text 0 == 48 || nat_lt 65280 value then p.Bad k.BadNumber else p.Token k.Number value len
+    let len = front class.Digit text in
+    let value = digits_value 10 (take len text) in
+    if slice_index text 0 == 48 || nat_lt 65280 value then p.Bad k.BadNumber else p.Token k.Number value len
 
 -- a symbol; a `<`, a `-` or a `/` that begins none is a fault
 abbrev pub symbol : List ℕ → Piece
 symbol text =
-  let b = slice_index text 0 in
-  if b == 60 && slice_index text 1 == 45 && slice_index text 2 == 62 then p.Token k.Both 0 3
-  else (if b == 45 && slice_index text 1 == 62 then p.Token k.Arrow 0 2
-  else (if b == 40 then p.Token k.Open 0 1 else (if b == 41 then p.Token k.Close 0 1
-  else (if b == 123 then p.Token k.Begin 0 1 else (if b == 125 then p.Token k.End 0 1
-  else (if b == 44 then p.Token k.Comma 0 1 else (if b == 59 then p.Token k.Semicolon 0 1
-  else (if b == 58 then p.Token k.Colon 0 1 else (if b == 46 then p.Token k.Dot 0 1
-  else (if b == 61 then p.Token k.Equals 0 1 else p.Bad k.BadByte))))))))))
+    let b = slice_index text 0 in
+    if b == 60 && slice_index text 1 == 45 && slice_index text 2 == 62 then p.Token k.Both 0 3
+    else (if b == 45 && slice_index text 1 == 62 then p.Token k.Arrow 0 2
+    else (if b == 40 then p.Token k.Open 0 1 else (if b == 41 then p.Token k.Close 0 1
+    else (if b == 123 then p.Token k.Begin 0 1 else (if b == 125 then p.Token k.End 0 1
+    else (if b == 44 then p.Token k.Comma 0 1 else (if b == 59 then p.Token k.Semicolon 0 1
+    else (if b == 58 then p.Token k.Colon 0 1 else (if b == 46 then p.Token k.Dot 0 1
+    else (if b == 61 then p.Token k.Equals 0 1 else p.Bad k.BadByte))))))))))
 
 -- what stands at the front of a text that isn't empty
 unfoldable pub piece : List ℕ → Piece
 piece text =
-  let b = slice_index text 0 in
-  if is_in class.Blank b then p.Blank (front class.Blank text)
-  else (if b == 47 && slice_index text 1 == 47 then p.Blank (front class.Line text)
-  else (if is_in class.Digit b then number text
-  else (if is_ascii_alphabetic b then word text else symbol text)))
+    let b = slice_index text 0 in
+    if is_in class.Blank b then p.Blank (front class.Blank text)
+    else (if b == 47 && slice_index text 1 == 47 then p.Blank (front class.Line text)
+    else (if is_in class.Digit b then number text
+    else (if is_ascii_alphabetic b then word text else symbol text)))
 
 -- a piece has a length of at least 1, within the text
 abbrev pub IsPiece : ℕ → Piece → Type 0
@@ -92,4 +92,4 @@ pub data Lexes : ℕ → List ℕ → List Token → Type 0 where
   fault : {at b : ℕ} {text : List ℕ} {kind : Kind} → piece (b ∷ text) ≡ p.Bad kind → Lexes at (b ∷ text) (token_at kind at 0 [] ∷ [])
   blank : {at b n : ℕ} {text : List ℕ} {ts : List Token} → piece (b ∷ text) ≡ p.Blank n → Lexes (at + n) (drop n (b ∷ text)) ts → Lexes at (b ∷ text) ts
   one : {at b n v : ℕ} {text : List ℕ} {kind : Kind} {ts : List Token} → piece (b ∷ text) ≡ p.Token kind v n → Lexes (at + n) (drop n (b ∷ text)) ts
-    → Lexes at (b ∷ text) (token_at kind at v (take n (b ∷ text)) ∷ ts)
+      → Lexes at (b ∷ text) (token_at kind at v (take n (b ∷ text)) ∷ ts)

@@ -20,7 +20,7 @@ empty d = record { marks = []; values = tt; derives = nothing }
 
 tok : {d : ℕ} {ss : List Symbol} (x : Kind) (l : Level) → Word d ss → Word d (token x l ∷ ss)
 tok {d} x l w = let t : Token = record { kind = x; at = 0; number = 0; text = [] } in
-  record { marks = record { token = t; depth = depth_of d l } ∷ w.marks; values = (t, w.values); derives = one refl w.derives }
+    record { marks = record { token = t; depth = depth_of d l } ∷ w.marks; values = (t, w.values); derives = one refl w.derives }
 
 -- some right side of a nonterminal, with tokens at every depth
 abbrev Some : Nonterminal → Type 0
@@ -28,7 +28,7 @@ Some n = (r : Rule n) × IsRule n r × ((d : ℕ) → Word d r.parts)
 
 use_it : {d : ℕ} {n : Nonterminal} {l : Level} {ss : List Symbol} → Some n → Word d ss → Word d (part n l ∷ ss)
 use_it {d} {n} {l} s w = let v = s.2 (depth_of d l) in
-  record { marks = v.marks ++ w.marks; values = (made s.0.parts s.0.gives v.values, w.values); derives = by_rule s.0 s.1 v.derives w.derives }
+    record { marks = v.marks ++ w.marks; values = (made s.0.parts s.0.gives v.values, w.values); derives = by_rule s.0 s.1 v.derives w.derives }
 
 -- the first right side
 abbrev first_of : {n : Nonterminal} → List (Rule n) → Rule n → Rule n

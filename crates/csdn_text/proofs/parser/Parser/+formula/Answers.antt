@@ -1,0 +1,200 @@
+use Rattle.std.proofs.Common.{refl, sym, ap, true, ◌∙◌}
+use Rattle.csdn_tree.specs.declared.syntax.RawItem.TheVariants as i
+use Rattle.csdn_text.specs.Machine.Takes.{done}
+use Rattle.csdn_text.proofs.Steps.{last, this, other, by, not_by, then_token, then, then_by, no_token, no_part, no_part_by, after_token, after_part, exit, no_memory}
+use Rattle.csdn_text.proofs.parser.Parser.+formula.Goals as goal
+
+pub formula-returns-in_err-take-clause-parses : goal.formula-returns-in_err-take-clause-parses
+formula-returns-in_err-take-clause-parses t c = exit _ c.from_residual.ensures.1 (not_by (this (sym c.next_is.ensures ∙ c.if-next_is.true)) (no_token c.in_err-take.ensures.parses))
+
+pub formula-returns-in_err-whole-clause-parses : goal.formula-returns-in_err-whole-clause-parses
+formula-returns-in_err-whole-clause-parses t c = exit _ c.from_residual-in_err-whole.ensures.1 (not_by (this (sym c.next_is.ensures ∙ c.if-next_is.true)) (after_token c.in_ok-take.ensures.parses (no_part c.in_err-whole.ensures.parses)))
+
+pub formula-returns-in_ok-whole-clause-parses : goal.formula-returns-in_ok-whole-clause-parses
+formula-returns-in_ok-whole-clause-parses t c = by (this (sym c.next_is.ensures ∙ c.if-next_is.true)) (then_token c.in_ok-take.ensures.parses (then c.in_ok-whole.ensures.parses done)) refl
+
+pub formula-returns-in_err-take-2-clause-parses : goal.formula-returns-in_err-take-2-clause-parses
+formula-returns-in_err-take-2-clause-parses t c = exit _ c.from_residual-in_err-take-2.ensures.1 (not_by (other (sym c.next_is.ensures ∙ c.if-next_is.false) (this (sym c.next_is-else-next_is.ensures ∙ c.if-next_is-2.true))) (no_token c.in_err-take-2.ensures.parses))
+
+pub formula-returns-in_err-whole-2-clause-parses : goal.formula-returns-in_err-whole-2-clause-parses
+formula-returns-in_err-whole-2-clause-parses t c = exit _ c.from_residual-in_err-whole-2.ensures.1 (not_by (other (sym c.next_is.ensures ∙ c.if-next_is.false) (this (sym c.next_is-else-next_is.ensures ∙ c.if-next_is-2.true))) (after_token c.in_ok-take-2.ensures.parses (no_part c.in_err-whole-2.ensures.parses)))
+
+pub formula-returns-in_ok-whole-2-clause-parses : goal.formula-returns-in_ok-whole-2-clause-parses
+formula-returns-in_ok-whole-2-clause-parses t c = by (other (sym c.next_is.ensures ∙ c.if-next_is.false) (this (sym c.next_is-else-next_is.ensures ∙ c.if-next_is-2.true))) (then_token c.in_ok-take-2.ensures.parses (then c.in_ok-whole-2.ensures.parses done)) refl
+
+pub formula-returns-in_err-whole-3-clause-parses : goal.formula-returns-in_err-whole-3-clause-parses
+formula-returns-in_err-whole-3-clause-parses t c = exit _ c.from_residual-in_err-whole-3.ensures.1 (not_by (other (sym c.next_is.ensures ∙ c.if-next_is.false) (other (sym c.next_is-else-next_is.ensures ∙ c.if-next_is-2.false) last)) (no_part c.in_err-whole-3.ensures.parses))
+
+pub formula-returns-in_ok-whole-3-clause-parses : goal.formula-returns-in_ok-whole-3-clause-parses
+formula-returns-in_ok-whole-3-clause-parses t c = by (other (sym c.next_is.ensures ∙ c.if-next_is.false) (other (sym c.next_is-else-next_is.ensures ∙ c.if-next_is-2.false) last)) (then c.in_ok-whole-3.ensures.parses done) refl
+
+pub binds-returns-in_err-name-clause-parses : goal.binds-returns-in_err-name-clause-parses
+binds-returns-in_err-name-clause-parses t c = exit _ c.from_residual.ensures.1 (not_by last (no_part c.in_err-name.ensures.parses))
+
+pub binds-returns-in_err-take-clause-parses : goal.binds-returns-in_err-take-clause-parses
+binds-returns-in_err-take-clause-parses t c = exit _ c.from_residual-in_err-take.ensures.1 (not_by last (after_part c.in_ok-name.ensures.parses (no_token c.in_err-take.ensures.parses)))
+
+pub binds-returns-in_err-sort-clause-parses : goal.binds-returns-in_err-sort-clause-parses
+binds-returns-in_err-sort-clause-parses t c = exit _ c.from_residual-in_err-sort.ensures.1 (not_by last (after_part c.in_ok-name.ensures.parses (after_token c.in_ok-take.ensures.parses (no_part c.in_err-sort.ensures.parses))))
+
+pub binds-returns-in_err-body-clause-parses : goal.binds-returns-in_err-body-clause-parses
+binds-returns-in_err-body-clause-parses t c = exit _ c.from_residual-in_err-body.ensures.1 (not_by last (after_part c.in_ok-name.ensures.parses (after_token c.in_ok-take.ensures.parses (after_part c.in_ok-sort.ensures.parses (no_part c.in_err-body.ensures.parses)))))
+
+pub binds-returns-in_err-whole-clause-parses : goal.binds-returns-in_err-whole-clause-parses
+binds-returns-in_err-whole-clause-parses t c = exit _ c.from_residual-in_err-whole.ensures.1 (no_memory c.in_err-whole.ensures)
+
+pub binds-returns-clause-parses : goal.binds-returns-clause-parses
+binds-returns-clause-parses t c = by last (then c.in_ok-name.ensures.parses (then_token c.in_ok-take.ensures.parses (then c.in_ok-sort.ensures.parses (then c.in_ok-body.ensures.parses done)))) (sym c.in_ok-whole.ensures)
+
+pub more_binds-returns-in_err-take-clause-parses : goal.more_binds-returns-in_err-take-clause-parses
+more_binds-returns-in_err-take-clause-parses t c = exit _ c.from_residual.ensures.1 (not_by (this (sym c.next_is.ensures ∙ c.if-next_is.true)) (no_token c.in_err-take.ensures.parses))
+
+pub more_binds-returns-in_err-whole-clause-parses : goal.more_binds-returns-in_err-whole-clause-parses
+more_binds-returns-in_err-whole-clause-parses t c = exit _ c.from_residual-in_err-whole.ensures.1 (not_by (this (sym c.next_is.ensures ∙ c.if-next_is.true)) (after_token c.in_ok-take.ensures.parses (no_part c.in_err-whole.ensures.parses)))
+
+pub more_binds-returns-in_ok-whole-clause-parses : goal.more_binds-returns-in_ok-whole-clause-parses
+more_binds-returns-in_ok-whole-clause-parses t c = by (this (sym c.next_is.ensures ∙ c.if-next_is.true)) (then_token c.in_ok-take.ensures.parses (then c.in_ok-whole.ensures.parses done)) refl
+
+pub more_binds-returns-in_err-take-2-clause-parses : goal.more_binds-returns-in_err-take-2-clause-parses
+more_binds-returns-in_err-take-2-clause-parses t c = exit _ c.from_residual-in_err-take-2.ensures.1 (not_by (other (sym c.next_is.ensures ∙ c.if-next_is.false) last) (no_token c.in_err-take-2.ensures.parses))
+
+pub more_binds-returns-in_err-whole-2-clause-parses : goal.more_binds-returns-in_err-whole-2-clause-parses
+more_binds-returns-in_err-whole-2-clause-parses t c = exit _ c.from_residual-in_err-whole-2.ensures.1 (not_by (other (sym c.next_is.ensures ∙ c.if-next_is.false) last) (after_token c.in_ok-take-2.ensures.parses (no_part c.in_err-whole-2.ensures.parses)))
+
+pub more_binds-returns-in_ok-whole-2-clause-parses : goal.more_binds-returns-in_ok-whole-2-clause-parses
+more_binds-returns-in_ok-whole-2-clause-parses t c = by (other (sym c.next_is.ensures ∙ c.if-next_is.false) last) (then_token c.in_ok-take-2.ensures.parses (then c.in_ok-whole-2.ensures.parses done)) refl
+
+pub iff-returns-in_err-left-clause-parses : goal.iff-returns-in_err-left-clause-parses
+iff-returns-in_err-left-clause-parses t c = exit _ c.from_residual.ensures.1 (not_by last (no_part c.in_err-left.ensures.parses))
+
+pub iff-returns-then-not-next_is-clause-parses : goal.iff-returns-then-not-next_is-clause-parses
+iff-returns-then-not-next_is-clause-parses t c = by last (then c.in_ok-left.ensures.parses (then_by (other (sym c.next_is.ensures ∙ c.if-not-next_is.true) last) done done)) refl
+
+pub iff-returns-in_err-take-clause-parses : goal.iff-returns-in_err-take-clause-parses
+iff-returns-in_err-take-clause-parses t c = exit _ c.from_residual-in_err-take.ensures.1 (not_by last (after_part c.in_ok-left.ensures.parses (no_part_by (this (sym c.next_is.ensures ∙ c.if-not-next_is.false)) (no_token c.in_err-take.ensures.parses))))
+
+pub iff-returns-in_err-right-clause-parses : goal.iff-returns-in_err-right-clause-parses
+iff-returns-in_err-right-clause-parses t c = exit _ c.from_residual-in_err-right.ensures.1 (not_by last (after_part c.in_ok-left.ensures.parses (no_part_by (this (sym c.next_is.ensures ∙ c.if-not-next_is.false)) (after_token c.in_ok-take.ensures.parses (no_part c.in_err-right.ensures.parses)))))
+
+pub iff-returns-in_err-whole-clause-parses : goal.iff-returns-in_err-whole-clause-parses
+iff-returns-in_err-whole-clause-parses t c = exit _ c.from_residual-in_err-whole.ensures.1 (no_memory c.in_err-whole.ensures)
+
+pub iff-returns-clause-parses : goal.iff-returns-clause-parses
+iff-returns-clause-parses t c = by last (then c.in_ok-left.ensures.parses (then_by (this (sym c.next_is.ensures ∙ c.if-not-next_is.false)) (then_token c.in_ok-take.ensures.parses (then c.in_ok-right.ensures.parses done)) done)) (sym c.in_ok-whole.ensures)
+
+pub implies-returns-in_err-left-clause-parses : goal.implies-returns-in_err-left-clause-parses
+implies-returns-in_err-left-clause-parses t c = exit _ c.from_residual.ensures.1 (not_by last (no_part c.in_err-left.ensures.parses))
+
+pub implies-returns-then-not-next_is-clause-parses : goal.implies-returns-then-not-next_is-clause-parses
+implies-returns-then-not-next_is-clause-parses t c = by last (then c.in_ok-left.ensures.parses (then_by (other (sym c.next_is.ensures ∙ c.if-not-next_is.true) last) done done)) refl
+
+pub implies-returns-in_err-take-clause-parses : goal.implies-returns-in_err-take-clause-parses
+implies-returns-in_err-take-clause-parses t c = exit _ c.from_residual-in_err-take.ensures.1 (not_by last (after_part c.in_ok-left.ensures.parses (no_part_by (this (sym c.next_is.ensures ∙ c.if-not-next_is.false)) (no_token c.in_err-take.ensures.parses))))
+
+pub implies-returns-in_err-right-clause-parses : goal.implies-returns-in_err-right-clause-parses
+implies-returns-in_err-right-clause-parses t c = exit _ c.from_residual-in_err-right.ensures.1 (not_by last (after_part c.in_ok-left.ensures.parses (no_part_by (this (sym c.next_is.ensures ∙ c.if-not-next_is.false)) (after_token c.in_ok-take.ensures.parses (no_part c.in_err-right.ensures.parses)))))
+
+pub implies-returns-in_err-whole-clause-parses : goal.implies-returns-in_err-whole-clause-parses
+implies-returns-in_err-whole-clause-parses t c = exit _ c.from_residual-in_err-whole.ensures.1 (no_memory c.in_err-whole.ensures)
+
+pub implies-returns-clause-parses : goal.implies-returns-clause-parses
+implies-returns-clause-parses t c = by last (then c.in_ok-left.ensures.parses (then_by (this (sym c.next_is.ensures ∙ c.if-not-next_is.false)) (then_token c.in_ok-take.ensures.parses (then c.in_ok-right.ensures.parses done)) done)) (sym c.in_ok-whole.ensures)
+
+pub either-returns-in_err-left-clause-parses : goal.either-returns-in_err-left-clause-parses
+either-returns-in_err-left-clause-parses t c = exit _ c.from_residual.ensures.1 (not_by last (no_part c.in_err-left.ensures.parses))
+
+pub either-returns-then-not-next_is-clause-parses : goal.either-returns-then-not-next_is-clause-parses
+either-returns-then-not-next_is-clause-parses t c = by last (then c.in_ok-left.ensures.parses (then_by (other (sym c.next_is.ensures ∙ c.if-not-next_is.true) last) done done)) refl
+
+pub either-returns-in_err-take-clause-parses : goal.either-returns-in_err-take-clause-parses
+either-returns-in_err-take-clause-parses t c = exit _ c.from_residual-in_err-take.ensures.1 (not_by last (after_part c.in_ok-left.ensures.parses (no_part_by (this (sym c.next_is.ensures ∙ c.if-not-next_is.false)) (no_token c.in_err-take.ensures.parses))))
+
+pub either-returns-in_err-right-clause-parses : goal.either-returns-in_err-right-clause-parses
+either-returns-in_err-right-clause-parses t c = exit _ c.from_residual-in_err-right.ensures.1 (not_by last (after_part c.in_ok-left.ensures.parses (no_part_by (this (sym c.next_is.ensures ∙ c.if-not-next_is.false)) (after_token c.in_ok-take.ensures.parses (no_part c.in_err-right.ensures.parses)))))
+
+pub either-returns-in_err-whole-clause-parses : goal.either-returns-in_err-whole-clause-parses
+either-returns-in_err-whole-clause-parses t c = exit _ c.from_residual-in_err-whole.ensures.1 (no_memory c.in_err-whole.ensures)
+
+pub either-returns-clause-parses : goal.either-returns-clause-parses
+either-returns-clause-parses t c = by last (then c.in_ok-left.ensures.parses (then_by (this (sym c.next_is.ensures ∙ c.if-not-next_is.false)) (then_token c.in_ok-take.ensures.parses (then c.in_ok-right.ensures.parses done)) done)) (sym c.in_ok-whole.ensures)
+
+pub both-returns-in_err-left-clause-parses : goal.both-returns-in_err-left-clause-parses
+both-returns-in_err-left-clause-parses t c = exit _ c.from_residual.ensures.1 (not_by last (no_part c.in_err-left.ensures.parses))
+
+pub both-returns-then-not-next_is-clause-parses : goal.both-returns-then-not-next_is-clause-parses
+both-returns-then-not-next_is-clause-parses t c = by last (then c.in_ok-left.ensures.parses (then_by (other (sym c.next_is.ensures ∙ c.if-not-next_is.true) last) done done)) refl
+
+pub both-returns-in_err-take-clause-parses : goal.both-returns-in_err-take-clause-parses
+both-returns-in_err-take-clause-parses t c = exit _ c.from_residual-in_err-take.ensures.1 (not_by last (after_part c.in_ok-left.ensures.parses (no_part_by (this (sym c.next_is.ensures ∙ c.if-not-next_is.false)) (no_token c.in_err-take.ensures.parses))))
+
+pub both-returns-in_err-right-clause-parses : goal.both-returns-in_err-right-clause-parses
+both-returns-in_err-right-clause-parses t c = exit _ c.from_residual-in_err-right.ensures.1 (not_by last (after_part c.in_ok-left.ensures.parses (no_part_by (this (sym c.next_is.ensures ∙ c.if-not-next_is.false)) (after_token c.in_ok-take.ensures.parses (no_part c.in_err-right.ensures.parses)))))
+
+pub both-returns-in_err-whole-clause-parses : goal.both-returns-in_err-whole-clause-parses
+both-returns-in_err-whole-clause-parses t c = exit _ c.from_residual-in_err-whole.ensures.1 (no_memory c.in_err-whole.ensures)
+
+pub both-returns-clause-parses : goal.both-returns-clause-parses
+both-returns-clause-parses t c = by last (then c.in_ok-left.ensures.parses (then_by (this (sym c.next_is.ensures ∙ c.if-not-next_is.false)) (then_token c.in_ok-take.ensures.parses (then c.in_ok-right.ensures.parses done)) done)) (sym c.in_ok-whole.ensures)
+
+pub unary-returns-in_err-take-clause-parses : goal.unary-returns-in_err-take-clause-parses
+unary-returns-in_err-take-clause-parses t c = exit _ c.from_residual.ensures.1 (not_by (this (sym c.next_is.ensures ∙ c.if-next_is.true)) (no_token c.in_err-take.ensures.parses))
+
+pub unary-returns-in_err-inner-clause-parses : goal.unary-returns-in_err-inner-clause-parses
+unary-returns-in_err-inner-clause-parses t c = exit _ c.from_residual-in_err-inner.ensures.1 (not_by (this (sym c.next_is.ensures ∙ c.if-next_is.true)) (after_token c.in_ok-take.ensures.parses (no_part c.in_err-inner.ensures.parses)))
+
+pub unary-returns-in_err-whole-clause-parses : goal.unary-returns-in_err-whole-clause-parses
+unary-returns-in_err-whole-clause-parses t c = exit _ c.from_residual-in_err-whole.ensures.1 (no_memory c.in_err-whole.ensures)
+
+pub unary-returns-in_ok-whole-clause-parses : goal.unary-returns-in_ok-whole-clause-parses
+unary-returns-in_ok-whole-clause-parses t c = by (this (sym c.next_is.ensures ∙ c.if-next_is.true)) (then_token c.in_ok-take.ensures.parses (then c.in_ok-inner.ensures.parses done)) (sym c.in_ok-whole.ensures)
+
+pub unary-returns-in_err-whole-2-clause-parses : goal.unary-returns-in_err-whole-2-clause-parses
+unary-returns-in_err-whole-2-clause-parses t c = exit _ c.from_residual-in_err-whole-2.ensures.1 (not_by (other (sym c.next_is.ensures ∙ c.if-next_is.false) last) (no_part c.in_err-whole-2.ensures.parses))
+
+pub unary-returns-in_ok-whole-2-clause-parses : goal.unary-returns-in_ok-whole-2-clause-parses
+unary-returns-in_ok-whole-2-clause-parses t c = by (other (sym c.next_is.ensures ∙ c.if-next_is.false) last) (then c.in_ok-whole-2.ensures.parses done) refl
+
+pub atom-returns-in_err-take-clause-parses : goal.atom-returns-in_err-take-clause-parses
+atom-returns-in_err-take-clause-parses t c = exit _ c.from_residual.ensures.1 (not_by (this (sym c.next_is.ensures ∙ c.if-next_is.true)) (no_token c.in_err-take.ensures.parses))
+
+pub atom-returns-in_ok-take-clause-parses : goal.atom-returns-in_ok-take-clause-parses
+atom-returns-in_ok-take-clause-parses t c = by (this (sym c.next_is.ensures ∙ c.if-next_is.true)) (then_token c.in_ok-take.ensures.parses done) refl
+
+pub atom-returns-in_err-take-2-clause-parses : goal.atom-returns-in_err-take-2-clause-parses
+atom-returns-in_err-take-2-clause-parses t c = exit _ c.from_residual-in_err-take-2.ensures.1 (not_by (other (sym c.next_is.ensures ∙ c.if-next_is.false) (this (sym c.next_is-else-next_is.ensures ∙ c.if-next_is-2.true))) (no_token c.in_err-take-2.ensures.parses))
+
+pub atom-returns-in_ok-take-2-clause-parses : goal.atom-returns-in_ok-take-2-clause-parses
+atom-returns-in_ok-take-2-clause-parses t c = by (other (sym c.next_is.ensures ∙ c.if-next_is.false) (this (sym c.next_is-else-next_is.ensures ∙ c.if-next_is-2.true))) (then_token c.in_ok-take-2.ensures.parses done) refl
+
+pub atom-returns-in_err-take-3-clause-parses : goal.atom-returns-in_err-take-3-clause-parses
+atom-returns-in_err-take-3-clause-parses t c = exit _ c.from_residual-in_err-take-3.ensures.1 (not_by (other (sym c.next_is.ensures ∙ c.if-next_is.false) (other (sym c.next_is-else-next_is.ensures ∙ c.if-next_is-2.false) (this (sym c.next_is-else-next_is-2.ensures ∙ c.if-next_is-3.true)))) (no_token c.in_err-take-3.ensures.parses))
+
+pub atom-returns-in_err-inner-clause-parses : goal.atom-returns-in_err-inner-clause-parses
+atom-returns-in_err-inner-clause-parses t c = exit _ c.from_residual-in_err-inner.ensures.1 (not_by (other (sym c.next_is.ensures ∙ c.if-next_is.false) (other (sym c.next_is-else-next_is.ensures ∙ c.if-next_is-2.false) (this (sym c.next_is-else-next_is-2.ensures ∙ c.if-next_is-3.true)))) (after_token c.in_ok-take-3.ensures.parses (no_part c.in_err-inner.ensures.parses)))
+
+pub atom-returns-in_err-take-4-clause-parses : goal.atom-returns-in_err-take-4-clause-parses
+atom-returns-in_err-take-4-clause-parses t c = exit _ c.from_residual-in_err-take-4.ensures.1 (not_by (other (sym c.next_is.ensures ∙ c.if-next_is.false) (other (sym c.next_is-else-next_is.ensures ∙ c.if-next_is-2.false) (this (sym c.next_is-else-next_is-2.ensures ∙ c.if-next_is-3.true)))) (after_token c.in_ok-take-3.ensures.parses (after_part c.in_ok-inner.ensures.parses (no_token c.in_err-take-4.ensures.parses))))
+
+pub atom-returns-in_ok-take-4-clause-parses : goal.atom-returns-in_ok-take-4-clause-parses
+atom-returns-in_ok-take-4-clause-parses t c = by (other (sym c.next_is.ensures ∙ c.if-next_is.false) (other (sym c.next_is-else-next_is.ensures ∙ c.if-next_is-2.false) (this (sym c.next_is-else-next_is-2.ensures ∙ c.if-next_is-3.true)))) (then_token c.in_ok-take-3.ensures.parses (then c.in_ok-inner.ensures.parses (then_token c.in_ok-take-4.ensures.parses done))) refl
+
+pub atom-returns-in_err-port-clause-parses : goal.atom-returns-in_err-port-clause-parses
+atom-returns-in_err-port-clause-parses t c = exit _ c.from_residual-in_err-port.ensures.1 (not_by (other (sym c.next_is.ensures ∙ c.if-next_is.false) (other (sym c.next_is-else-next_is.ensures ∙ c.if-next_is-2.false) (other (sym c.next_is-else-next_is-2.ensures ∙ c.if-next_is-3.false) (this (sym c.begins.ensures ∙ c.if-begins.true))))) (no_part c.in_err-port.ensures.parses))
+
+pub atom-returns-in_err-take-5-clause-parses : goal.atom-returns-in_err-take-5-clause-parses
+atom-returns-in_err-take-5-clause-parses t c = exit _ c.from_residual-in_err-take-5.ensures.1 (not_by (other (sym c.next_is.ensures ∙ c.if-next_is.false) (other (sym c.next_is-else-next_is.ensures ∙ c.if-next_is-2.false) (other (sym c.next_is-else-next_is-2.ensures ∙ c.if-next_is-3.false) (this (sym c.begins.ensures ∙ c.if-begins.true))))) (after_part c.in_ok-port.ensures.parses (no_token c.in_err-take-5.ensures.parses)))
+
+pub atom-returns-in_err-term-clause-parses : goal.atom-returns-in_err-term-clause-parses
+atom-returns-in_err-term-clause-parses t c = exit _ c.from_residual-in_err-term.ensures.1 (not_by (other (sym c.next_is.ensures ∙ c.if-next_is.false) (other (sym c.next_is-else-next_is.ensures ∙ c.if-next_is-2.false) (other (sym c.next_is-else-next_is-2.ensures ∙ c.if-next_is-3.false) (this (sym c.begins.ensures ∙ c.if-begins.true))))) (after_part c.in_ok-port.ensures.parses (after_token c.in_ok-take-5.ensures.parses (no_part c.in_err-term.ensures.parses))))
+
+pub atom-returns-in_ok-term-clause-parses : goal.atom-returns-in_ok-term-clause-parses
+atom-returns-in_ok-term-clause-parses t c = by (other (sym c.next_is.ensures ∙ c.if-next_is.false) (other (sym c.next_is-else-next_is.ensures ∙ c.if-next_is-2.false) (other (sym c.next_is-else-next_is-2.ensures ∙ c.if-next_is-3.false) (this (sym c.begins.ensures ∙ c.if-begins.true))))) (then c.in_ok-port.ensures.parses (then_token c.in_ok-take-5.ensures.parses (then c.in_ok-term.ensures.parses done))) refl
+
+pub atom-returns-in_err-name-clause-parses : goal.atom-returns-in_err-name-clause-parses
+atom-returns-in_err-name-clause-parses t c = exit _ c.from_residual-in_err-name.ensures.1 (not_by (other (sym c.next_is.ensures ∙ c.if-next_is.false) (other (sym c.next_is-else-next_is.ensures ∙ c.if-next_is-2.false) (other (sym c.next_is-else-next_is-2.ensures ∙ c.if-next_is-3.false) (other (sym c.begins.ensures ∙ c.if-begins.false) last)))) (no_part c.in_err-name.ensures.parses))
+
+pub atom-returns-in_err-rest-clause-parses : goal.atom-returns-in_err-rest-clause-parses
+atom-returns-in_err-rest-clause-parses t c = exit _ c.from_residual-in_err-rest.ensures.1 (not_by (other (sym c.next_is.ensures ∙ c.if-next_is.false) (other (sym c.next_is-else-next_is.ensures ∙ c.if-next_is-2.false) (other (sym c.next_is-else-next_is-2.ensures ∙ c.if-next_is-3.false) (other (sym c.begins.ensures ∙ c.if-begins.false) last)))) (after_part c.in_ok-name.ensures.parses (no_part c.in_err-rest.ensures.parses)))
+
+pub atom-returns-in_ok-rest-clause-parses : goal.atom-returns-in_ok-rest-clause-parses
+atom-returns-in_ok-rest-clause-parses t c = by (other (sym c.next_is.ensures ∙ c.if-next_is.false) (other (sym c.next_is-else-next_is.ensures ∙ c.if-next_is-2.false) (other (sym c.next_is-else-next_is-2.ensures ∙ c.if-next_is-3.false) (other (sym c.begins.ensures ∙ c.if-begins.false) last)))) (then c.in_ok-name.ensures.parses (then c.in_ok-rest.ensures.parses done)) (sym c.atom_of.ensures)

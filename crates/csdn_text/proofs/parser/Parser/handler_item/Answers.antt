@@ -1,0 +1,41 @@
+use Rattle.std.proofs.Common.{refl, sym, ap, true, ◌∙◌}
+use Rattle.csdn_tree.specs.declared.syntax.RawItem.TheVariants as i
+use Rattle.csdn_text.specs.Machine.Takes.{done}
+use Rattle.csdn_text.proofs.Steps.{last, this, other, by, not_by, then_token, then, then_by, no_token, no_part, no_part_by, after_token, after_part, exit, no_memory}
+use Rattle.csdn_text.proofs.parser.Parser.handler_item.Goals as goal
+
+pub returns-in_err-word-clause-parses : goal.returns-in_err-word-clause-parses
+returns-in_err-word-clause-parses c = exit _ c.from_residual.ensures.1 (not_by last (no_token c.in_err-word.ensures.parses))
+
+pub returns-in_err-take-clause-parses : goal.returns-in_err-take-clause-parses
+returns-in_err-take-clause-parses c = exit _ c.from_residual-in_err-take.ensures.1 (not_by last (after_token c.in_ok-word.ensures.parses (no_token c.in_err-take.ensures.parses)))
+
+pub returns-in_err-switch-clause-parses : goal.returns-in_err-switch-clause-parses
+returns-in_err-switch-clause-parses c = exit _ c.from_residual-in_err-switch.ensures.1 (not_by last (after_token c.in_ok-word.ensures.parses (after_token c.in_ok-take.ensures.parses (no_part c.in_err-switch.ensures.parses))))
+
+pub returns-in_err-take-2-clause-parses : goal.returns-in_err-take-2-clause-parses
+returns-in_err-take-2-clause-parses c = exit _ c.from_residual-in_err-take-2.ensures.1 (not_by last (after_token c.in_ok-word.ensures.parses (after_token c.in_ok-take.ensures.parses (after_part c.in_ok-switch.ensures.parses (no_token c.in_err-take-2.ensures.parses)))))
+
+pub returns-in_err-source-clause-parses : goal.returns-in_err-source-clause-parses
+returns-in_err-source-clause-parses c = exit _ c.from_residual-in_err-source.ensures.1 (not_by last (after_token c.in_ok-word.ensures.parses (after_token c.in_ok-take.ensures.parses (after_part c.in_ok-switch.ensures.parses (after_token c.in_ok-take-2.ensures.parses (no_part c.in_err-source.ensures.parses))))))
+
+pub returns-in_err-take-3-clause-parses : goal.returns-in_err-take-3-clause-parses
+returns-in_err-take-3-clause-parses c = exit _ c.from_residual-in_err-take-3.ensures.1 (not_by last (after_token c.in_ok-word.ensures.parses (after_token c.in_ok-take.ensures.parses (after_part c.in_ok-switch.ensures.parses (after_token c.in_ok-take-2.ensures.parses (after_part c.in_ok-source.ensures.parses (no_token c.in_err-take-3.ensures.parses)))))))
+
+pub returns-in_err-target-clause-parses : goal.returns-in_err-target-clause-parses
+returns-in_err-target-clause-parses c = exit _ c.from_residual-in_err-target.ensures.1 (not_by last (after_token c.in_ok-word.ensures.parses (after_token c.in_ok-take.ensures.parses (after_part c.in_ok-switch.ensures.parses (after_token c.in_ok-take-2.ensures.parses (after_part c.in_ok-source.ensures.parses (after_token c.in_ok-take-3.ensures.parses (no_part c.in_err-target.ensures.parses))))))))
+
+pub returns-in_err-take-4-clause-parses : goal.returns-in_err-take-4-clause-parses
+returns-in_err-take-4-clause-parses c = exit _ c.from_residual-in_err-take-4.ensures.1 (not_by last (after_token c.in_ok-word.ensures.parses (after_token c.in_ok-take.ensures.parses (after_part c.in_ok-switch.ensures.parses (after_token c.in_ok-take-2.ensures.parses (after_part c.in_ok-source.ensures.parses (after_token c.in_ok-take-3.ensures.parses (after_part c.in_ok-target.ensures.parses (no_token c.in_err-take-4.ensures.parses)))))))))
+
+pub returns-in_err-ingress-clause-parses : goal.returns-in_err-ingress-clause-parses
+returns-in_err-ingress-clause-parses c = exit _ c.from_residual-in_err-ingress.ensures.1 (not_by last (after_token c.in_ok-word.ensures.parses (after_token c.in_ok-take.ensures.parses (after_part c.in_ok-switch.ensures.parses (after_token c.in_ok-take-2.ensures.parses (after_part c.in_ok-source.ensures.parses (after_token c.in_ok-take-3.ensures.parses (after_part c.in_ok-target.ensures.parses (after_token c.in_ok-take-4.ensures.parses (no_part c.in_err-ingress.ensures.parses))))))))))
+
+pub returns-in_err-take-5-clause-parses : goal.returns-in_err-take-5-clause-parses
+returns-in_err-take-5-clause-parses c = exit _ c.from_residual-in_err-take-5.ensures.1 (not_by last (after_token c.in_ok-word.ensures.parses (after_token c.in_ok-take.ensures.parses (after_part c.in_ok-switch.ensures.parses (after_token c.in_ok-take-2.ensures.parses (after_part c.in_ok-source.ensures.parses (after_token c.in_ok-take-3.ensures.parses (after_part c.in_ok-target.ensures.parses (after_token c.in_ok-take-4.ensures.parses (after_part c.in_ok-ingress.ensures.parses (no_token c.in_err-take-5.ensures.parses)))))))))))
+
+pub returns-in_err-body-clause-parses : goal.returns-in_err-body-clause-parses
+returns-in_err-body-clause-parses c = exit _ c.from_residual-in_err-body.ensures.1 (not_by last (after_token c.in_ok-word.ensures.parses (after_token c.in_ok-take.ensures.parses (after_part c.in_ok-switch.ensures.parses (after_token c.in_ok-take-2.ensures.parses (after_part c.in_ok-source.ensures.parses (after_token c.in_ok-take-3.ensures.parses (after_part c.in_ok-target.ensures.parses (after_token c.in_ok-take-4.ensures.parses (after_part c.in_ok-ingress.ensures.parses (after_token c.in_ok-take-5.ensures.parses (no_part c.in_err-body.ensures.parses))))))))))))
+
+pub returns-clause-parses : goal.returns-clause-parses
+returns-clause-parses c = by last (then_token c.in_ok-word.ensures.parses (then_token c.in_ok-take.ensures.parses (then c.in_ok-switch.ensures.parses (then_token c.in_ok-take-2.ensures.parses (then c.in_ok-source.ensures.parses (then_token c.in_ok-take-3.ensures.parses (then c.in_ok-target.ensures.parses (then_token c.in_ok-take-4.ensures.parses (then c.in_ok-ingress.ensures.parses (then_token c.in_ok-take-5.ensures.parses (then c.in_ok-body.ensures.parses done))))))))))) refl

@@ -1,0 +1,17 @@
+use Rattle.std.proofs.Common.{refl, sym, ap, true, ◌∙◌}
+use Rattle.csdn_tree.specs.declared.syntax.RawItem.TheVariants as i
+use Rattle.csdn_text.specs.Machine.Takes.{done}
+use Rattle.csdn_text.proofs.Steps.{last, this, other, by, not_by, then_token, then, then_by, no_token, no_part, no_part_by, after_token, after_part, exit, no_memory}
+use Rattle.csdn_text.proofs.parser.Parser.row.Goals as goal
+
+pub returns-in_err-begin-clause-parses : goal.returns-in_err-begin-clause-parses
+returns-in_err-begin-clause-parses c = exit _ c.from_residual.ensures.1 (not_by last (no_token c.in_err-begin.ensures.parses))
+
+pub returns-in_err-terms-clause-parses : goal.returns-in_err-terms-clause-parses
+returns-in_err-terms-clause-parses c = exit _ c.from_residual-in_err-terms.ensures.1 (not_by last (after_token c.in_ok-begin.ensures.parses (no_part c.in_err-terms.ensures.parses)))
+
+pub returns-in_err-take-clause-parses : goal.returns-in_err-take-clause-parses
+returns-in_err-take-clause-parses c = exit _ c.from_residual-in_err-take.ensures.1 (not_by last (after_token c.in_ok-begin.ensures.parses (after_part c.in_ok-terms.ensures.parses (no_token c.in_err-take.ensures.parses))))
+
+pub returns-clause-parses : goal.returns-clause-parses
+returns-clause-parses c = by last (then_token c.in_ok-begin.ensures.parses (then c.in_ok-terms.ensures.parses (then_token c.in_ok-take.ensures.parses done))) refl

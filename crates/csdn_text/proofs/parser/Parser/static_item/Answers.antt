@@ -1,0 +1,20 @@
+use Rattle.std.proofs.Common.{refl, sym, ap, true, ◌∙◌}
+use Rattle.csdn_tree.specs.declared.syntax.RawItem.TheVariants as i
+use Rattle.csdn_text.specs.Machine.Takes.{done}
+use Rattle.csdn_text.proofs.Steps.{last, this, other, by, not_by, then_token, then, then_by, no_token, no_part, no_part_by, after_token, after_part, exit, no_memory}
+use Rattle.csdn_text.proofs.parser.Parser.static_item.Goals as goal
+
+pub returns-in_err-take-clause-parses : goal.returns-in_err-take-clause-parses
+returns-in_err-take-clause-parses c = exit _ c.from_residual.ensures.1 (not_by last (no_token c.in_err-take.ensures.parses))
+
+pub returns-in_err-name-clause-parses : goal.returns-in_err-name-clause-parses
+returns-in_err-name-clause-parses c = exit _ c.from_residual-in_err-name.ensures.1 (not_by last (after_token c.in_ok-take.ensures.parses (no_part c.in_err-name.ensures.parses)))
+
+pub returns-in_err-sorts-clause-parses : goal.returns-in_err-sorts-clause-parses
+returns-in_err-sorts-clause-parses c = exit _ c.from_residual-in_err-sorts.ensures.1 (not_by last (after_token c.in_ok-take.ensures.parses (after_part c.in_ok-name.ensures.parses (no_part c.in_err-sorts.ensures.parses))))
+
+pub returns-in_err-take-2-clause-parses : goal.returns-in_err-take-2-clause-parses
+returns-in_err-take-2-clause-parses c = exit _ c.from_residual-in_err-take-2.ensures.1 (not_by last (after_token c.in_ok-take.ensures.parses (after_part c.in_ok-name.ensures.parses (after_part c.in_ok-sorts.ensures.parses (no_token c.in_err-take-2.ensures.parses)))))
+
+pub returns-clause-parses : goal.returns-clause-parses
+returns-clause-parses c = by last (then_token c.in_ok-take.ensures.parses (then c.in_ok-name.ensures.parses (then c.in_ok-sorts.ensures.parses (then_token c.in_ok-take-2.ensures.parses done)))) (ap (λ xs. i.Relation (record { name = c.in_ok-name.name; sorts = c.in_ok-sorts.sorts; fixed = true; rows = xs })) (sym c.new.ensures))
