@@ -19,7 +19,10 @@ pub struct HostFiles<R: SystemFiles + Drop> {
 
 impl<R: SystemFiles + Drop> HostFiles<R> {
     /// The files that this runtime reaches.
-    pub fn new(rt: R) -> HostFiles<R> {
+    pub fn new(rt: R) -> HostFiles<R>
+        ensures reads { result.read_faults ≡ 0 }
+        ensures writes { result.write_faults ≡ 0 }
+    {
         HostFiles {
             rt,
             read_faults: 0,

@@ -21,7 +21,10 @@ impl MemSink {
     /// Nothing is written. A call takes `most` bytes at most, and the calls that the plan lists fail.
     pub fn new(alloc: Global, most: usize, writes: FaultPlan) -> MemSink
         requires { 0 < most }
-        ensures { result.bytes.items ≡ [] }
+        ensures bytes { result.bytes.items ≡ [] }
+        ensures most { result.most ≡ most }
+        ensures writes { result.writes ≡ writes }
+        ensures faults { result.faults ≡ 0 }
     {
         MemSink {
             bytes: Vec::new(alloc),
