@@ -85,7 +85,7 @@ later_here false t x xs rest ys q e = e
 
 -- one constant more
 pub counted_more : (s : Sort) (k : ℕ) (cs : List Constant) (c : Constant) → length (constants_from s k (cs ++ c ∷ [])) ≡ length (constants_from s k cs) + one_if c.sort s
-counted_more s k [] c = counted_step (same_sort c.sort s) (Const (record { 0 = k })) []  0 refl
+counted_more s k [] c = counted_step (same_sort c.sort s) (Const (record { 0 = k })) [] 0 refl
 counted_more s k (d ∷ ds) c = counted_rest (same_sort d.sort s) (Const (record { 0 = k })) (constants_from s (suc k) (ds ++ c ∷ [])) (constants_from s (suc k) ds) (one_if c.sort s) (counted_more s (suc k) ds c)
 
 -- one constant more is looked at

@@ -148,4 +148,3 @@ pub record IsNaming (voc : Vocabulary) (n : Sort → ℕ) (first : ℕ) (num : F
   pub turned : (s : Sort) (a b : ℕ) → num (Equation s a b) ≡ num (Equation s b a)
   pub below : (f : Fact) → IsOver n voc f → num f < first
   pub back : (f : Fact) → IsOver n voc f → (fact_at (num f) ≡ f) ⊎ (fact_at (num f) ≡ mirror f)
-

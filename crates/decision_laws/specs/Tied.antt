@@ -7,7 +7,6 @@ use Rattle.decision_laws.specs.Vocabulary.{Vocabulary, IsIn}
 use Rattle.decision_laws.specs.Copies.{Fact, Tuple, Equation, Copy, Known, Literal, Both, Either, Each, numeral_place}
 use Rattle.decision_laws.specs.Clauses.{Lit, nodes, IsOver, mirror}
 
-
 -- this atom number names a fact over the constants, or its mirror
 abbrev pub Names : (Sort → ℕ) → Vocabulary → (ℕ → Copy) → ℕ → Fact → Type 0
 Names n voc name x f = IsOver n voc f × ((name x ≡ Literal true f) ⊎ (name x ≡ Literal true (mirror f)))
