@@ -21,3 +21,4 @@ pub mod Bridge
 pub mod ExampleLemmas
 pub mod NamesLemmas
 pub mod Steps
+pub mod SortedForms

@@ -44,7 +44,7 @@ constant_or c None = c
 constant_or c (Some d) = d
 
 -- each declared constant is a name of its sort
-constant_has : (s : Sort) (k : ℕ) (cs : List Constant) (i : ℕ) (c : Constant) → slice_get cs i ≡ Some c → c.sort ≡ s → IsIn (Const (record { 0 = k + i })) (constants_from s k cs)
+pub constant_has : (s : Sort) (k : ℕ) (cs : List Constant) (i : ℕ) (c : Constant) → slice_get cs i ≡ Some c → c.sort ≡ s → IsIn (Const (record { 0 = k + i })) (constants_from s k cs)
 constant_has s k [] i c e q = absurd (false≢true (ap is_some e))
 constant_has s k (d ∷ ds) zero c e q =
     let z : k + 0 ≡ k = omega arith in
