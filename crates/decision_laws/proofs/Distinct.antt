@@ -6,7 +6,7 @@ use Rattle.std.proofs.lemmas.List.Filters.{length-filter_both}
 use Rattle.decision_laws.proofs.Basics.{any_gives, in_place}
 use Rattle.decision_laws.proofs.Lists.{filter_in, map_in}
 use Rattle.decision_laws.specs.Classes.{position_in}
-use Rattle.decision_laws.specs.Sublists.{AreDistinct}
+use Rattle.decision_laws.specs.Clauses.{AreDistinct}
 use Rattle.decision_laws.specs.Vocabulary.{IsIn, places_from}
 
 pub places_distinct : (i n : ℕ) → AreDistinct (places_from i n)

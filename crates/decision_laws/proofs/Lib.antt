@@ -22,3 +22,4 @@ pub mod ExampleLemmas
 pub mod NamesLemmas
 pub mod Steps
 pub mod SortedForms
+pub mod Differing

@@ -28,7 +28,7 @@ use Rattle.decision_laws.specs.Classes.{AreOfJudgement, IsNumbering, Meaning, al
 use Rattle.decision_laws.specs.Copies.{AreAlike, AreBelow, Equation, Fact, IsFair, Tuple, constants, index_of, known, numeral_place}
 use Rattle.decision_laws.specs.Forms.{Form, same_sort}
 use Rattle.decision_laws.specs.Laws.{IsJudgement, IsSentence, IsTrueIn, form_of}
-use Rattle.decision_laws.specs.Sublists.{AreDistinct}
+use Rattle.decision_laws.specs.Clauses.{AreDistinct}
 use Rattle.decision_laws.specs.Tied.{replaced, same}
 use Rattle.decision_laws.specs.Vocabulary.{IsIn, all_relations, constants_from, has_term, numerals_of, places_from, sort_or, sorts_or, uses, vocabulary}
 
@@ -105,7 +105,7 @@ alike n j ρ c (s ∷ ss) (x ∷ xs) (y ∷ ys) h k e =
     let p = and_parts (nat_eq (ρ s x) (ρ s y)) (same_cells (values_of ρ ss xs) (values_of ρ ss ys)) e in
     (h.0, k.0, c s x y h.0 k.0 ∙ p.0, alike n j ρ c ss xs ys h.1 k.1 p.1)
 
-in_if : {X : Type 0} (b : Bool) (xs : List X) (x : X) → IsIn x (cond b xs []) → (b ≡ true) × IsIn x xs
+pub in_if : {X : Type 0} (b : Bool) (xs : List X) (x : X) → IsIn x (cond b xs []) → (b ≡ true) × IsIn x xs
 in_if true xs x i = (refl, i)
 in_if false xs x i = elim i [ ]
 

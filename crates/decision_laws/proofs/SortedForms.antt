@@ -30,7 +30,7 @@ use Rattle.decision_laws.proofs.Words.{is_vocabulary}
 use Rattle.decision_laws.specs.Copies.{constants, place}
 use Rattle.decision_laws.specs.Forms.{Atom, Form, Same, normal_form, same_sort}
 use Rattle.decision_laws.specs.Laws.{form_of, words}
-use Rattle.decision_laws.specs.Sublists.{AreDistinct}
+use Rattle.decision_laws.specs.Clauses.{AreDistinct}
 use Rattle.decision_laws.specs.Vocabulary.{IsIn, all_relations, constants_from, find_or, fits, has_term, is_bound, names_of, numerals_of, places_from, sort_of_constant, sort_or, sorts_or, term_fits, term_sort, terms_fit, uses, vocabulary}
 
 abbrev bind : VarId → Sort → Bind

@@ -13,7 +13,7 @@ ghost use Rattle.decision_laws.specs.Forms.{form_truth};
 ghost use Rattle.decision_laws.specs.Vocabulary.{IsIn, fits};
 ghost use Rattle.decision_laws.specs.Copies.{Fact, judge};
 ghost use Rattle.decision_laws.specs.Classes.{Meaning, AreOfJudgement, number, network_of, state_of};
-ghost use Rattle.decision_laws.specs.Clauses.{Lit, clause_true, IsModel};
+ghost use Rattle.decision_laws.specs.Clauses.{Lit, AtomsDiffer, clause_true, IsModel};
 ghost use Rattle.decision_laws.specs.Numbers.{fact_count, fact_number, numbered_fact};
 ghost use Rattle.decision_laws.specs.Sublists.{ArePart, AreBroken, left_of};
 ghost use Rattle.decision_laws.specs.Example.{program, sentence, r, example_counts, example_copies, example_first, example_node_clauses, example_equality_clauses, example_judgement, example_network};
@@ -49,6 +49,7 @@ pub fn clauses_have_models()
     ensures model { (P : AnyParts) (F : AnyFormula) (first : ℕ) (num : Fact → ℕ) (fact_at : ℕ → Fact) → IsSentence P F → NamesFacts P F first num fact_at → (v : ℕ → Bool) → IsModel v (complete_clauses P F num first) → IsJudgement P F (λ f. v (num f)) }
     ensures judged { (P : AnyParts) (F : AnyFormula) (first : ℕ) (num : Fact → ℕ) (fact_at : ℕ → Fact) → IsSentence P F → NamesFacts P F first num fact_at → (j : Fact → Bool) → IsJudgement P F j → IsModel (λ x. judge j (clause_names P F first fact_at x)) (complete_clauses P F num first) }
     ensures tied { (P : AnyParts) (F : AnyFormula) (first : ℕ) (num : Fact → ℕ) (fact_at : ℕ → Fact) → IsSentence P F → NamesFacts P F first num fact_at → (c : List Lit) → IsIn c (complete_clauses P F num first) → IsTiedTo P F first fact_at c }
+    ensures apart { (P : AnyParts) (F : AnyFormula) (first : ℕ) (num : Fact → ℕ) (fact_at : ℕ → Fact) → IsSentence P F → NamesFacts P F first num fact_at → (c : List Lit) → IsIn c (complete_clauses P F num first) → AtomsDiffer c }
     ensures network { (P : AnyParts) (F : AnyFormula) (first : ℕ) (num : Fact → ℕ) (fact_at : ℕ → Fact) → IsSentence P F → NamesFacts P F first num fact_at → HasModel (complete_clauses P F num first) ↔ HasNetwork P F }
 {}
 
