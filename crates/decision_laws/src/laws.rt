@@ -1,16 +1,17 @@
 //! Laws as contracts of functions that do nothing.
 ghost use Rattle.std.specs.Prelude.{◌≡◌, ◌≢◌, ◌↔◌, ℕ, ◌+◌, ◌==◌, Bool, true, List, [], ◌∷◌, ◌++◌, length, AllPairs, IsTrue};
 ghost use Rattle.csdn_core.specs.declared.terms.Sort.{Sort as AnySort};
+ghost use Rattle.csdn_core.specs.declared.terms.Sort.TheVariants.{Pr};
 ghost use Rattle.csdn_core.specs.declared.terms.Place.{Place as AnyPlace};
 ghost use Rattle.csdn_core.specs.declared.terms.Place.TheVariants.{Trans};
 ghost use Rattle.csdn_core.specs.declared.program.Parts.{Parts as AnyParts};
 ghost use Rattle.csdn_core.specs.declared.syntax.Formula.{Formula as AnyFormula};
 ghost use Rattle.csdn_core.specs.Truth.{Structure, Assignment, truth};
-ghost use Rattle.csdn_core.specs.Network.{Network, State, IsNetwork};
+ghost use Rattle.csdn_core.specs.Network.{Network, State, IsNetwork, elements};
 ghost use Rattle.csdn_core.specs.Sorted.{IsSorted, bound_in};
 ghost use Rattle.csdn_core.specs.WellSorted.{signature};
 ghost use Rattle.decision_laws.specs.Forms.{form_truth};
-ghost use Rattle.decision_laws.specs.Vocabulary.{IsIn, fits};
+ghost use Rattle.decision_laws.specs.Vocabulary.{IsIn, fits, places_from};
 ghost use Rattle.decision_laws.specs.Copies.{Fact, judge};
 ghost use Rattle.decision_laws.specs.Classes.{Meaning, AreOfJudgement, number, network_of, state_of};
 ghost use Rattle.decision_laws.specs.Clauses.{Lit, AtomsDiffer, clause_true, IsModel};
@@ -40,6 +41,7 @@ pub fn network_gives_judgement()
 pub fn judgement_gives_network()
     ensures network { (P : AnyParts) (F : AnyFormula) (j : Fact → Bool) → IsSentence P F → IsJudgement P F j → IsNetwork P (network_of P (form_of F) j) × IsTrueIn P F (network_of P (form_of F) j) (state_of P (form_of F) j) }
     ensures numbers { (P : AnyParts) (F : AnyFormula) (j : Fact → Bool) → IsJudgement P F j → AreOfJudgement P (form_of F) j (number P (form_of F) j) (network_of P (form_of F) j) (state_of P (form_of F) j) }
+    ensures counted { (P : AnyParts) (F : AnyFormula) (j : Fact → Bool) → IsJudgement P F j → (s : AnySort) → s ≢ Pr → elements (network_of P (form_of F) j) s ≡ places_from 1 (length (elements (network_of P (form_of F) j) s)) }
     ensures any { (P : AnyParts) (F : AnyFormula) (j : Fact → Bool) (ρ : Meaning) (N : Network) (x : State) → IsSentence P F → IsJudgement P F j → AreOfJudgement P (form_of F) j ρ N x → IsTrueIn P F N x }
     ensures names { (P : AnyParts) (F : AnyFormula) (j : Fact → Bool) (ρ : Meaning) (N : Network) (x : State) → AreOfJudgement P (form_of F) j ρ N x → AgreesOnNames P F N x j }
 {}
