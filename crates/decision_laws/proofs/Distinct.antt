@@ -1,12 +1,12 @@
 -- Lists without repetitions.
-use Rattle.std.proofs.Common.{Bool, List, [], ap, arith, cond, eq-eqb, eqb-true, false, filter, inl, inr, length, map, nat_eq, not, refl, slice_index_or, subst, suc, sym, true, zero, ℕ, ◌+◌, ◌<◌, ◌∙◌, ◌∷◌, ◌≡◌, ◌≤◌}
+use Rattle.std.proofs.Common.{Bool, List, [], ap, arith, cond, eq-eqb, eqb-true, false, filter, inl, inr, length, map, nat_eq, not, refl, slice_index_or, subst, suc, sym, true, zero, ℕ, ◌+◌, ◌<◌, ◌∙◌, ◌∷◌, ◌≡◌, ◌≤◌, ne_eqb, append_assoc, length-append, ap₂, ◌++◌}
 use Rattle.std.proofs.lemmas.Bool.{cases_order, false≢true}
 use Rattle.std.specs.List.{list_any}
 use Rattle.std.proofs.lemmas.List.Filters.{length-filter_both}
 use Rattle.decision_laws.proofs.Basics.{any_gives, in_place}
-use Rattle.decision_laws.proofs.Lists.{filter_in, map_in}
+use Rattle.decision_laws.proofs.Lists.{filter_in, map_in, in_right}
 use Rattle.decision_laws.specs.Classes.{position_in}
-use Rattle.decision_laws.specs.Sublists.{AreDistinct}
+use Rattle.decision_laws.specs.Clauses.{AreDistinct}
 use Rattle.decision_laws.specs.Vocabulary.{IsIn, places_from}
 
 pub places_distinct : (i n : ℕ) → AreDistinct (places_from i n)
@@ -68,6 +68,30 @@ at_position x (y ∷ ys) i =
 
 pub position_in-one : (x y : ℕ) (xs : List ℕ) → IsIn x xs → IsIn y xs → position_in x xs ≡ position_in y xs → x ≡ y
 position_in-one x y xs i k e = sym (at_position x xs i) ∙ ap (λ p. slice_index_or xs p 0) e ∙ at_position y xs k
+
+after_step : (b : Bool) (n m : ℕ) → b ≡ false → n ≡ m → cond b 0 (suc n) ≡ suc m
+after_step b n m e q = ap (λ c. cond c 0 (suc n)) e ∙ ap suc q
+
+-- behind others a number stands after all of them
+pub position_in-after : (x : ℕ) (pre rest : List ℕ) → (IsIn x pre → ⊥) → position_in x (pre ++ x ∷ rest) ≡ length pre
+position_in-after x [] rest h = ap (λ c. cond c 0 (suc (position_in x rest))) (eq-eqb x x refl)
+position_in-after x (y ∷ ys) rest h =
+    after_step (nat_eq x y) (position_in x (ys ++ x ∷ rest)) (length ys) (ne_eqb x y (λ e. h (inl e))) (position_in-after x ys rest (λ i. h (inr i)))
+
+not_before : (pre : List ℕ) (x : ℕ) (rest : List ℕ) → AreDistinct (pre ++ x ∷ rest) → IsIn x pre → ⊥
+not_before [] x rest d i = elim i [ ]
+not_before (y ∷ ys) x rest d i =
+    elim i [ inl e ↦ d.0 (subst (λ z. IsIn z (ys ++ x ∷ rest)) e (in_right ys (x ∷ rest) x (inl refl))) | inr r ↦ not_before ys x rest d.1 r ]
+
+-- numbered by their positions, from 1 on, different numbers get 1, 2, 3 ..
+pub counted_off : (g : ℕ → ℕ) (pre xs : List ℕ) → AreDistinct (pre ++ xs) → ((x : ℕ) → IsIn x xs → g x ≡ suc (position_in x (pre ++ xs))) → map g xs ≡ places_from (suc (length pre)) (length xs)
+counted_off g pre [] d h = refl
+counted_off g pre (x ∷ xs) d h =
+    let one : g x ≡ suc (length pre) = h x (inl refl) ∙ ap suc (position_in-after x pre xs (not_before pre x xs d)) in
+    let same = append_assoc pre (x ∷ []) xs in
+    let more : suc (length (pre ++ x ∷ [])) ≡ suc (suc (length pre)) = omega (arith, length-append pre (x ∷ [])) in
+    ap₂ (λ y ys. y ∷ ys) one
+    (counted_off g (pre ++ x ∷ []) xs (subst AreDistinct (sym same) d) (λ y i. h y (inr i) ∙ ap (λ z. suc (position_in y z)) (sym same)) ∙ ap (λ k. places_from k (length xs)) more)
 
 -- the list without one member
 abbrev pub without : {X : Type 0} → (ys : List X) (x : X) → IsIn x ys → List X

@@ -4,8 +4,8 @@ use Rattle.std.proofs.lemmas.Bool.{false≢true}
 use Rattle.decision_laws.proofs.Basics.{all_at, all_from}
 use Rattle.decision_laws.proofs.Distinct.{no_more}
 use Rattle.decision_laws.proofs.Lists.{in_both}
-use Rattle.decision_laws.specs.Clauses.{IsModel, Lit, clause_true}
-use Rattle.decision_laws.specs.Sublists.{AreBroken, AreDistinct, ArePart, left_of}
+use Rattle.decision_laws.specs.Clauses.{AreDistinct, IsModel, Lit, clause_true}
+use Rattle.decision_laws.specs.Sublists.{AreBroken, ArePart, left_of}
 use Rattle.decision_laws.specs.Vocabulary.{IsIn}
 
 distinct_append : {X : Type 0} (xs ys : List X) → AreDistinct xs → AreDistinct ys → ((x : X) → IsIn x xs → IsIn x ys → ⊥) → AreDistinct (xs ++ ys)

@@ -21,3 +21,5 @@ pub mod Bridge
 pub mod ExampleLemmas
 pub mod NamesLemmas
 pub mod Steps
+pub mod SortedForms
+pub mod Differing

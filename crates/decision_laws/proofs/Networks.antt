@@ -1,5 +1,5 @@
 -- The network and state of a fair judgement, with the numbers that its classes get.
-use Rattle.std.proofs.Common.{Bool, Contains, List, None, Option, Some, [], ap, arith, cond, eq-eqb, eqb-true, false, inl, inr, length, map, nat_eq, refl, slice_get, slice_index, slice_index_or, subst, suc, sym, true, zero, ℕ, ◌&&◌, ◌+◌, ◌<◌, ◌∙◌, ◌∷◌, ◌≡◌, ◌≤◌}
+use Rattle.std.proofs.Common.{Bool, Contains, List, None, Option, Some, [], ap, arith, cond, eq-eqb, eqb-true, false, inl, inr, length, map, nat_eq, refl, slice_get, slice_index, slice_index_or, subst, suc, sym, true, zero, ℕ, ◌&&◌, ◌+◌, ◌<◌, ◌∙◌, ◌∷◌, ◌≡◌, ◌≤◌, ◌≢◌}
 use Rattle.std.proofs.lemmas.Bool.{and_from, and_parts, false≢true}
 use Rattle.std.specs.List.{list_any}
 use Rattle.csdn_core.specs.declared.terms.Sort.{Sort}
@@ -19,16 +19,16 @@ use Rattle.std.specs.Prelude.{is_some, option_map}
 use Rattle.std.proofs.lemmas.List.{length-map}
 use Rattle.std.proofs.lemmas.Option.{slice_get_within}
 use Rattle.decision_laws.proofs.Basics.{any_from, any_gives, in_place, index_of-below, same_bool, same_pred-refl, same_sort-refl}
-use Rattle.decision_laws.proofs.Distinct.{apart_at, filter_distinct, length-places, map_distinct, member_at, places_distinct}
+use Rattle.decision_laws.proofs.Distinct.{apart_at, filter_distinct, length-places, map_distinct, member_at, places_distinct, counted_off}
 use Rattle.decision_laws.proofs.Downward.{law_down}
 use Rattle.decision_laws.proofs.Lists.{contains_in, filter_in, flat_in, in_both, in_contains, in_filter, in_flat, in_left, in_map, in_term, in_tuples, kept_first, kept_later, map_in, tuple_in}
 use Rattle.decision_laws.proofs.Numbering.{IsReadable, class_below, class_first, first_of-alike, first_of-below, first_of-same, first_of_in, is_readable, numbering_of, numeral_below}
 use Rattle.decision_laws.proofs.Words.{is_vocabulary}
-use Rattle.decision_laws.specs.Classes.{AreOfJudgement, IsNumbering, Meaning, all_tuples, class_elements, classes_of, constant_value, first_of, network_of, number, sizes, state_of, static_rows, true_tuples, values_of}
+use Rattle.decision_laws.specs.Classes.{AreOfJudgement, IsNumbering, Meaning, all_tuples, class_elements, classes_of, constant_value, first_of, network_of, number, sizes, state_of, static_rows, true_tuples, values_of, position_in}
 use Rattle.decision_laws.specs.Copies.{AreAlike, AreBelow, Equation, Fact, IsFair, Tuple, constants, index_of, known, numeral_place}
 use Rattle.decision_laws.specs.Forms.{Form, same_sort}
 use Rattle.decision_laws.specs.Laws.{IsJudgement, IsSentence, IsTrueIn, form_of}
-use Rattle.decision_laws.specs.Sublists.{AreDistinct}
+use Rattle.decision_laws.specs.Clauses.{AreDistinct}
 use Rattle.decision_laws.specs.Tied.{replaced, same}
 use Rattle.decision_laws.specs.Vocabulary.{IsIn, all_relations, constants_from, has_term, numerals_of, places_from, sort_or, sorts_or, uses, vocabulary}
 
@@ -44,7 +44,7 @@ constant_or c None = c
 constant_or c (Some d) = d
 
 -- each declared constant is a name of its sort
-constant_has : (s : Sort) (k : ℕ) (cs : List Constant) (i : ℕ) (c : Constant) → slice_get cs i ≡ Some c → c.sort ≡ s → IsIn (Const (record { 0 = k + i })) (constants_from s k cs)
+pub constant_has : (s : Sort) (k : ℕ) (cs : List Constant) (i : ℕ) (c : Constant) → slice_get cs i ≡ Some c → c.sort ≡ s → IsIn (Const (record { 0 = k + i })) (constants_from s k cs)
 constant_has s k [] i c e q = absurd (false≢true (ap is_some e))
 constant_has s k (d ∷ ds) zero c e q =
     let z : k + 0 ≡ k = omega arith in
@@ -105,7 +105,7 @@ alike n j ρ c (s ∷ ss) (x ∷ xs) (y ∷ ys) h k e =
     let p = and_parts (nat_eq (ρ s x) (ρ s y)) (same_cells (values_of ρ ss xs) (values_of ρ ss ys)) e in
     (h.0, k.0, c s x y h.0 k.0 ∙ p.0, alike n j ρ c ss xs ys h.1 k.1 p.1)
 
-in_if : {X : Type 0} (b : Bool) (xs : List X) (x : X) → IsIn x (cond b xs []) → (b ≡ true) × IsIn x xs
+pub in_if : {X : Type 0} (b : Bool) (xs : List X) (x : X) → IsIn x (cond b xs []) → (b ≡ true) × IsIn x xs
 in_if true xs x i = (refl, i)
 in_if false xs x i = elim i [ ]
 
@@ -171,6 +171,21 @@ module _ (P : Parts) (f : Form) (j : Fact → Bool) (fair : IsFair (vocabulary P
       let z : 0 + k ≡ k = omega arith in
       index_map (constant_value P f j) 0 (length P.constants) k (slice_get_within P.constants k c e) ∙ ap (constant_value P f j) z
       ∙ ap (λ s. number P f j s (index_of (Const (record { 0 = k })) (names s))) (ap sort_or e)
+
+  counted_in : (s : Sort) → ((a : ℕ) → number P f j s a ≡ suc (position_in (first_of (vocabulary P f) (sizes P f) j s a) (classes_of (vocabulary P f) (sizes P f) j s))) → class_elements P f j s ≡ places_from 1 (length (class_elements P f j s))
+  counted_in s h =
+      let voc = vocabulary P f in
+      let n = sizes P f in
+      let cs = classes_of voc n j s in
+      counted_off (number P f j s) [] cs (filter_distinct (λ a. nat_eq (first_of voc n j s a) a) (places_from 0 (n s)) (places_distinct 0 (n s)))
+      (λ a i. h a ∙ ap (λ z. suc (position_in z cs)) (class_first voc n j ready s a i))
+      ∙ ap (places_from 1) (sym (length-map cs (number P f j s)))
+
+  -- switches and hosts are 1, 2, 3 ..
+  pub elements_counted : (s : Sort) → s ≢ Pr → elements (network_of P f j) s ≡ places_from 1 (length (elements (network_of P f j) s))
+  elements_counted Sw n = counted_in Sw (λ a. refl)
+  elements_counted Ho n = counted_in Ho (λ a. refl)
+  elements_counted Pr n = absurd (n refl)
 
   -- Tuples.
 
@@ -311,3 +326,6 @@ law_network P F j is h =
 
 pub law_numbers : (P : Parts) (F : Formula) (j : Fact → Bool) → IsJudgement P F j → AreOfJudgement P (form_of F) j (number P (form_of F) j) (network_of P (form_of F) j) (state_of P (form_of F) j)
 law_numbers P F j h = of_judgement P (form_of F) j h.fair
+
+pub law_counted : (P : Parts) (F : Formula) (j : Fact → Bool) → IsJudgement P F j → (s : Sort) → s ≢ Pr → elements (network_of P (form_of F) j) s ≡ places_from 1 (length (elements (network_of P (form_of F) j) s))
+law_counted P F j h = elements_counted P (form_of F) j h.fair

@@ -35,27 +35,6 @@ found_before binds i v d l e =
     sym (ap (λ z. find_or nothing (scope_of z) v) (take_more binds i d l) ∙ ap (λ z. find_or nothing z v) (scope_over-push [] (take i binds) (get_or binds i d))
     ∙ ap (λ b. cond b ((get_or binds i d).sort, (get_or binds i d).place) (find_or nothing (scope_of (take i binds)) v)) e)
 
--- the copies look at the names alone
-module _ (P : Parts) (f : Form) where
-  place-names : (env : Scope) (t : Term) → place (vocabulary P f) env t ≡ place (names_alone P) env t
-  place-names env (Var v) = refl
-  place-names env (Const c) = refl
-  place-names env (Port k) = refl
-
-  sort-names : (env : Scope) (t : Term) → place_sort (vocabulary P f) env t ≡ place_sort (names_alone P) env t
-  sort-names env (Var v) = refl
-  sort-names env (Const c) = refl
-  sort-names env (Port k) = refl
-
-  pub copies-names : (n : Sort → ℕ) (g : Form) (env : Scope) (base : Sort → ℕ) → copies (vocabulary P f) n g env base ≡ copies (names_alone P) n g env base
-  copies-names n (Fixed b) env base = refl
-  copies-names n (Atom sign r ts) env base = ap (λ z. Literal sign (Tuple r (map z ts))) (fun_ext (place-names env))
-  copies-names n (Same sign t u) env base = (λ i. Literal sign (Equation (sort-names env t i) (place-names env t i) (place-names env u i)))
-  copies-names n (And p q) env base = ap₂ (λ x y. Both x y) (copies-names n p env base) (copies-names n q env (λ t. base t + need p t))
-  copies-names n (Or p q) env base = ap₂ (λ x y. Either x y) (copies-names n p env base) (copies-names n q env base)
-  copies-names n (ForAll v s p) env base = ap (each (n s)) (fun_ext (λ a. copies-names n p ((v.0, (s, a)) ∷ env) base))
-  copies-names n (ForSome v s p) env base = copies-names n p ((v.0, (s, base s)) ∷ env) (λ t. base t + one_if s t)
-
 flat_map-more : {X : Type 0} (g : ℕ → List X) (i m : ℕ) → flat_map g (places_from i (suc m)) ≡ flat_map g (places_from i m) ++ g (i + m)
 flat_map-more g i zero = append-nil (g i) ∙ ap g (let z : i ≡ i + 0 = omega arith in z)
 flat_map-more g i (suc m) =

@@ -30,6 +30,15 @@ clause_true v c = list_any (lit_true v) c
 abbrev pub IsModel : (ℕ → Bool) → List (List Lit) → Type 0
 IsModel v cs = IsTrue (list_all (clause_true v) cs)
 
+-- no item stands twice in the list
+abbrev pub AreDistinct : {X : Type 0} → List X → Type 0
+AreDistinct [] = Unit {0}
+AreDistinct (x ∷ xs) = (IsIn x xs → ⊥) × AreDistinct xs
+
+-- the literals of a clause have different atoms
+abbrev pub AtomsDiffer : List Lit → Type 0
+AtomsDiffer c = AreDistinct (map (λ l. l.1) c)
+
 -- the sum of m terms from i on
 abbrev pub sum_from : (ℕ → ℕ) → ℕ → ℕ → ℕ
 sum_from g i zero = 0

@@ -1,11 +1,7 @@
 -- Clauses of a finite list that are there already, and how many are left.
 use Rattle.std.specs.Prelude.{◌≡◌, ℕ, ◌-◌, Bool, false, List, [], ◌∷◌, length, IsFalse}
 use Rattle.decision_laws.specs.Vocabulary.{IsIn}
-use Rattle.decision_laws.specs.Clauses.{Lit, clause_true}
-
-abbrev pub AreDistinct : {X : Type 0} → List X → Type 0
-AreDistinct [] = Unit {0}
-AreDistinct (x ∷ xs) = (IsIn x xs → ⊥) × AreDistinct xs
+use Rattle.decision_laws.specs.Clauses.{Lit, AreDistinct, clause_true}
 
 -- different clauses, each of the list
 pub record ArePart (whole cs : List (List Lit)) : Type 0 where

@@ -3,13 +3,13 @@ ghost use Rattle.std.specs.Prelude.{◌≡◌, ◌+◌, ◌<◌, ◌≤◌, ◌+
 ghost use Rattle.csdn_core.specs.declared.terms.Sort.{Sort as AnySort};
 ghost use Rattle.decision_laws.specs.Forms.{one_if};
 ghost use Rattle.decision_laws.specs.Vocabulary.{find_or};
-ghost use Rattle.decision_laws.specs.Copies.{Equation as EquationOf, nothing, place as place_of, place_sort};
-ghost use Rattle.decision_laws.specs.Leaves.{written};
+ghost use Rattle.decision_laws.specs.Copies.{Equation as EquationOf, nothing, place as place_of, place_sort, constants as constants_of, known as known_of};
+ghost use Rattle.decision_laws.specs.Leaves.{written, form_leaves};
 ghost use Rattle.decision_laws.specs.Trees.{tree_form};
 ghost use Rattle.decision_laws.specs.Walk.{names_alone, scope_of, count_of, fact_of, literals_of, state_of, AddsLeaves, AddsCopy, AddsEach};
 
-use crate::names::{constant_place, constant_sort, numeral_place};
-use crate::tree::Tree;
+use crate::names::{constant_place, constant_sort, known, numeral_place};
+use crate::tree::{Tree, need};
 use arrayvec::ArrayVec;
 use csdn_core::program::Parts;
 use csdn_core::terms::{Pred, Sort, Term, VarId};
@@ -72,10 +72,19 @@ pub struct Counts {
 }
 
 // What the walk has made, and where it stands.
+#[derive(Drop)]
 struct Work {
     scope: Vec<Bind>,
     base: Counts,
     out: Vec<Literal>,
+}
+
+impl Places {
+    pub fn as_slice(&self) -> &[usize]
+        ensures { result.now ≡ self.now }
+    {
+        self.places.as_slice()
+    }
 }
 
 impl Counts {
@@ -210,16 +219,16 @@ fn walk(parts: &Parts, counts: Counts, tree: &Tree, work: &mut Work) -> Result<(
             let fact = equation(parts, &work.scope, *t, *u);
             append(work, *positive, fact)
         }
-        Tree::Conj(p, q) => {
-            walk(parts, counts, p, work)?;
-            walk(parts, counts, q, work)?;
+        Tree::Conj(left, right) => {
+            walk(parts, counts, left, work)?;
+            walk(parts, counts, right, work)?;
             Ok(())
         }
         Tree::Disj(p, q) => {
-            let start = work.base;
+            let before = work.base;
             walk(parts, counts, p, work)?;
             let after = work.base;
-            work.base = start;
+            work.base = before;
             walk(parts, counts, q, work)?;
             work.base = after.larger(work.base);
             Ok(())
@@ -280,4 +289,53 @@ fn walk_each(
         walk_at(parts, counts, Bind { var, sort, place }, body, work)?;
     }
     Ok(())
+}
+
+// How many constants of a sort there are: its names and those that the tree needs, and at least one.
+fn constants(parts: &Parts, tree: &Tree, sort: Sort) -> Result<usize, Memory>
+    ensures { IfOk result (λ n. n ≡ constants_of (names_alone parts.now) (tree_form tree.now) sort) }
+{
+    let needed = need(tree, sort);
+    if needed == usize::MAX {
+        return Err(Memory);
+    }
+    let all = known(parts, sort).checked_add(needed).ok_or(Memory)?;
+    Ok(all.max(1))
+}
+
+fn all_constants(parts: &Parts, tree: &Tree) -> Result<Counts, Memory>
+    ensures { IfOk result (λ c. (s : AnySort) → count_of c s ≡ constants_of (names_alone parts.now) (tree_form tree.now) s) }
+{
+    let sw = constants(parts, tree, Sort::Sw)?;
+    let ho = constants(parts, tree, Sort::Ho)?;
+    let pr = constants(parts, tree, Sort::Pr)?;
+    Ok(Counts { sw, ho, pr })
+}
+
+// The names come first, and after them the constants that an `exists` may take.
+fn all_known(parts: &Parts) -> Counts
+    ensures { (s : AnySort) → count_of result s ≡ known_of (names_alone parts.now) s }
+{
+    Counts {
+        sw: known(parts, Sort::Sw),
+        ho: known(parts, Sort::Ho),
+        pr: known(parts, Sort::Pr),
+    }
+}
+
+/// The atoms and equations of the copies of a tree over the constants of a program, with their signs, from left to right:
+/// each `exists` with a constant of its own, shared by the sides of an `or` alone, and each `forall` once for each constant
+/// of its sort. Of an equation and its mirror the one with the lower place first is given. It refuses only for want of
+/// memory, or where a sort has more than 2^64 - 2 constants.
+pub fn copied(alloc: Global, parts: &Parts, tree: &Tree) -> Result<Vec<Literal>, Memory>
+    ensures { IfOk result (λ ls. literals_of ls.items ≡ form_leaves parts.now (tree_form tree.now)) }
+{
+    let counts = all_constants(parts, tree)?;
+    let mut work = Work {
+        scope: Vec::new(alloc),
+        base: all_known(parts),
+        out: Vec::new(alloc),
+    };
+    walk(parts, counts, tree, &mut work)?;
+    Ok(work.out)
 }

@@ -1,15 +1,20 @@
 //! Laws as contracts of functions that do nothing.
-ghost use Rattle.std.specs.Prelude.{◌≡◌, ◌↔◌, ℕ, ◌+◌, ◌==◌, Bool, true, List, [], ◌∷◌, ◌++◌, length, IsTrue};
+ghost use Rattle.std.specs.Prelude.{◌≡◌, ◌≢◌, ◌↔◌, ℕ, ◌+◌, ◌==◌, Bool, true, List, [], ◌∷◌, ◌++◌, length, AllPairs, IsTrue};
 ghost use Rattle.csdn_core.specs.declared.terms.Sort.{Sort as AnySort};
+ghost use Rattle.csdn_core.specs.declared.terms.Sort.TheVariants.{Pr};
+ghost use Rattle.csdn_core.specs.declared.terms.Place.{Place as AnyPlace};
+ghost use Rattle.csdn_core.specs.declared.terms.Place.TheVariants.{Trans};
 ghost use Rattle.csdn_core.specs.declared.program.Parts.{Parts as AnyParts};
 ghost use Rattle.csdn_core.specs.declared.syntax.Formula.{Formula as AnyFormula};
 ghost use Rattle.csdn_core.specs.Truth.{Structure, Assignment, truth};
-ghost use Rattle.csdn_core.specs.Network.{Network, State, IsNetwork};
+ghost use Rattle.csdn_core.specs.Network.{Network, State, IsNetwork, elements};
+ghost use Rattle.csdn_core.specs.Sorted.{IsSorted, bound_in};
+ghost use Rattle.csdn_core.specs.WellSorted.{signature};
 ghost use Rattle.decision_laws.specs.Forms.{form_truth};
-ghost use Rattle.decision_laws.specs.Vocabulary.{IsIn};
+ghost use Rattle.decision_laws.specs.Vocabulary.{IsIn, fits, places_from};
 ghost use Rattle.decision_laws.specs.Copies.{Fact, judge};
 ghost use Rattle.decision_laws.specs.Classes.{Meaning, AreOfJudgement, number, network_of, state_of};
-ghost use Rattle.decision_laws.specs.Clauses.{Lit, clause_true, IsModel};
+ghost use Rattle.decision_laws.specs.Clauses.{Lit, AtomsDiffer, clause_true, IsModel};
 ghost use Rattle.decision_laws.specs.Numbers.{fact_count, fact_number, numbered_fact};
 ghost use Rattle.decision_laws.specs.Sublists.{ArePart, AreBroken, left_of};
 ghost use Rattle.decision_laws.specs.Example.{program, sentence, r, example_counts, example_copies, example_first, example_node_clauses, example_equality_clauses, example_judgement, example_network};
@@ -18,6 +23,12 @@ ghost use Rattle.decision_laws.specs.Laws.{form_of, words, counts, sentence_copi
 /// A normal form is true where its formula is.
 pub fn normal_forms_keep_truth()
     ensures { (M : Structure) (F : AnyFormula) (e : Assignment) → form_truth M (form_of F) e ≡ truth M F e }
+{}
+
+/// A formula that is well-sorted by the rules of programs, in a place where `rcv_this` may not stand, and whose bound variables
+/// have numbers of their own, is well-sorted in the vocabulary of its sentence.
+pub fn sorted_formulas_fit()
+    ensures { (P : AnyParts) (F : AnyFormula) (place : AnyPlace) → place ≢ Trans → IsSorted (signature P) place [] F → AllPairs (λ m n. m ≢ n) (bound_in F) → IsTrue (fits (words P F) [] (form_of F)) }
 {}
 
 /// A sentence that is true in a network and state has a fair judgement of its copies.
@@ -30,6 +41,7 @@ pub fn network_gives_judgement()
 pub fn judgement_gives_network()
     ensures network { (P : AnyParts) (F : AnyFormula) (j : Fact → Bool) → IsSentence P F → IsJudgement P F j → IsNetwork P (network_of P (form_of F) j) × IsTrueIn P F (network_of P (form_of F) j) (state_of P (form_of F) j) }
     ensures numbers { (P : AnyParts) (F : AnyFormula) (j : Fact → Bool) → IsJudgement P F j → AreOfJudgement P (form_of F) j (number P (form_of F) j) (network_of P (form_of F) j) (state_of P (form_of F) j) }
+    ensures counted { (P : AnyParts) (F : AnyFormula) (j : Fact → Bool) → IsJudgement P F j → (s : AnySort) → s ≢ Pr → elements (network_of P (form_of F) j) s ≡ places_from 1 (length (elements (network_of P (form_of F) j) s)) }
     ensures any { (P : AnyParts) (F : AnyFormula) (j : Fact → Bool) (ρ : Meaning) (N : Network) (x : State) → IsSentence P F → IsJudgement P F j → AreOfJudgement P (form_of F) j ρ N x → IsTrueIn P F N x }
     ensures names { (P : AnyParts) (F : AnyFormula) (j : Fact → Bool) (ρ : Meaning) (N : Network) (x : State) → AreOfJudgement P (form_of F) j ρ N x → AgreesOnNames P F N x j }
 {}
@@ -39,6 +51,7 @@ pub fn clauses_have_models()
     ensures model { (P : AnyParts) (F : AnyFormula) (first : ℕ) (num : Fact → ℕ) (fact_at : ℕ → Fact) → IsSentence P F → NamesFacts P F first num fact_at → (v : ℕ → Bool) → IsModel v (complete_clauses P F num first) → IsJudgement P F (λ f. v (num f)) }
     ensures judged { (P : AnyParts) (F : AnyFormula) (first : ℕ) (num : Fact → ℕ) (fact_at : ℕ → Fact) → IsSentence P F → NamesFacts P F first num fact_at → (j : Fact → Bool) → IsJudgement P F j → IsModel (λ x. judge j (clause_names P F first fact_at x)) (complete_clauses P F num first) }
     ensures tied { (P : AnyParts) (F : AnyFormula) (first : ℕ) (num : Fact → ℕ) (fact_at : ℕ → Fact) → IsSentence P F → NamesFacts P F first num fact_at → (c : List Lit) → IsIn c (complete_clauses P F num first) → IsTiedTo P F first fact_at c }
+    ensures apart { (P : AnyParts) (F : AnyFormula) (first : ℕ) (num : Fact → ℕ) (fact_at : ℕ → Fact) → IsSentence P F → NamesFacts P F first num fact_at → (c : List Lit) → IsIn c (complete_clauses P F num first) → AtomsDiffer c }
     ensures network { (P : AnyParts) (F : AnyFormula) (first : ℕ) (num : Fact → ℕ) (fact_at : ℕ → Fact) → IsSentence P F → NamesFacts P F first num fact_at → HasModel (complete_clauses P F num first) ↔ HasNetwork P F }
 {}
 

@@ -1,7 +1,14 @@
-//! The laws of the decision.
+//! The laws on which each yes and each counterexample of the decision rests.
+//!
+//! A sentence is decided over finitely many constants: copies of it, judgements of their atoms and equations, clauses.
+//! The definitions stand in `specs/`; [`laws`] connects them with the truth of the sentence in networks and states, as
+//! contracts of functions that do nothing. [`tree`] and [`copies`] compute need and copies of a given tree.
+//! `docs/parts/decision_laws.md` says the definitions in words, with an example.
 #![tactic(auto)]
 
 pub mod copies;
 pub mod laws;
-pub mod names;
+mod names;
+#[cfg(test)]
+mod tests;
 pub mod tree;

@@ -1,4 +1,5 @@
 use Rattle.decision_laws.proofs.laws.clauses_have_models.Goals as goal
+use Rattle.decision_laws.proofs.Differing.{clauses_differ}
 use Rattle.decision_laws.proofs.Bridge.{model_judges, judgement_models, clauses_tied, models_networks}
 
 pub returns-clause-model : goal.returns-clause-model
@@ -9,6 +10,9 @@ returns-clause-judged c = judgement_models
 
 pub returns-clause-tied : goal.returns-clause-tied
 returns-clause-tied c = clauses_tied
+
+pub returns-clause-apart : goal.returns-clause-apart
+returns-clause-apart c = clauses_differ
 
 pub returns-clause-network : goal.returns-clause-network
 returns-clause-network c = models_networks

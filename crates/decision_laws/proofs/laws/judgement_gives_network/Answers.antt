@@ -1,12 +1,15 @@
 use Rattle.decision_laws.proofs.laws.judgement_gives_network.Goals as goal
 use Rattle.decision_laws.proofs.Downward.{law_down, law_names}
-use Rattle.decision_laws.proofs.Networks.{law_network, law_numbers}
+use Rattle.decision_laws.proofs.Networks.{law_network, law_numbers, law_counted}
 
 pub returns-clause-network : goal.returns-clause-network
 returns-clause-network c = law_network
 
 pub returns-clause-numbers : goal.returns-clause-numbers
 returns-clause-numbers c = law_numbers
+
+pub returns-clause-counted : goal.returns-clause-counted
+returns-clause-counted c = law_counted
 
 pub returns-clause-any : goal.returns-clause-any
 returns-clause-any c = law_down
