@@ -11,7 +11,6 @@ use Rattle.decision_laws.proofs.Lists.{filter_in, in_filter}
 use Rattle.decision_laws.specs.Classes.{IsNumbering, class_number, classes_of, first_from, first_of, free_numbers, numeral_among, numeral_of, port_number, position_in, unnumbered}
 use Rattle.decision_laws.specs.Clauses.{AreDistinct, no}
 use Rattle.decision_laws.specs.Copies.{Equation, Fact, IsFair, known, numeral_place}
-
 use Rattle.decision_laws.specs.Tied.{same, turned}
 use Rattle.decision_laws.specs.Vocabulary.{IsIn, Vocabulary, places_from, vocabulary}
 

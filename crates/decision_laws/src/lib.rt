@@ -3,7 +3,7 @@
 //! A sentence is decided over finitely many constants: copies of it, judgements of their atoms and equations, clauses.
 //! The definitions stand in `specs/`; [`laws`] connects them with the truth of the sentence in networks and states, as
 //! contracts of functions that do nothing. [`tree`] and [`copies`] compute need and copies of a given tree.
-//! `docs/parts/decision_laws.md` says the definitions in words, with an example.
+//! `docs/DEFINITIONS.md` says the definitions in words, with an example.
 #![tactic(auto)]
 
 pub mod copies;
