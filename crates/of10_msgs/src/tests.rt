@@ -2,7 +2,7 @@
 
 use super::*;
 use of10_wire::{Body, WireRefusal, WireWhy};
-use std::alloc::Global;
+use std::alloc::{AllocError, Global};
 use std::test::Fail;
 
 /// The message that a frame is, and the frame that the message is.
@@ -72,23 +72,19 @@ fn each_rule_refuses_at_its_place(rt: HostRuntime) {
     }
 }
 
+/// A body of so many bytes.
+fn body_of(alloc: Global, len: usize) -> Result<Body, AllocError> {
+    Ok(Body::from_vec(vec![in alloc; 7; len]?))
+}
+
 #[test]
 fn the_longest_echo_is_sent_and_no_longer_one(rt: HostRuntime) -> Result<(), Fail> {
-    let longest = Message::EchoRequest {
-        xid: 1,
-        body: Body::from_vec(vec![in rt.alloc(); 7; 65527]?),
-    };
+    let body = body_of(rt.alloc(), 65527)?;
+    let longest = Message::EchoRequest { xid: 1, body };
     assert!(rt; is_sendable(&longest));
-    assert!(rt;
-        matches!(
-            again(rt.alloc(), &longest)?,
-            Message::EchoRequest { xid: 1, .. }
-        )
-    );
-    let longer = Message::EchoRequest {
-        xid: 1,
-        body: Body::from_vec(vec![in rt.alloc(); 7; 65528]?),
-    };
-    assert!(rt; !is_sendable(&longer));
+    let read = again(rt.alloc(), &longest)?;
+    assert!(rt; matches!(&read, Message::EchoRequest { xid: 1, body } if body.len() == 65527));
+    let body = body_of(rt.alloc(), 65528)?;
+    assert!(rt; !is_sendable(&Message::EchoRequest { xid: 1, body }));
     Ok(())
 }
