@@ -1,0 +1,89 @@
+-- The relation of outputs leaves no choice where nothing disturbs the call.
+use Rattle.std.proofs.Common.{◌≡◌, ℕ, ◌<◌, ◌⊎◌, inl, inr, List, [], Option, Contains, sym, ◌∙◌, ap, subst, arith}
+use Rattle.csdn_core.specs.declared.program.Parts.{Parts}
+use Rattle.csdn_tree.specs.declared.syntax.RawProgram.{RawProgram}
+use Rattle.csdn_text.proofs.Whole.{reads_one}
+use Rattle.csdn_types.specs.declared.refusal.SortRefusal.{SortRefusal}
+use Rattle.csdn_types.specs.Resolved.{broken_rules, parts_of}
+use Rattle.truth_table.specs.FirstForm.{IsFirstForm}
+use Rattle.vericon_edge.specs.Told.{Told, holds, MayHold, MayBeMissing, MayBeLonger}
+use Rattle.vericon_app.specs.declared.program.Why.{Why}
+use Rattle.vericon_app.specs.Words.{Form}
+use Rattle.vericon_app.specs.Inputs.{Inputs, was_read, was_refused, was_missing, was_longer, had_failed}
+use Rattle.vericon_app.specs.Programs.{Spells, IsNoProgram, has_no_reading, breaks_a_rule}
+use Rattle.vericon_app.specs.Check.{VerdictOutput, is_inductive, is_false_at_start, is_false_after, ProgramOutput, has_the_form, has_not_the_form, BytesOutput, is_program, is_no_program, CheckOutput}
+use Rattle.vericon_app.specs.Frames.{ListingOutput, FramesOutput, IsUndisturbedListing, IsListed, is_listed, is_longer}
+use Rattle.vericon_app.specs.Output.{Output}
+use Rattle.vericon_app.specs.Left.{HasLeft, whole, no_memory, cut, cut_memory}
+use Rattle.vericon_app.specs.Decided.{IsUndisturbed, IsDecided, is_yes, is_counterexample, is_not_yet, spells_none, is_too_long}
+
+-- bytes spell at most one program
+pub spelled_once : (bytes : List ℕ) (P Q : Parts) → Spells bytes P → Spells bytes Q → P ≡ Q
+spelled_once bytes P Q first second =
+    first.types.is ∙ ap parts_of (reads_one first.reads second.reads) ∙ sym second.types.is
+
+none_among : (refusal : SortRefusal) → Contains [] refusal → ⊥
+none_among refusal (k, below, is) = omega arith
+
+-- bytes that are refused spell none
+none_spelled : (bytes : List ℕ) (at : ℕ) (why : Why) → IsNoProgram bytes at why → (P : Parts) → Spells bytes P → ⊥
+none_spelled bytes at why (has_no_reading refusal none right told) P spells = none spells.tree spells.reads
+none_spelled bytes at why (breaks_a_rule tree refusal reads least told) P spells =
+    let same : spells.tree ≡ tree = reads_one spells.reads reads in
+    let kept : broken_rules tree ≡ [] = subst (λ (t : RawProgram). broken_rules t ≡ []) same spells.types.keeps in
+    none_among refusal (subst (λ (faults : List SortRefusal). Contains faults refusal) kept least.among)
+
+verdict_decided : (bytes text : List ℕ) (status : ℕ) (P : Parts) → Spells bytes P → IsFirstForm P → VerdictOutput P text status → IsDecided bytes status
+verdict_decided bytes text status P spells form (is_inductive inductive text_is status_is) = is_yes P spells form inductive status_is
+verdict_decided bytes text status P spells form (is_false_at_start v broken start text_is status_is) = is_counterexample P spells form broken status_is
+verdict_decided bytes text status P spells form (is_false_after v values broken after text_is status_is) = is_counterexample P spells form broken status_is
+
+program_decided : (name bytes text : List ℕ) (status : ℕ) (P : Parts) → Spells bytes P → ProgramOutput name P text status → IsDecided bytes status
+program_decided name bytes text status P spells (has_the_form form out) = verdict_decided bytes text status P spells form out
+program_decided name bytes text status P spells (has_not_the_form other text_is status_is) = is_not_yet P spells other status_is
+
+bytes_decided : (name bytes text : List ℕ) (status : ℕ) → BytesOutput name bytes text status → IsDecided bytes status
+bytes_decided name bytes text status (is_program P spells out) = program_decided name bytes text status P spells out
+bytes_decided name bytes text status (is_no_program at why refusal text_is status_is) = spells_none (none_spelled bytes at why refusal) status_is
+
+file_decided : (given : Inputs) (name bytes text : List ℕ) (status : ℕ) → given.told name ≡ holds bytes → given.after ≡ given.before → given.before < 18446744073709551615
+    → CheckOutput given name text status → IsDecided bytes status
+file_decided given name bytes text status told steady counted (was_read found may within out) =
+    let is : found ≡ bytes = subst (λ (t : Told). MayHold t found) told may in
+    bytes_decided name bytes text status (subst (λ (xs : List ℕ). BytesOutput name xs text status) is out)
+file_decided given name bytes text status told steady counted (was_refused (was_missing may text_is status_is)) =
+    absurd (subst (λ (t : Told). MayBeMissing t given.before given.after) told may)
+file_decided given name bytes text status told steady counted (was_refused (was_longer may text_is status_is)) =
+    is_too_long (subst (λ (t : Told). MayBeLonger t 65536) told may) status_is
+file_decided given name bytes text status told steady counted (was_refused (had_failed rose text_is status_is)) = absurd (omega arith)
+
+-- an undisturbed call decides by the bytes, or memory was short
+pub decided : (form : Form) (given : Inputs) (old new : Option (List ℕ)) (before after status : ℕ) (bytes : List ℕ) → IsUndisturbed form given before after bytes → HasLeft (Output form given) old new before after status
+    → IsDecided bytes status ⊎ (status ≡ 7)
+decided form given old new before after status bytes quiet (whole text out grown steady) =
+    let here : CheckOutput given quiet.name text status = subst (λ (f : Form). Output f given text status) quiet.asked out in
+    inl (file_decided given quiet.name bytes text status quiet.told quiet.no_read_fault quiet.reads_counted here)
+decided form given old new before after status bytes quiet (no_memory is grown steady) = inr is
+decided form given old new before after status bytes quiet (cut text other out is grown rose) = absurd (omega (arith, rose, quiet.no_write_fault, quiet.writes_counted))
+decided form given old new before after status bytes quiet (cut_memory is grown rose) = absurd (omega (arith, rose, quiet.no_write_fault, quiet.writes_counted))
+
+listed_file : (given : Inputs) (name bytes text : List ℕ) (status : ℕ) → given.told name ≡ holds bytes → given.after ≡ given.before → given.before < 18446744073709551615
+    → FramesOutput given name text status → IsListed bytes status
+listed_file given name bytes text status told steady counted (was_read found may within out) =
+    let is : found ≡ bytes = subst (λ (t : Told). MayHold t found) told may in
+    is_listed text (subst (λ (xs : List ℕ). ListingOutput xs text status) is out)
+listed_file given name bytes text status told steady counted (was_refused (was_missing may text_is status_is)) =
+    absurd (subst (λ (t : Told). MayBeMissing t given.before given.after) told may)
+listed_file given name bytes text status told steady counted (was_refused (was_longer may text_is status_is)) =
+    is_longer (subst (λ (t : Told). MayBeLonger t 16777216) told may) status_is
+listed_file given name bytes text status told steady counted (was_refused (had_failed rose text_is status_is)) = absurd (omega arith)
+
+-- an undisturbed listing is of the bytes, or memory was short
+pub listed : (form : Form) (given : Inputs) (old new : Option (List ℕ)) (before after status : ℕ) (bytes : List ℕ) → IsUndisturbedListing form given before after bytes
+    → HasLeft (Output form given) old new before after status → IsListed bytes status ⊎ (status ≡ 7)
+listed form given old new before after status bytes quiet (whole text out grown steady) =
+    let here : FramesOutput given quiet.name text status = subst (λ (f : Form). Output f given text status) quiet.asked out in
+    inl (listed_file given quiet.name bytes text status quiet.told quiet.no_read_fault quiet.reads_counted here)
+listed form given old new before after status bytes quiet (no_memory is grown steady) = inr is
+listed form given old new before after status bytes quiet (cut text other out is grown rose) = absurd (omega (arith, rose, quiet.no_write_fault, quiet.writes_counted))
+listed form given old new before after status bytes quiet (cut_memory is grown rose) = absurd (omega (arith, rose, quiet.no_write_fault, quiet.writes_counted))

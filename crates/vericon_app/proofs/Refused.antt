@@ -1,0 +1,57 @@
+-- From refusals of texts and trees to those of programs.
+use Rattle.std.proofs.Common.{◌≡◌, ℕ, ◌⊎◌, inl, inr, List, Result, Ok, Err, MatchResult, subst}
+use Rattle.std.specs.Result.{IsErrAnd}
+use Rattle.csdn_core.specs.declared.program.Parts.{Parts}
+use Rattle.csdn_tree.specs.declared.syntax.RawProgram.{RawProgram}
+use Rattle.csdn_text.specs.declared.TextRefusal.{TextRefusal}
+use Rattle.csdn_text.specs.declared.TextRefusal.TheVariants as text
+use Rattle.csdn_text.specs.Reading.{Reads, Agrees, IsRefusedText}
+use Rattle.csdn_types.specs.declared.refusal.SortRefusal.{SortRefusal}
+use Rattle.csdn_types.specs.declared.refusal.SortRefusal.TheVariants as sorts
+use Rattle.csdn_types.specs.Order.{IsLeast}
+use Rattle.csdn_types.specs.Resolved.{IsRefusal, broken_rules}
+use Rattle.vericon_app.specs.declared.program.ProgramRefusal.{ProgramRefusal}
+use Rattle.vericon_app.specs.declared.program.ProgramRefusal.TheVariants.{Memory, At}
+use Rattle.vericon_app.specs.declared.program.Why.{Why}
+use Rattle.vericon_app.specs.Refusals.{told_text, told_sorts}
+use Rattle.vericon_app.specs.Programs.{Spells, IsNoProgram, has_no_reading, breaks_a_rule, IsProgramRefusal}
+
+-- the text has no reading, and is refused so, unless memory ran out
+record IsRefused (bytes : List ℕ) (e : TextRefusal) : Type 0 where
+  only : (tree : RawProgram) → Reads bytes tree → Agrees tree (Err e)
+  right : (e ≡ text.Memory) ⊎ IsRefusedText bytes e
+
+right_by : (bytes : List ℕ) (e : TextRefusal) → (e ≡ text.Memory → ⊥) → (e ≡ text.Memory) ⊎ IsRefusedText bytes e → IsRefusedText bytes e
+right_by bytes e other (inl memory) = absurd (other memory)
+right_by bytes e other (inr right) = right
+
+no_reading : (bytes : List ℕ) (at : ℕ) (why : Why) (e : TextRefusal) → IsRefused bytes e → At at why ≡ told_text e → IsNoProgram bytes at why
+no_reading bytes at why text.Memory refused is = cc
+no_reading bytes at why text.TooLong refused is = has_no_reading text.TooLong refused.only (right_by bytes text.TooLong (λ e. cc) refused.right) is
+no_reading bytes at why (text.BadByte n) refused is = has_no_reading (text.BadByte n) refused.only (right_by bytes (text.BadByte n) (λ e. cc) refused.right) is
+no_reading bytes at why (text.BadNumber n) refused is = has_no_reading (text.BadNumber n) refused.only (right_by bytes (text.BadNumber n) (λ e. cc) refused.right) is
+no_reading bytes at why (text.BadName n) refused is = has_no_reading (text.BadName n) refused.only (right_by bytes (text.BadName n) (λ e. cc) refused.right) is
+no_reading bytes at why (text.Unexpected n) refused is = has_no_reading (text.Unexpected n) refused.only (right_by bytes (text.Unexpected n) (λ e. cc) refused.right) is
+no_reading bytes at why (text.TooDeep n) refused is = has_no_reading (text.TooDeep n) refused.only (right_by bytes (text.TooDeep n) (λ e. cc) refused.right) is
+
+text_refused : (bytes : List ℕ) (e : TextRefusal) (told : ProgramRefusal) → IsRefused bytes e → told ≡ told_text e → IsProgramRefusal bytes told
+text_refused bytes e Memory refused is = tt
+text_refused bytes e (At at why) refused is = no_reading bytes at why e refused is
+
+pub exit_text : (bytes : List ℕ) (r : Result Parts ProgramRefusal) (e : TextRefusal) → IsErrAnd r (λ told. told ≡ told_text e)
+    → ((tree : RawProgram) → Reads bytes tree → Agrees tree (Err e)) → (e ≡ text.Memory) ⊎ IsRefusedText bytes e → MatchResult r (Spells bytes) (IsProgramRefusal bytes)
+exit_text bytes (Ok P) e is only right = elim is [ ]
+exit_text bytes (Err told) e is only right = text_refused bytes e told (record { only = only; right = right }) is
+
+broken_rule : (bytes : List ℕ) (tree : RawProgram) (at : ℕ) (why : Why) (e : SortRefusal) → Reads bytes tree → (e ≡ sorts.Memory) ⊎ IsLeast (broken_rules tree) e → At at why ≡ told_sorts e → IsNoProgram bytes at why
+broken_rule bytes tree at why e reads (inl memory) is =
+    let told : At at why ≡ Memory = subst (λ (x : SortRefusal). At at why ≡ told_sorts x) memory is in cc
+broken_rule bytes tree at why e reads (inr least) is = breaks_a_rule tree e reads least is
+
+sorts_refused : (bytes : List ℕ) (tree : RawProgram) (e : SortRefusal) (told : ProgramRefusal) → Reads bytes tree → IsRefusal tree e → told ≡ told_sorts e → IsProgramRefusal bytes told
+sorts_refused bytes tree e Memory reads refusal is = tt
+sorts_refused bytes tree e (At at why) reads refusal is = broken_rule bytes tree at why e reads refusal.is is
+
+pub exit_sorts : (bytes : List ℕ) (tree : RawProgram) (r : Result Parts ProgramRefusal) (e : SortRefusal) → IsErrAnd r (λ told. told ≡ told_sorts e) → Reads bytes tree → IsRefusal tree e → MatchResult r (Spells bytes) (IsProgramRefusal bytes)
+exit_sorts bytes tree (Ok P) e is reads refusal = elim is [ ]
+exit_sorts bytes tree (Err told) e is reads refusal = sorts_refused bytes tree e told reads refusal is

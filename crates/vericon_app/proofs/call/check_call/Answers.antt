@@ -1,0 +1,26 @@
+use Rattle.std.proofs.Common.{ℕ, List, subst}
+use Rattle.vericon_app.specs.Status.{code_of}
+use Rattle.vericon_app.specs.Left.{Finishes}
+use Rattle.vericon_app.proofs.Exact.{decided, listed}
+use Rattle.vericon_app.proofs.Outputs.{finished, verified}
+use Rattle.vericon_app.proofs.call.check_call.Goals as goal
+
+pub returns-in-Ok-clause-output : goal.returns-in-Ok-clause-output
+returns-in-Ok-clause-output g c =
+    let F : List ℕ → Type 0 = λ text. Finishes text (code_of c.in-Ok.outcome.status) (g.S.Sink.written c.args.out.now) (g.S.Sink.written c.finish.new.out) (g.S.Sink.faults c.args.out.now) (g.S.Sink.faults c.finish.new.out) c.finish.result in
+    finished _ _ _ _ _ _ _ _ c.in-Ok.ensures.output (subst F c.as_slice.ensures.value c.finish.ensures.finishes)
+
+pub returns-in-Ok-clause-yes : goal.returns-in-Ok-clause-yes
+returns-in-Ok-clause-yes g c =
+    let F : List ℕ → Type 0 = λ text. Finishes text (code_of c.in-Ok.outcome.status) (g.S.Sink.written c.args.out.now) (g.S.Sink.written c.finish.new.out) (g.S.Sink.faults c.args.out.now) (g.S.Sink.faults c.finish.new.out) c.finish.result in
+    verified _ _ _ _ _ _ _ _ _ c.in-Ok.ensures.output (subst F c.as_slice.ensures.value c.finish.ensures.finishes)
+
+pub returns-in-Ok-clause-decided : goal.returns-in-Ok-clause-decided
+returns-in-Ok-clause-decided g c = λ bytes quiet.
+    let F : List ℕ → Type 0 = λ text. Finishes text (code_of c.in-Ok.outcome.status) (g.S.Sink.written c.args.out.now) (g.S.Sink.written c.finish.new.out) (g.S.Sink.faults c.args.out.now) (g.S.Sink.faults c.finish.new.out) c.finish.result in
+    decided _ _ _ _ _ _ _ bytes quiet (finished _ _ _ _ _ _ _ _ c.in-Ok.ensures.output (subst F c.as_slice.ensures.value c.finish.ensures.finishes))
+
+pub returns-in-Ok-clause-listed : goal.returns-in-Ok-clause-listed
+returns-in-Ok-clause-listed g c = λ bytes quiet.
+    let F : List ℕ → Type 0 = λ text. Finishes text (code_of c.in-Ok.outcome.status) (g.S.Sink.written c.args.out.now) (g.S.Sink.written c.finish.new.out) (g.S.Sink.faults c.args.out.now) (g.S.Sink.faults c.finish.new.out) c.finish.result in
+    listed _ _ _ _ _ _ _ bytes quiet (finished _ _ _ _ _ _ _ _ c.in-Ok.ensures.output (subst F c.as_slice.ensures.value c.finish.ensures.finishes))

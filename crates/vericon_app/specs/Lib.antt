@@ -1,0 +1,13 @@
+pub mod Status
+pub mod Words
+pub mod Refusals
+pub mod Programs
+pub mod Lines
+pub mod Sources
+pub mod Inputs
+pub mod Check
+pub mod Frames
+pub mod Output
+pub mod Left
+pub mod Verified
+pub mod Decided

@@ -1,0 +1,97 @@
+//! The call of a command that uses no network.
+ghost use Rattle.std.specs.Prelude.{◌≡◌, ◌≤◌, ◌⊎◌, ℕ, List, map, string_bytes, IfOk};
+ghost use Rattle.vericon_app.specs.Status.{code_of};
+ghost use Rattle.vericon_app.specs.Words.{form_of};
+ghost use Rattle.vericon_app.specs.Lines.{memory_text};
+ghost use Rattle.vericon_app.specs.Inputs.{inputs_of};
+ghost use Rattle.vericon_app.specs.Output.{Output};
+ghost use Rattle.vericon_app.specs.Left.{HasLeft, Finishes};
+ghost use Rattle.vericon_app.specs.Verified.{IsVerified};
+ghost use Rattle.vericon_app.specs.Decided.{IsUndisturbed, IsDecided};
+ghost use Rattle.vericon_app.specs.Frames.{IsUndisturbedListing, IsListed};
+
+use crate::check::check;
+use crate::frames::frames;
+use crate::lines::usage;
+use crate::outcome::{Outcome, Status};
+use crate::words::{Request, request_of};
+use std::alloc::{AllocError, Global};
+use vericon_edge::files::Files;
+use vericon_edge::sink::{Sink, write_piece};
+
+/// What the command that the words name says.
+fn run_command<F: Files>(
+    alloc: Global,
+    words: &[String],
+    files: &mut F,
+) -> Result<Outcome, AllocError>
+    ensures output { IfOk result (λ outcome. Output (form_of (map string_bytes words.now)) (inputs_of F.told F.read_faults files.old files.new) outcome.text.items (code_of outcome.status)) }
+    ensures told { F.told files.new ≡ F.told files.old }
+    ensures later { F.read_faults files.old ≤ F.read_faults files.new }
+    ensures writes { F.write_faults files.new ≡ F.write_faults files.old }
+{
+    match request_of(words) {
+        Request::Usage => usage(alloc),
+        Request::Check { program } => check(alloc, files, program),
+        Request::Frames { file } => frames(alloc, files, file),
+    }
+}
+
+/// Writes a text. The answer is the status where all of it was written.
+fn finish<S: Sink>(out: &mut S, text: &[u8], status: Status) -> u8
+    ensures finishes { Finishes text.now (code_of status) (S.written out.old) (S.written out.new) (S.faults out.old) (S.faults out.new) result }
+    ensures later { S.faults out.old ≤ S.faults out.new }
+{
+    match write_piece(out, text) {
+        Ok(()) => status.code(),
+        Err(_) => Status::WriteFault.code(),
+    }
+}
+
+/// Says that there was no memory for the call.
+pub fn no_memory<S: Sink>(out: &mut S) -> u8
+    ensures finishes { Finishes memory_text 7 (S.written out.old) (S.written out.new) (S.faults out.old) (S.faults out.new) result }
+    ensures later { S.faults out.old ≤ S.faults out.new }
+{
+    finish(out, b"memory\n", Status::Memory)
+}
+
+/// Serves the command that the words name, and gives its status. It writes its lines to the sink, and no file.
+///
+/// | status | meaning |
+/// |---|---|
+/// | 0 | yes |
+/// | 1 | a condition is broken, and the state that is printed shows it |
+/// | 3 | the program was refused |
+/// | 5 | the file is missing, or was not read |
+/// | 6 | the words have no stated form |
+/// | 7 | there was no memory |
+/// | 8 | the sink failed |
+pub fn check_call<F: Files, S: Sink>(
+    alloc: Global,
+    words: &[String],
+    files: &mut F,
+    out: &mut S,
+) -> u8
+    // what is written, and its status
+    ensures output { HasLeft (Output (form_of (map string_bytes words.now)) (inputs_of F.told F.read_faults files.old files.new)) (S.written out.old) (S.written out.new) (S.faults out.old) (S.faults out.new) result }
+    // a yes: the program is inductive, and holds its invariants in every network and every run
+    ensures yes { result ≡ 0 → IsVerified (form_of (map string_bytes words.now)) (F.told files.old) }
+    // nothing but want of memory keeps it from deciding what it is told
+    ensures decided { (bytes : List ℕ) → IsUndisturbed (form_of (map string_bytes words.now)) (inputs_of F.told F.read_faults files.old files.new) (S.faults out.old) (S.faults out.new) bytes → IsDecided bytes result ⊎ (result ≡ 7) }
+
+    // nor from listing what it is told
+    ensures listed { (bytes : List ℕ) → IsUndisturbedListing (form_of (map string_bytes words.now)) (inputs_of F.told F.read_faults files.old files.new) (S.faults out.old) (S.faults out.new) bytes → IsListed bytes result ⊎ (result ≡ 7) }
+    ensures told { F.told files.new ≡ F.told files.old }
+    ensures reads { F.read_faults files.old ≤ F.read_faults files.new }
+    ensures writes { F.write_faults files.new ≡ F.write_faults files.old }
+    ensures faults { S.faults out.old ≤ S.faults out.new }
+{
+    match run_command(alloc, words, files) {
+        Ok(outcome) => finish(out, outcome.text.as_slice(), outcome.status),
+        Err(_) => no_memory(out),
+    }
+}
+
+#[cfg(test)]
+mod tests;

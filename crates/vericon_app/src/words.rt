@@ -1,0 +1,34 @@
+//! The words of a call.
+ghost use Rattle.std.specs.Prelude.{◌≡◌, map, string_bytes};
+ghost use Rattle.vericon_app.specs.Words.{form_of, form_found};
+
+/// What the words ask for.
+#[derive(Clone, Copy)]
+pub enum Request<'a> {
+    /// Nothing that has a stated form.
+    Usage,
+    /// `check PROGRAM`.
+    Check { program: &'a str },
+    /// `frames FILE`.
+    Frames { file: &'a str },
+}
+
+/// Reads the words.
+pub fn request_of(words: &[String]) -> Request<'_>
+    ensures { form_found result ≡ form_of (map string_bytes words.now) }
+{
+    match words {
+        [command, file] => {
+            let file = file.as_str();
+            let is_option = file == "--strengthen" || file == "--log";
+            if command.as_str() == "check" && !is_option {
+                Request::Check { program: file }
+            } else if command.as_str() == "frames" {
+                Request::Frames { file }
+            } else {
+                Request::Usage
+            }
+        }
+        _ => Request::Usage,
+    }
+}
