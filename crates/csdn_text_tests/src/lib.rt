@@ -26,6 +26,7 @@ fn named(alloc: Global, bytes: usize) -> Result<Vec<u8>, AllocError> {
 #[cfg(test)]
 mod tests {
     use super::*;
+    use std::test::Fail;
     use csdn_text::parse;
     use csdn_tree::syntax::{RawCommand, RawFormula, RawItem};
 
