@@ -26,9 +26,9 @@ fn named(alloc: Global, bytes: usize) -> Result<Vec<u8>, AllocError> {
 #[cfg(test)]
 mod tests {
     use super::*;
-    use std::test::Fail;
     use csdn_text::parse;
     use csdn_tree::syntax::{RawCommand, RawFormula, RawItem};
+    use std::test::Fail;
 
     #[test]
     fn tells_the_first_token_that_does_not_fit(rt: HostRuntime) -> Result<(), Fail> {

@@ -11,7 +11,8 @@ use Rattle.vericon_app.specs.declared.program.Why.{Why}
 use Rattle.vericon_app.specs.Words.{Form}
 use Rattle.vericon_app.specs.Inputs.{Inputs, was_read, was_refused, was_missing, was_longer, had_failed}
 use Rattle.vericon_app.specs.Programs.{Spells, IsNoProgram, has_no_reading, breaks_a_rule}
-use Rattle.vericon_app.specs.Check.{VerdictOutput, is_inductive, is_false_at_start, is_false_after, ProgramOutput, has_the_form, has_not_the_form, BytesOutput, is_program, is_no_program, CheckOutput}
+use Rattle.vericon_app.specs.Small.{IsSmall}
+use Rattle.vericon_app.specs.Check.{VerdictOutput, is_inductive, is_false_at_start, is_false_after, ProgramOutput, has_the_form, has_not_the_form, TextOutput, is_small, is_large, BytesOutput, is_program, is_no_program, CheckOutput}
 use Rattle.vericon_app.specs.Frames.{ListingOutput, FramesOutput, IsUndisturbedListing, IsListed, is_listed, is_longer}
 use Rattle.vericon_app.specs.Output.{Output}
 use Rattle.vericon_app.specs.Left.{HasLeft, whole, no_memory, cut, cut_memory}
@@ -33,17 +34,21 @@ none_spelled bytes at why (breaks_a_rule tree refusal reads least told) P spells
     let kept : broken_rules tree ≡ [] = subst (λ (t : RawProgram). broken_rules t ≡ []) same spells.types.keeps in
     none_among refusal (subst (λ (faults : List SortRefusal). Contains faults refusal) kept least.among)
 
-verdict_decided : (bytes text : List ℕ) (status : ℕ) (P : Parts) → Spells bytes P → IsFirstForm P → VerdictOutput P text status → IsDecided bytes status
-verdict_decided bytes text status P spells form (is_inductive inductive text_is status_is) = is_yes P spells form inductive status_is
-verdict_decided bytes text status P spells form (is_false_at_start v broken start text_is status_is) = is_counterexample P spells form broken status_is
-verdict_decided bytes text status P spells form (is_false_after v values broken after text_is status_is) = is_counterexample P spells form broken status_is
+verdict_decided : (bytes text : List ℕ) (status : ℕ) (P : Parts) → Spells bytes P → IsSmall bytes → IsFirstForm P → VerdictOutput P text status → IsDecided bytes status
+verdict_decided bytes text status P spells small form (is_inductive inductive text_is status_is) = is_yes P spells small form inductive status_is
+verdict_decided bytes text status P spells small form (is_false_at_start v broken start text_is status_is) = is_counterexample P spells small form broken status_is
+verdict_decided bytes text status P spells small form (is_false_after v values broken after text_is status_is) = is_counterexample P spells small form broken status_is
 
-program_decided : (name bytes text : List ℕ) (status : ℕ) (P : Parts) → Spells bytes P → ProgramOutput name P text status → IsDecided bytes status
-program_decided name bytes text status P spells (has_the_form form out) = verdict_decided bytes text status P spells form out
-program_decided name bytes text status P spells (has_not_the_form other text_is status_is) = is_not_yet P spells other status_is
+program_decided : (name bytes text : List ℕ) (status : ℕ) (P : Parts) → Spells bytes P → IsSmall bytes → ProgramOutput name P text status → IsDecided bytes status
+program_decided name bytes text status P spells small (has_the_form form out) = verdict_decided bytes text status P spells small form out
+program_decided name bytes text status P spells small (has_not_the_form other text_is status_is) = is_not_yet P spells (λ few. other) status_is
+
+text_decided : (name bytes text : List ℕ) (status : ℕ) (P : Parts) → Spells bytes P → TextOutput name bytes P text status → IsDecided bytes status
+text_decided name bytes text status P spells (is_small small out) = program_decided name bytes text status P spells small out
+text_decided name bytes text status P spells (is_large large text_is status_is) = is_not_yet P spells (λ small form. large small) status_is
 
 bytes_decided : (name bytes text : List ℕ) (status : ℕ) → BytesOutput name bytes text status → IsDecided bytes status
-bytes_decided name bytes text status (is_program P spells out) = program_decided name bytes text status P spells out
+bytes_decided name bytes text status (is_program P spells out) = text_decided name bytes text status P spells out
 bytes_decided name bytes text status (is_no_program at why refusal text_is status_is) = spells_none (none_spelled bytes at why refusal) status_is
 
 file_decided : (given : Inputs) (name bytes text : List ℕ) (status : ℕ) → given.told name ≡ holds bytes → given.after ≡ given.before → given.before < 18446744073709551615

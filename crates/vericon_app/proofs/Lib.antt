@@ -1,3 +1,4 @@
 pub mod Outputs
 pub mod Exact
 pub mod Refused
+mod Small

@@ -6,7 +6,7 @@ use Rattle.vericon_edge.specs.Told.{Told, MayHold}
 use Rattle.vericon_app.specs.Words.{Form, usage, check, frames}
 use Rattle.vericon_app.specs.Inputs.{Inputs, was_read, was_refused, was_missing, was_longer, had_failed}
 use Rattle.vericon_app.specs.Programs.{Spells}
-use Rattle.vericon_app.specs.Check.{VerdictOutput, is_inductive, is_false_at_start, is_false_after, ProgramOutput, has_the_form, has_not_the_form, BytesOutput, is_program, is_no_program, CheckOutput}
+use Rattle.vericon_app.specs.Check.{VerdictOutput, is_inductive, is_false_at_start, is_false_after, ProgramOutput, has_the_form, has_not_the_form, TextOutput, is_small, is_large, BytesOutput, is_program, is_no_program, CheckOutput}
 use Rattle.vericon_app.specs.Output.{Output}
 use Rattle.vericon_app.specs.Left.{HasLeft, whole, cut, Finishes, all, front}
 use Rattle.vericon_app.specs.Verified.{IsVerifiedProgram, IsVerified}
@@ -38,8 +38,12 @@ verified_program : (told : Told) (name bytes text : List ℕ) (status : ℕ) (P 
 verified_program told name bytes text status P may spells (has_the_form form out) zero_is = verified_verdict told bytes text status P may spells out zero_is
 verified_program told name bytes text status P may spells (has_not_the_form other text_is status_is) zero_is = absurd (omega arith)
 
+verified_text : (told : Told) (name bytes text : List ℕ) (status : ℕ) (P : Parts) → MayHold told bytes → Spells bytes P → TextOutput name bytes P text status → status ≡ 0 → IsVerifiedProgram told
+verified_text told name bytes text status P may spells (is_small small out) zero_is = verified_program told name bytes text status P may spells out zero_is
+verified_text told name bytes text status P may spells (is_large large text_is status_is) zero_is = absurd (omega arith)
+
 verified_bytes : (told : Told) (name bytes text : List ℕ) (status : ℕ) → MayHold told bytes → BytesOutput name bytes text status → status ≡ 0 → IsVerifiedProgram told
-verified_bytes told name bytes text status may (is_program P spells out) zero_is = verified_program told name bytes text status P may spells out zero_is
+verified_bytes told name bytes text status may (is_program P spells out) zero_is = verified_text told name bytes text status P may spells out zero_is
 verified_bytes told name bytes text status may (is_no_program at why refusal text_is status_is) zero_is = absurd (omega arith)
 
 verified_file : (given : Inputs) (name text : List ℕ) (status : ℕ) → CheckOutput given name text status → status ≡ 0 → IsVerifiedProgram (given.told name)

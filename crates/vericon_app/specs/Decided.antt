@@ -7,6 +7,7 @@ use Rattle.vericon_edge.specs.Told.{holds}
 use Rattle.vericon_app.specs.declared.source.FileKind.TheVariants.{Program}
 use Rattle.vericon_app.specs.Words.{Form, check}
 use Rattle.vericon_app.specs.Programs.{Spells}
+use Rattle.vericon_app.specs.Small.{IsSmall}
 use Rattle.vericon_app.specs.Inputs.{Inputs, longest}
 
 -- The words are `check PROGRAM`, the files tell these bytes of it, and no fault of reading or writing was counted.
@@ -21,8 +22,8 @@ pub record IsUndisturbed (form : Form) (given : Inputs) (before after : ℕ) (by
 
 -- The status of a check of these bytes, by what they are.
 pub data IsDecided (bytes : List ℕ) (status : ℕ) : Type 0 where
-  is_yes : (P : Parts) → Spells bytes P → IsFirstForm P → IsInductive 0 P → status ≡ 0 → IsDecided bytes status
-  is_counterexample : (P : Parts) → Spells bytes P → IsFirstForm P → (IsInductive 0 P → ⊥) → status ≡ 1 → IsDecided bytes status
-  is_not_yet : (P : Parts) → Spells bytes P → (IsFirstForm P → ⊥) → status ≡ 3 → IsDecided bytes status
+  is_yes : (P : Parts) → Spells bytes P → IsSmall bytes → IsFirstForm P → IsInductive 0 P → status ≡ 0 → IsDecided bytes status
+  is_counterexample : (P : Parts) → Spells bytes P → IsSmall bytes → IsFirstForm P → (IsInductive 0 P → ⊥) → status ≡ 1 → IsDecided bytes status
+  is_not_yet : (P : Parts) → Spells bytes P → (IsSmall bytes → IsFirstForm P → ⊥) → status ≡ 3 → IsDecided bytes status
   spells_none : ((P : Parts) → Spells bytes P → ⊥) → status ≡ 3 → IsDecided bytes status
   is_too_long : longest Program < length bytes → status ≡ 3 → IsDecided bytes status

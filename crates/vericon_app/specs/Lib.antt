@@ -5,6 +5,7 @@ pub mod Programs
 pub mod Lines
 pub mod Sources
 pub mod Inputs
+pub mod Small
 pub mod Check
 pub mod Frames
 pub mod Output

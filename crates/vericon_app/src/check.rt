@@ -1,15 +1,17 @@
 //! `check PROGRAM`: whether a program holds its invariants.
-ghost use Rattle.std.specs.Prelude.{◌≡◌, ◌≤◌, IfOk};
+ghost use Rattle.std.specs.Prelude.{◌≡◌, ◌≤◌, IfOk, Ok, true, false};
 ghost use Rattle.vericon_app.specs.Status.{code_of};
 ghost use Rattle.vericon_app.specs.Inputs.{inputs_of};
 ghost use Rattle.truth_table.specs.FirstForm.{IsFirstForm};
-ghost use Rattle.vericon_app.specs.Check.{VerdictOutput, ProgramOutput, BytesOutput, CheckOutput};
+ghost use Rattle.vericon_app.specs.Check.{VerdictOutput, ProgramOutput, TextOutput, BytesOutput, CheckOutput};
+ghost use Rattle.vericon_app.specs.Small.{IsSmall};
 
 use crate::lines::{false_after, false_at_start, refused, yes};
 use crate::outcome::Outcome;
 use crate::program::{ProgramRefusal, Why, read_program};
 use crate::source::{FileKind, Source, read_file};
 use csdn_core::program::{Parts, Program};
+use csdn_tokens::tokens;
 use std::alloc::{AllocError, Global};
 use truth_table::decide::{Verdict, decide};
 use truth_table::form::is_first_form;
@@ -39,12 +41,37 @@ fn check_program(alloc: Global, name: &str, program: &Program) -> Result<Outcome
     }
 }
 
+/// Whether the text falls into at most 300 tokens. One more stands for its end.
+fn is_small(alloc: Global, bytes: &[u8]) -> Result<bool, AllocError>
+    ensures small { result ≡ Ok true → IsSmall bytes.now }
+    ensures large { result ≡ Ok false → IsSmall bytes.now → ⊥ }
+{
+    let found = tokens(alloc, bytes)?;
+    Ok(found.len() <= 301)
+}
+
+/// What is said of a program with this text.
+fn check_text(
+    alloc: Global,
+    name: &str,
+    bytes: &[u8],
+    program: &Program,
+) -> Result<Outcome, AllocError>
+    ensures { IfOk result (λ outcome. TextOutput name.now bytes.now program.now outcome.text.items (code_of outcome.status)) }
+{
+    if is_small(alloc, bytes)? {
+        check_program(alloc, name, program)
+    } else {
+        refused(alloc, name, 0, Why::NotYet)
+    }
+}
+
 /// What is said of the bytes of a program.
 fn check_bytes(alloc: Global, name: &str, bytes: &[u8]) -> Result<Outcome, AllocError>
     ensures { IfOk result (λ outcome. BytesOutput name.now bytes.now outcome.text.items (code_of outcome.status)) }
 {
     match read_program(alloc, bytes) {
-        Ok(program) => check_program(alloc, name, &program),
+        Ok(program) => check_text(alloc, name, bytes, &program),
         Err(ProgramRefusal::At { at, why }) => refused(alloc, name, at, why),
         Err(ProgramRefusal::Memory) => Err(AllocError),
     }

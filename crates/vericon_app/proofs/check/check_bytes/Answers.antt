@@ -4,7 +4,7 @@ use Rattle.vericon_app.proofs.check.check_bytes.Goals as goal
 
 pub returns-in-Ok : goal.returns-in-Ok
 returns-in-Ok c =
-    if_ok c.check_program.result _ _ (λ outcome out. is_program c.in-Ok.program c.in-Ok.ensures out) c.check_program.ensures
+    if_ok c.check_text.result _ _ (λ outcome out. is_program c.in-Ok.program c.in-Ok.ensures out) c.check_text.ensures
 
 pub returns-in-Err-At : goal.returns-in-Err-At
 returns-in-Err-At c =
