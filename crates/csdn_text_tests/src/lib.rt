@@ -111,7 +111,7 @@ mod tests {
         ];
         for (text, wanted) in cases {
             let Err(refusal) = parse(rt.alloc(), text) else {
-                assert!(rt; false, "read, and wanted {wanted}");
+                assert!(rt; false, "read, where a refusal is wanted");
                 return Ok(());
             };
             let told = format!(in rt.alloc(); "{refusal:?}")?;
