@@ -1,7 +1,7 @@
 # Shared by the scripts here: the built program, a folder for generated files, and seconds of wall time.
 set -eu
 here=$(cd "$(dirname "$0")" && pwd)
-vericon="$here/../vericon"
+vericon=${VERICON:-$here/../vericon}
 work=$(mktemp -d)
 trap 'rm -rf "$work"' EXIT
 
