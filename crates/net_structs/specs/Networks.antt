@@ -60,6 +60,18 @@ network_of parts = record {
   rows = map static_of (in_order fixed_cmp (fixed_rows parts.rows));
 }
 
+-- the network of these sorts, without values of constants and without tuples
+abbrev pub bare_network : List ℕ → List ℕ → List ℕ → Network
+bare_network sw ho pr = record { switches = in_order nat_cmp sw; hosts = in_order nat_cmp ho; ports = in_order nat_cmp pr; constants = []; rows = [] }
+
+-- by their relations, and then by their elements
+abbrev pub static_cmp : StaticRow → StaticRow → Ordering
+static_cmp = then_cmp (on (λ row. row.rel) nat_cmp) (on (λ row. row.cells) (slice_cmp nat_cmp))
+
+-- the network with a tuple of a static relation at its place in the order, unless it is there
+abbrev pub with_static : Network → ℕ → List ℕ → Network
+with_static N r cells = record N { rows = insert_key static_cmp N.rows (record { rel = r; cells = cells }) }
+
 -- the parts as a network, as they are listed
 abbrev pub as_listed : NetParts → Network
 as_listed parts = record {

@@ -12,5 +12,7 @@ pub mod network;
 pub mod read;
 pub mod row;
 pub mod state;
+#[cfg(test)]
+mod tests;
 pub mod truth;
 pub mod view;

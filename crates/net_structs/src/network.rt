@@ -1,11 +1,11 @@
 //! Networks.
-ghost use Rattle.std.specs.Prelude.{◌≡◌, ◌↔◌, ◌<◌, ◌≤◌, ◌^◌, All, IsTrue, IfOk, slice_index, refl};
+ghost use Rattle.std.specs.Prelude.{◌≡◌, ◌↔◌, ◌<◌, ◌≤◌, ◌^◌, All, IsTrue, IfOk, OnOk, OnErr, not, slice_index, refl};
 ghost use Rattle.std.specs.List.Sorted.{IsStrictlyIncreasing, IsStrictlySortedBy};
 ghost use Rattle.net_structs.specs.Rows.{row_cmp};
-ghost use Rattle.std.specs.Ordering.{as_partial_cmp, eq_by_cmp};
+ghost use Rattle.std.specs.Ordering.{as_partial_cmp, eq_by_cmp, nat_cmp};
 ghost use Rattle.std.specs.Cmp.{eq_by_cmp_equiv, partial_equiv_from_equiv, partial_order_from_total};
 ghost use Rattle.csdn_core.specs.Network.{elements as elements_of, is_static_row};
-ghost use Rattle.net_structs.specs.Networks.{IsServable, as_stored, fixed_cmp, fixed_total, has as has_element};
+ghost use Rattle.net_structs.specs.Networks.{IsServable, as_stored, bare_network, fixed_cmp, fixed_total, has as has_element, in_order, with_static};
 
 use crate::cells::Cells;
 use crate::row::{Row, Rows};
@@ -90,6 +90,57 @@ impl Model for Network {
 }
 
 impl Network {
+    /// The network of these sorts, without values of constants and without tuples. A repeated element is read once.
+    pub fn bare(
+        alloc: Global,
+        sw: &Elements,
+        ho: &Elements,
+        pr: &Elements,
+    ) -> Result<Network, AllocError>
+        ensures { IfOk result (λ network. network ≡ bare_network sw.now ho.now pr.now) }
+    {
+        Ok(Network {
+            sw: ordered(alloc, sw)?,
+            ho: ordered(alloc, ho)?,
+            pr: ordered(alloc, pr)?,
+            consts: Items::new(alloc),
+            rows: BTreeSet::new(alloc),
+        })
+    }
+
+    /// The network with these values of its constants.
+    pub fn with_values(self, values: Elements) -> Network
+        ensures { result ≡ record self { constants = values } }
+    {
+        let Network {
+            sw,
+            ho,
+            pr,
+            rows,
+            ..
+        } = self;
+        Network {
+            sw,
+            ho,
+            pr,
+            consts: values,
+            rows,
+        }
+    }
+
+    /// Puts a tuple into a static relation, and says whether it is new there.
+    pub fn insert(&mut self, rel: RelId, cells: &Cells) -> Result<bool, AllocError>
+        ensures is_new { IfOk result (λ is_new. is_new ≡ not (is_static_row self.old rel.0 cells.now)) }
+        ensures put { OnOk result (self.new ≡ with_static self.old rel.0 cells.now) }
+        ensures err { OnErr result (self.new ≡ self.old) }
+    {
+        let is_new = self.rows.insert(FixedRow {
+            rel,
+            cells: cells.copy(),
+        })?;
+        Ok(is_new)
+    }
+
     /// The elements of a sort, rising.
     pub fn elements(&self, sort: Sort) -> &[u64]
         ensures elements { result.now ≡ elements_of self.now sort }
@@ -164,6 +215,32 @@ impl Network {
             && are_port_numbers(self.pr.as_slice())
             && self.pr.len() <= 4096
     }
+}
+
+// The elements in order, each once.
+fn ordered(alloc: Global, elements: &Elements) -> Result<Elements, AllocError>
+    ensures order { IfOk result (λ ordered. ordered ≡ in_order nat_cmp elements.now) }
+    ensures sorted { IfOk result (λ ordered. IsStrictlySortedBy nat_cmp ordered) }
+{
+    let mut set = BTreeSet::new(alloc);
+    let mut rest = elements.as_slice();
+    'elements: while let [element, more @ ..] = rest {
+        set.insert(*element)?;
+        rest = more;
+    }
+    listed(alloc, &set)
+}
+
+/// The members of a set of numbers.
+pub(crate) fn listed(alloc: Global, set: &BTreeSet<u64>) -> Result<Elements, AllocError>
+    ensures keys { IfOk result (λ elements. elements ≡ set.now.keys) }
+    ensures sorted { IfOk result (λ elements. IsStrictlySortedBy nat_cmp elements) }
+{
+    let mut elements = Items::new(alloc);
+    'elements: for element in set {
+        elements.push(*element)?;
+    }
+    Ok(elements)
 }
 
 fn are_addresses(hosts: &[u64]) -> bool

@@ -7,12 +7,11 @@ ghost use Rattle.net_structs.specs.Networks.{fixed_cmp, fixed_rows as fixed_rows
 ghost use Rattle.net_structs.specs.Refusals.{IsAnswer, IsRising, empty_sort as first_empty, fault_in, have_elements, is_empty as is_empty_list, is_static_tuple, missing_port as first_missing, strange_const_from, strange_row_from};
 
 use crate::cells::Cells;
-use crate::network::{FixedRow, Network};
+use crate::network::{FixedRow, Network, listed};
 use crate::row::{Row, Rows};
 use csdn_core::event::Elements;
 use csdn_core::program::{Constant, Program};
 use csdn_core::terms::{Pred, Sort};
-use sqlite_items::Items;
 use std::alloc::{AllocError, Global};
 use std::collections::BTreeSet;
 use thiserror::Error;
@@ -134,17 +133,6 @@ fn rising(alloc: Global, sort: Sort, elements: &Elements) -> Result<Elements, Ne
     }
 }
 
-fn listed(alloc: Global, set: &BTreeSet<u64>) -> Result<Elements, AllocError>
-    ensures keys { IfOk result (λ elements. elements ≡ set.now.keys) }
-    ensures sorted { IfOk result (λ elements. IsStrictlySortedBy nat_cmp elements) }
-{
-    let mut elements = Items::new(alloc);
-    'elements: for element in set {
-        elements.push(*element)?;
-    }
-    Ok(elements)
-}
-
 fn fixed_rows(alloc: Global, rows: &Rows) -> Result<BTreeSet<FixedRow>, AllocError>
     ensures keys { IfOk result (λ set. set.keys ≡ in_order fixed_cmp (fixed_rows_of rows.now)) }
     ensures sorted { IfOk result (λ set. IsStrictlySortedBy fixed_cmp set.keys) }
@@ -183,7 +171,8 @@ fn fault(network: &Network, program: &Program, rows: &[Row]) -> Option<NetRefusa
     }
 }
 
-fn missing_port(network: &Network, numerals: &[u16]) -> Option<u16>
+/// The first of the numerals that is no port.
+pub fn missing_port(network: &Network, numerals: &[u16]) -> Option<u16>
     ensures { result ≡ first_missing network.now.ports numerals.now }
 {
     let mut rest = numerals;
