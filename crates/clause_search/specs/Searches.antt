@@ -1,5 +1,5 @@
 -- What a search keeps, and what its parts find.
-use Rattle.std.specs.Prelude.{◌≡◌, ◌<◌, ℕ, Bool, true, false, List, [], ◌∷◌, ◌++◌, map, slice_index_or, Option, Some, None}
+use Rattle.std.specs.Prelude.{◌≡◌, ◌⊎◌, ◌<◌, ℕ, Bool, true, false, List, [], ◌∷◌, ◌++◌, map, slice_index_or, Option, Some, None}
 use Rattle.std.specs.List.{list_any, list_all}
 use Rattle.clause_log.specs.Literals.{Literal, ClauseList, is_within}
 use Rattle.clause_log.specs.Assignments.{Assignment, literal_value, no_values, is_conflict, unit_literal}
@@ -9,6 +9,7 @@ use Rattle.clause_search.specs.Trails.{IsTrail, decisions, values_of, trail_numb
 use Rattle.clause_search.specs.declared.trail.Entry.{Entry}
 use Rattle.clause_search.specs.declared.clause.Verdict.{Verdict}
 use Rattle.clause_search.specs.declared.clause.Verdict.TheVariants.{Quiet, Forces, Conflict}
+use Rattle.clause_search.specs.declared.clause.Candidate.{Candidate}
 use Rattle.clause_search.specs.declared.clause.Choice.{Choice}
 use Rattle.clause_search.specs.declared.clause.Choice.TheVariants.{True, Open, False}
 use Rattle.clause_search.specs.declared.turn.Turn.{Turn}
@@ -34,10 +35,15 @@ Does f c Quiet = Unit {0}
 Does f c (Forces l) = unit_literal f c ≡ Some l
 Does f c Conflict = is_conflict f c ≡ true
 
+-- the literal is one that was found, or this other one
+abbrev pub IsEither : Option Candidate → Literal → Literal → Type 0
+IsEither None other l = l ≡ other
+IsEither (Some k) other l = (l ≡ k.literal) ⊎ (l ≡ other)
+
 -- a clause has a true literal; or it has one without a value; or its literals are false
 abbrev pub Leaves : Assignment → List Literal → Choice → Type 0
 Leaves f c True = is_satisfied f c ≡ true
-Leaves f c (Open l) = (f l.atom ≡ None) × IsOf c l
+Leaves f c (Open k) = (f k.literal.atom ≡ None) × IsOf c k.literal
 Leaves f c False = is_conflict f c ≡ true
 
 -- the clause of this number has false literals alone

@@ -5,9 +5,9 @@ ghost use Rattle.std.specs.List.{list_all};
 ghost use Rattle.clause_log.specs.Literals.{is_clause};
 ghost use Rattle.clause_search.specs.Outcomes.{is_hint};
 ghost use Rattle.clause_search.specs.Trails.{values_of};
-ghost use Rattle.clause_search.specs.Searches.{IsConflict, IsSearch, Picks, Turns};
+ghost use Rattle.clause_search.specs.Searches.{IsConflict, IsEither, IsSearch, Picks, Turns};
 
-use crate::clause::{Choice, choice_of};
+use crate::clause::{Candidate, Choice, choice_of};
 use crate::conflict::{learn, undo};
 use crate::occurrences::Occurrences;
 use crate::propagate::{number_of, propagate};
@@ -55,7 +55,7 @@ pub fn advance(
     let from = trail.entries().len().saturating_sub(1);
     match propagate(clauses, occurrences, trail, from)? {
         Some(number) => turn_back(alloc, clauses, trail, log, number),
-        None => decide(alloc, clauses, trail, log),
+        None => decide(alloc, clauses, occurrences, trail, log),
     }
 }
 
@@ -63,6 +63,7 @@ pub fn advance(
 fn decide(
     alloc: Global,
     clauses: &Clauses,
+    occurrences: &Occurrences,
     trail: &mut Trail,
     log: &mut Log,
 ) -> Result<Turn, AllocError>
@@ -70,7 +71,7 @@ fn decide(
     requires search { IsSearch clauses.now log.old trail.old }
     ensures { IfOk result (λ t. Turns clauses.now trail.old log.new trail.new t) }
 {
-    match first_open(clauses, trail) {
+    match best_pick(clauses, occurrences, trail) {
         Pick::Nothing => Ok(Turn::AllTrue),
         Pick::Decide(l) => {
             trail.push(l, None)?;
@@ -85,20 +86,46 @@ fn decide(
     }
 }
 
-// The first clause without a true literal says what is to be done.
-fn first_open(clauses: &Clauses, trail: &Trail) -> Pick
+// Of two candidates the one whose clause has fewer literals without a value.
+fn fewer_open(best: Option<Candidate>, other: Candidate) -> Candidate
+    ensures { IsEither best other.literal result.literal }
+{
+    match best {
+        None => other,
+        Some(candidate) => {
+            if other.open < candidate.open {
+                other
+            } else {
+                candidate
+            }
+        }
+    }
+}
+
+// What is to be done, by the clauses without a true literal: the first one with at most two literals that have no
+// value, else one with as few as there are.
+fn best_pick(clauses: &Clauses, occurrences: &Occurrences, trail: &Trail) -> Pick
     requires { list_all (is_clause clauses.now.atoms) clauses.now.clauses ≡ true }
     ensures { Picks clauses.now (values_of trail.now) result }
 {
     let count = clauses.len();
+    let mut best: Option<Candidate> = None;
     'clauses: for at in 0..count {
-        match choice_of(trail, clauses.clause(at)) {
+        match choice_of(trail, occurrences, clauses.clause(at)) {
             Choice::True => {}
-            Choice::Open(l) => return Pick::Decide(l),
+            Choice::Open(candidate) => {
+                if candidate.open <= 2 {
+                    return Pick::Decide(candidate.literal);
+                }
+                best = Some(fewer_open(best, candidate));
+            }
             Choice::False => return Pick::Conflict(at),
         }
     }
-    Pick::Nothing
+    match best {
+        Some(candidate) => Pick::Decide(candidate.literal),
+        None => Pick::Nothing,
+    }
 }
 
 // The number that the next step has. (No memory holds so many clauses and steps that it has none.)
