@@ -1,7 +1,6 @@
 -- The laws of the entries of one width.
 use Rattle.std.proofs.Common.{◌≡◌, ℕ, ◌+◌, List, refl, arith}
 use Rattle.of10_wire.specs.Layout.{width, Stand, number, part}
-use Rattle.of10_wire.proofs.Once.{IsPart}
 use Rattle.of10_wire.proofs.Widths.{IsFixed}
 use Rattle.of10_stats.specs.declared.counters.Table.{Table}
 use Rattle.of10_stats.specs.declared.counters.PortCounters.{PortCounters}

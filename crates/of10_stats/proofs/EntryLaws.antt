@@ -1,5 +1,5 @@
 -- The laws of flow entries.
-use Rattle.std.proofs.Common.{◌≡◌, ℕ, ◌+◌, ◌≤◌, List, ◌++◌, length, false, ◌||◌, ltb, refl, arith}
+use Rattle.std.proofs.Common.{◌≡◌, ℕ, ◌+◌, ◌≤◌, List, length, false, ◌||◌, ltb, refl, arith}
 use Rattle.std.proofs.lemmas.Bool.{le-ltb, ltb-false, or_parts}
 use Rattle.std.specs.List.{flat_map, AllByRecursion}
 use Rattle.of10_wire.specs.declared.types.FlowMatch.{FlowMatch}

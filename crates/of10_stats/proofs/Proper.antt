@@ -1,5 +1,5 @@
 -- Parts that can always be written.
-use Rattle.std.proofs.Common.{List, [], ◌∷◌}
+use Rattle.std.proofs.Common.{List}
 use Rattle.std.specs.List.{AllByRecursion}
 use Rattle.of10_wire.proofs.Items.{all_free}
 use Rattle.of10_stats.specs.declared.counters.Table.{Table}

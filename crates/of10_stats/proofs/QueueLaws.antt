@@ -1,6 +1,5 @@
 -- The laws of queues and their properties.
-use Rattle.std.proofs.Common.{◌≡◌, ◌≢◌, ℕ, ◌+◌, ◌-◌, ◌<◌, ◌≤◌, List, length, Bool, true, false, not, ◌||◌, eqb, leb, ltb, cond, refl, sym, ap, ◌∙◌, inl, inr, ◌⊎◌, arith}
-use Rattle.std.specs.Prelude.{IsTrue}
+use Rattle.std.proofs.Common.{◌≡◌, ◌≢◌, ℕ, ◌+◌, ◌-◌, ◌<◌, ◌≤◌, List, length, Bool, true, false, not, ◌||◌, leb, ltb, refl, sym, ap, ◌∙◌, inl, inr, arith}
 use Rattle.std.proofs.lemmas.Bool.{cases_eq, both_ways, le-ltb, le-leb, leb-true, ltb-false, eqb-true, ne_eqb, not-false, or_parts}
 use Rattle.std.specs.List.{flat_map, AllByRecursion}
 use Rattle.of10_wire.specs.declared.refusal.WireRefusal.{WireRefusal}

@@ -1,13 +1,13 @@
 -- The laws of requests for statistics: of any bytes exactly one holds, that they hold one request, or that they are
 -- refused.
-use Rattle.std.proofs.Common.{◌≡◌, ℕ, ◌+◌, ◌-◌, ◌≤◌, List, [], ◌∷◌, ◌++◌, length, true, not, eqb, Option, Some, None, refl, sym, ◌∙◌, inl, inr, ◌⊎◌, arith}
+use Rattle.std.proofs.Common.{◌≡◌, ℕ, ◌+◌, ◌-◌, ◌≤◌, List, [], ◌∷◌, ◌++◌, length, true, not, Option, Some, None, refl, sym, ◌∙◌, inl, inr, ◌⊎◌, arith}
 use Rattle.std.specs.Prelude.{IfSome}
 use Rattle.std.proofs.lemmas.Bool.{cases_eq, eq-eqb, eqb-true, le-leb, leb-true, not-false}
 use Rattle.of10_wire.specs.declared.types.FlowMatch.{FlowMatch}
 use Rattle.of10_wire.specs.declared.refusal.WireRefusal.{WireRefusal}
 use Rattle.of10_wire.specs.declared.refusal.WireWhy.TheVariants.{BadStat}
 use Rattle.of10_wire.specs.Refusals.{refusal}
-use Rattle.of10_wire.specs.Layout.{Slot, Number, Pad, width, number, part, Stand}
+use Rattle.of10_wire.specs.Layout.{Slot, Number, Pad, width, number, Stand}
 use Rattle.of10_wire.specs.Parts.{match_slots}
 use Rattle.of10_wire.proofs.Standing.{Stand-front, width-append, bytes_from, length-bytes_from, rest-stands}
 use Rattle.of10_wire.proofs.Tests.{apart, passes, near_front}

@@ -1,5 +1,5 @@
 -- The layouts of the entries of one width in statistics replies.
-use Rattle.std.specs.Prelude.{ℕ, List, [], ◌∷◌}
+use Rattle.std.specs.Prelude.{List, [], ◌∷◌}
 use Rattle.of10_wire.specs.Layout.{Slot, Number, Raw, Pad}
 use Rattle.of10_stats.specs.declared.counters.Table.{Table}
 use Rattle.of10_stats.specs.declared.counters.PortCounters.{PortCounters}

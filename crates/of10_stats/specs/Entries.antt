@@ -1,5 +1,5 @@
 -- The layout of a flow entry, and where none begins.
-use Rattle.std.specs.Prelude.{ℕ, ◌+◌, List, [], ◌∷◌, ◌++◌, length, Bool, ◌||◌, nat_lt}
+use Rattle.std.specs.Prelude.{ℕ, ◌+◌, List, ◌∷◌, ◌++◌, length, Bool, ◌||◌, nat_lt}
 use Rattle.std.specs.List.{flat_map, AllByRecursion}
 use Rattle.of10_wire.specs.declared.refusal.WireRefusal.{WireRefusal}
 use Rattle.of10_wire.specs.declared.refusal.WireWhy.TheVariants.{BadStat}
