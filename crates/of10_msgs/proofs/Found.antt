@@ -1,15 +1,11 @@
 -- Bytes that nothing refuses are a message.
-use Rattle.std.proofs.Common.{◌≡◌, ℕ, ◌+◌, ◌-◌, ◌*◌, ◌/◌, ◌%◌, ◌<◌, ◌≤◌, List, [], ◌∷◌, ◌++◌, length, true, false, not, eqb, leb, Option, Some, None, refl, sym, ◌∙◌, inl, inr, arith}
+use Rattle.std.proofs.Common.{◌≡◌, ℕ, ◌+◌, ◌-◌, ◌*◌, ◌/◌, ◌%◌, ◌≤◌, List, ◌++◌, length, true, eqb, leb, Option, Some, None, refl, sym, inl, inr, arith}
 use Rattle.std.proofs.lemmas.Bool.{cases_eq, cases_lt, eqb-true, leb-true, and_parts}
-use Rattle.std.proofs.lemmas.Bool.Decides.{nat_tests}
 use Rattle.std.specs.List.{flat_map}
-use Rattle.of10_wire.specs.declared.types.FlowMatch.{FlowMatch}
-use Rattle.of10_wire.specs.declared.types.PhyPort.{PhyPort}
-use Rattle.of10_wire.specs.declared.action.Action.{Action}
 use Rattle.of10_wire.specs.declared.refusal.WireRefusal.{WireRefusal}
 use Rattle.of10_wire.specs.declared.refusal.WireWhy.TheVariants.{BadLength}
 use Rattle.of10_wire.specs.Refusals.{refusal}
-use Rattle.of10_wire.specs.Layout.{width, number, part, Stand, Spells}
+use Rattle.of10_wire.specs.Layout.{width, number, part, Stand}
 use Rattle.of10_wire.specs.Headers.{is_kind}
 use Rattle.of10_wire.specs.Parts.{match_slots, port_slots}
 use Rattle.of10_wire.specs.Actions.{action_slots, RefusesAction}
@@ -24,7 +20,7 @@ use Rattle.of10_stats.proofs.RequestLaws.{RequestFound, request_found}
 use Rattle.of10_stats.proofs.ReplyLaws.{ReplyFound, reply_found}
 use Rattle.of10_stats.proofs.QueueLaws.{queue_item}
 use Rattle.of10_msgs.specs.declared.message.Message.TheVariants.{Hello, Error, EchoRequest, EchoReply, Vendor, FeaturesRequest, FeaturesReply, GetConfigRequest, GetConfigReply, SetConfig, PacketIn, FlowRemoved, PortStatus, PacketOut, FlowMod, PortMod, StatsRequest, StatsReply, BarrierRequest, BarrierReply, QueueGetConfigRequest, QueueGetConfigReply}
-use Rattle.of10_msgs.specs.Messages.{message_slots, spells, Opens, rest}
+use Rattle.of10_msgs.specs.Messages.{message_slots, rest}
 use Rattle.of10_msgs.specs.Refused.{early, allows_length, actions_len, Late}
 use Rattle.of10_msgs.specs.Readings.{Reading, Spelled, Refused, Reads}
 use Rattle.of10_msgs.proofs.Frames.{IsFrame, frame_of, early_of, allowed, opens}

@@ -1,5 +1,5 @@
 -- At most one message is spelled.
-use Rattle.std.proofs.Common.{◌≡◌, ℕ, ◌+◌, List, [], ◌∷◌, ◌++◌, length, refl, sym, ◌∙◌, arith}
+use Rattle.std.proofs.Common.{◌≡◌, ℕ, ◌+◌, List, [], ◌∷◌, length, refl, sym, ◌∙◌, arith}
 use Rattle.std.specs.List.{flat_map}
 use Rattle.of10_wire.specs.declared.types.FlowMatch.{FlowMatch}
 use Rattle.of10_wire.specs.declared.types.PhyPort.{PhyPort}
