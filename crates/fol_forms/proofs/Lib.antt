@@ -1,0 +1,9 @@
+pub mod Capped
+pub mod Copied
+pub mod Leaves
+pub mod Sized
+pub mod Equations
+pub mod AtomNodes
+pub mod Replaced
+pub mod Flooded
+pub mod WrittenTruth

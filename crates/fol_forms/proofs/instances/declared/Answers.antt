@@ -1,0 +1,13 @@
+use Rattle.std.proofs.Common.{ap, arith}
+use Rattle.decision_laws.specs.Forms.{one_if}
+use Rattle.decision_laws.proofs.NamesLemmas.{counted_next, one_if-few}
+use Rattle.fol_forms.proofs.instances.declared.Goals as goal
+
+pub loop-constant-preserved : goal.loop-constant-preserved
+loop-constant-preserved c =
+    let d = c.constant-item.result in
+    let more = counted_next c.args.sort c.args.constants.now c.loop-constant.constant-index d c.loop-constant-test.true in
+    let same = ap (λ z. one_if z.sort c.args.sort) c.constant-item.is in (
+      omega (arith, c.loop-constant.invariant.0, one_if-few d.sort c.args.sort, c.one_if-count.ensures),
+      omega (arith, c.loop-constant.invariant.1, more, same, c.one_if-count.ensures),
+    )

@@ -1,0 +1,15 @@
+pub mod Limits
+pub mod Written
+pub mod Signed
+pub mod Answers
+pub mod Counts
+pub mod NormalSteps
+pub mod NodeSteps
+pub mod UniversalSteps
+pub mod FragmentSteps
+pub mod NeedSteps
+pub mod InstanceSteps
+pub mod Replace
+pub mod ReplaceSteps
+pub mod Changes
+pub mod Substitution
