@@ -2,6 +2,7 @@
 //! of truth, execution, runs and induction in `specs/`, from which every crate that speaks of programs takes them.
 #![tactic(auto)]
 
+mod copies;
 pub mod event;
 pub mod laws;
 pub mod names;

@@ -1,9 +1,12 @@
 //! Programs.
-ghost use Rattle.std.specs.Prelude.{◌≡◌};
+ghost use Rattle.std.specs.Prelude.{◌≡◌, IfOk};
+ghost use Rattle.csdn_core.specs.WellSorted.{IsWellSorted};
 
+use crate::copies::copy_each;
 use crate::syntax::{Command, Formula};
 use crate::terms::{RelId, Sort, Terms, VarId};
 use sqlite_items::Items;
+use std::alloc::{AllocError, Global};
 use std::marker::Model;
 
 /// The bytes of a name.
@@ -87,13 +90,32 @@ pub struct Parts {
     pub numerals: Numerals,
 }
 
-/// A program. Clauses see it as its parts.
+impl Parts {
+    /// Equal parts.
+    pub fn copy(&self, alloc: Global) -> Result<Parts, AllocError>
+        ensures { IfOk result (λ parts. parts ≡ self.now) }
+    {
+        Ok(Parts {
+            relations: copy_each(alloc, self.relations.as_slice())?,
+            constants: copy_each(alloc, self.constants.as_slice())?,
+            start: copy_each(alloc, self.start.as_slice())?,
+            topology: copy_each(alloc, self.topology.as_slice())?,
+            safety: copy_each(alloc, self.safety.as_slice())?,
+            trans: copy_each(alloc, self.trans.as_slice())?,
+            handlers: copy_each(alloc, self.handlers.as_slice())?,
+            numerals: Items::from_slice(alloc, self.numerals.as_slice())?,
+        })
+    }
+}
+
+/// A program: parts that keep every rule on names, sorts and limits. Clauses see it as its parts.
 #[derive(Drop)]
 pub struct Program {
     parts: Parts,
 }
 
 impl Model for Program {
+    ghost use Rattle.csdn_core.specs.WellSorted.{IsWellSorted};
     ghost use Rattle.csdn_core.specs.declared.program.Parts.{Parts};
     ghost use Rattle.csdn_core.specs.contracts.syntax.Formula as formula;
     ghost use Rattle.csdn_core.specs.contracts.syntax.Command as command;
@@ -104,11 +126,14 @@ impl Model for Program {
     ghost coded = { Prim.hlevel (codes, formula.the_row.coded, command.the_row.coded) };
 
     ghost view = { λ p. p.parts };
+
+    ghost invariant = { λ p. IsWellSorted p.parts };
 }
 
 impl Program {
     /// The program of these parts. It takes no memory.
     pub fn seal(parts: Parts) -> Program
+        requires { IsWellSorted parts }
         ensures { result ≡ parts }
     {
         Program { parts }
@@ -116,9 +141,18 @@ impl Program {
 
     /// The parts that it was made of.
     pub fn parts(&self) -> &Parts
-        ensures { result.now ≡ self.now }
+        ensures value { result.now ≡ self.now }
+        ensures well_sorted { IsWellSorted self.now }
     {
         &self.parts
+    }
+
+    /// An equal program.
+    pub fn copy(&self, alloc: Global) -> Result<Program, AllocError>
+        ensures { IfOk result (λ program. program ≡ self.now) }
+    {
+        let parts = self.parts.copy(alloc)?;
+        Ok(Program { parts })
     }
 
     /// The ports that the program names, rising and each once.

@@ -1,6 +1,9 @@
 //! Formulas and commands.
+ghost use Rattle.std.specs.Prelude.{◌≡◌, IfOk};
+
 use crate::terms::{Pred, RelId, Sort, Term, Terms, VarId};
 use sqlite_items::Boxed;
+use std::alloc::{AllocError, Global};
 
 /// A first-order formula over a program's relations.
 #[derive(Drop)]
@@ -37,4 +40,80 @@ pub enum Command {
     Forward(Terms),
     /// Sends the packet of four terms from every port but its own.
     Flood(Terms),
+}
+
+impl Formula {
+    /// An equal formula.
+    #[cycle(formula_copies)]
+    pub fn copy(&self, alloc: Global) -> Result<Formula, AllocError>
+        ensures { IfOk result (λ p. p ≡ self.now) }
+    {
+        Ok(match self {
+            Formula::True => Formula::True,
+            Formula::False => Formula::False,
+            Formula::Atom(pred, terms) => Formula::Atom(*pred, terms.copy()),
+            Formula::Same(t, u) => Formula::Same(*t, *u),
+            Formula::Not(p) => Formula::Not(p.get().copy_boxed(alloc)?),
+            Formula::And(p, q) => {
+                Formula::And(p.get().copy_boxed(alloc)?, q.get().copy_boxed(alloc)?)
+            }
+            Formula::Or(p, q) => {
+                Formula::Or(p.get().copy_boxed(alloc)?, q.get().copy_boxed(alloc)?)
+            }
+            Formula::Implies(p, q) => {
+                Formula::Implies(p.get().copy_boxed(alloc)?, q.get().copy_boxed(alloc)?)
+            }
+            Formula::Iff(p, q) => {
+                Formula::Iff(p.get().copy_boxed(alloc)?, q.get().copy_boxed(alloc)?)
+            }
+            Formula::Forall(v, sort, p) => Formula::Forall(*v, *sort, p.get().copy_boxed(alloc)?),
+            Formula::Exists(v, sort, p) => Formula::Exists(*v, *sort, p.get().copy_boxed(alloc)?),
+        })
+    }
+
+    #[cycle(formula_copies)]
+    fn copy_boxed(&self, alloc: Global) -> Result<Boxed<Formula>, AllocError>
+        ensures { IfOk result (λ p. p ≡ self.now) }
+    {
+        Boxed::new(alloc, self.copy(alloc)?)
+    }
+}
+
+impl Command {
+    /// An equal command.
+    #[cycle(command_copies)]
+    pub fn copy(&self, alloc: Global) -> Result<Command, AllocError>
+        ensures { IfOk result (λ c. c ≡ self.now) }
+    {
+        Ok(match self {
+            Command::Skip => Command::Skip,
+            Command::Seq(a, b) => {
+                Command::Seq(a.get().copy_boxed(alloc)?, b.get().copy_boxed(alloc)?)
+            }
+            Command::If(p, a, b) => Command::If(
+                p.get().copy_boxed(alloc)?,
+                a.get().copy_boxed(alloc)?,
+                b.get().copy_boxed(alloc)?,
+            ),
+            Command::Pick(v, sort, p, a, b) => Command::Pick(
+                *v,
+                *sort,
+                p.get().copy_boxed(alloc)?,
+                a.get().copy_boxed(alloc)?,
+                b.get().copy_boxed(alloc)?,
+            ),
+            Command::Insert(rel, terms) => Command::Insert(*rel, terms.copy()),
+            Command::Remove(rel, terms) => Command::Remove(*rel, terms.copy()),
+            Command::Install(terms) => Command::Install(terms.copy()),
+            Command::Forward(terms) => Command::Forward(terms.copy()),
+            Command::Flood(terms) => Command::Flood(terms.copy()),
+        })
+    }
+
+    #[cycle(command_copies)]
+    fn copy_boxed(&self, alloc: Global) -> Result<Boxed<Command>, AllocError>
+        ensures { IfOk result (λ c. c ≡ self.now) }
+    {
+        Boxed::new(alloc, self.copy(alloc)?)
+    }
 }
