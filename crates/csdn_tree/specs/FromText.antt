@@ -1,5 +1,5 @@
 -- What holds of each tree that a text reads as, and that the rules on names and sorts rest on.
-use Rattle.std.specs.Prelude.{ℕ, ◌≤◌, List, [], ◌∷◌, ◌++◌, All}
+use Rattle.std.specs.Prelude.{◌≡◌, ℕ, ◌≤◌, true, List, [], ◌∷◌, ◌++◌, All}
 use Rattle.csdn_core.specs.Names.{IsName}
 use Rattle.csdn_core.specs.Sorted.{most_numbers}
 use Rattle.csdn_core.specs.WellSorted.{IsNumeral}
@@ -22,6 +22,13 @@ abbrev pub items_names : List RawItem → List (List ℕ)
 items_names [] = []
 items_names (x ∷ xs) = item_names x ++ items_names xs
 
+-- a `static` relation is given no rows
+abbrev pub KeepsStatics : RawItem → Type 0
+KeepsStatics (item.Relation r) = r.fixed ≡ true → r.rows ≡ []
+KeepsStatics (item.Constant name sort) = Unit {0}
+KeepsStatics (item.Invariant kind name p) = Unit {0}
+KeepsStatics (item.Handler h) = Unit {0}
+
 pub record IsFromText (raw : RawProgram) : Type 0 where
   -- places rise in the order of the text
   pub end : ℕ
@@ -31,3 +38,5 @@ pub record IsFromText (raw : RawProgram) : Type 0 where
   -- names are names, and numerals are those of ports
   pub names : All IsName (items_names raw.items)
   pub numerals : All IsNumeral (items_numerals raw.items)
+  -- the rows of relations are those of `rel` relations
+  pub statics : All KeepsStatics raw.items

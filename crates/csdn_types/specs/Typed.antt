@@ -3,7 +3,7 @@ use Rattle.std.specs.Prelude.{ℕ, ◌+◌, List, [], ◌∷◌, ◌++◌, map, 
 use Rattle.csdn_core.specs.declared.terms.Sort.{Sort}
 use Rattle.csdn_core.specs.declared.terms.VarId.{VarId}
 use Rattle.csdn_core.specs.declared.terms.Term.{Term}
-use Rattle.csdn_core.specs.declared.terms.Term.TheVariants.{Port}
+use Rattle.csdn_core.specs.declared.terms.Term.TheVariants.{Var}
 use Rattle.csdn_core.specs.declared.terms.Pred.{Pred}
 use Rattle.csdn_core.specs.declared.terms.Pred.TheVariants as pred
 use Rattle.csdn_core.specs.declared.syntax.Formula.{Formula}
@@ -25,8 +25,9 @@ use Rattle.csdn_types.specs.Scope.{Scope, relation_named, meaning, bound}
 abbrev pub after : Scope → RawFormula → Scope
 after s p = record s { next = s.next + binders p }
 
+-- a name that stands for nothing is given a variable
 abbrev pub known_term : Option SortedTerm → Term
-known_term None = Port 0
+known_term None = Var (record { 0 = 0 })
 known_term (Some known) = known.term
 
 abbrev pub term_of : Scope → RawTerm → Term

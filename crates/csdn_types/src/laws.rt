@@ -39,6 +39,14 @@ pub fn typed_handlers_are_sorted()
     ensures { (S : Signature) (s : Scope) (count : ℕ) (h : RawHandler) → s.variables ≡ [] → IsPart s S → CommandNumerals S h.body → handler_faults s count h ≡ [] → IsCommand S (own_packet (handler_of s h)) (handler_binds (handler_of s h)) (command_typed (inside s h) h.body) }
 {}
 
-ghost use Rattle.csdn_core.specs.WellSorted.{own_packet, handler_binds};
+/// The parts of a program that keeps every rule are well-sorted.
+pub fn parts_are_well_sorted()
+    ensures { (raw : RawProgram) → IsFromText raw → broken_rules raw ≡ [] → IsWellSorted (parts_of raw) }
+{}
+
+ghost use Rattle.csdn_core.specs.WellSorted.{own_packet, handler_binds, IsWellSorted};
+ghost use Rattle.csdn_tree.specs.FromText.{IsFromText};
+ghost use Rattle.csdn_tree.specs.declared.syntax.RawProgram.{RawProgram};
+ghost use Rattle.csdn_types.specs.Resolved.{broken_rules, parts_of};
 ghost use Rattle.csdn_tree.specs.declared.syntax.RawHandler.{RawHandler};
 ghost use Rattle.csdn_types.specs.Items.{handler_faults, handler_of, inside};

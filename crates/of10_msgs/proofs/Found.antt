@@ -1,53 +1,270 @@
 -- Bytes that nothing refuses are a message.
-use Rattle.std.proofs.Common.{◌≡◌, ℕ, ◌≤◌, List, length, Option, Some, None, refl, inl, inr, arith}
-use Rattle.std.proofs.lemmas.Bool.{cases_eq}
-use Rattle.std.proofs.lemmas.Bool.Decides.{nat_tests}
+use Rattle.std.proofs.Common.{◌≡◌, ℕ, ◌+◌, ◌-◌, ◌*◌, ◌/◌, ◌%◌, ◌≤◌, List, ◌++◌, length, true, false, eqb, leb, Option, Some, None, refl, sym, inl, inr, arith}
+use Rattle.std.proofs.lemmas.Bool.{cases_eq, cases_lt, eqb-true, leb-true, and_parts}
+use Rattle.std.specs.List.{flat_map}
 use Rattle.of10_wire.specs.declared.refusal.WireRefusal.{WireRefusal}
-use Rattle.of10_wire.specs.Layout.{number, Stand}
-use Rattle.of10_wire.proofs.Standing.{bytes_from, length-bytes_from, rest-stands}
-use Rattle.of10_msgs.specs.declared.message.Message.TheVariants.{Hello, EchoRequest, EchoReply}
-use Rattle.of10_msgs.specs.Messages.{message_slots, spells, Opens}
-use Rattle.of10_msgs.specs.Refused.{early}
+use Rattle.of10_wire.specs.declared.refusal.WireWhy.TheVariants.{BadLength}
+use Rattle.of10_wire.specs.Refusals.{refusal}
+use Rattle.of10_wire.specs.Layout.{width, number, part, Stand}
+use Rattle.of10_wire.specs.Headers.{is_kind}
+use Rattle.of10_wire.specs.Parts.{match_slots, port_slots}
+use Rattle.of10_wire.specs.Actions.{action_slots, RefusesAction}
+use Rattle.of10_wire.proofs.Standing.{bytes_from, length-bytes_from, rest-stands, width-append, Stand-append, Stand-at}
+use Rattle.of10_wire.proofs.Items.{part-whole}
+use Rattle.of10_wire.proofs.Widths.{fixed-found}
+use Rattle.of10_wire.proofs.Listed as listed
+use Rattle.of10_wire.proofs.PartLaws.{match_there, port_there, width-match, width-port, with_match, port_fixed}
+use Rattle.of10_wire.proofs.ActionLaws.{action_item}
+use Rattle.of10_msgs.specs.declared.message.Message.TheVariants.{Hello, Error, EchoRequest, EchoReply, Vendor, FeaturesRequest, FeaturesReply, GetConfigRequest, GetConfigReply, SetConfig, PacketIn, FlowRemoved, PortStatus, PacketOut, FlowMod, PortMod, BarrierRequest, BarrierReply, QueueGetConfigRequest}
+use Rattle.of10_msgs.specs.Messages.{message_slots, rest}
+use Rattle.of10_msgs.specs.Refused.{early, allows_length, is_built, actions_len, Late}
 use Rattle.of10_msgs.specs.Readings.{Reading, Spelled, Refused, Reads}
-use Rattle.of10_msgs.proofs.Frames.{IsFrame, frame_of, opens}
+use Rattle.of10_msgs.proofs.Frames.{IsFrame, frame_of, early_of, allowed, opens}
+use Rattle.of10_msgs.proofs.Spelled.{behind_flow_removed, behind_flow_mod}
 
 -- what the bytes are
 abbrev Found : List ℕ → Type 0
 Found bytes = (reading : Reading) × Reads bytes reading
 
+-- a body that is refused
+late : (bytes : List ℕ) → IsFrame bytes → (e : WireRefusal) → Late bytes e → Found bytes
+late bytes f e h = (Refused e, rw (early_of bytes f) h)
+
 -- ---- a message of each type
 
-hello : (bytes : List ℕ) → IsFrame bytes → number 1 1 bytes ≡ 0 → spells (Hello (number 4 4 bytes) (number 1 0 bytes) (bytes_from 8 bytes)) bytes
+hello : (bytes : List ℕ) → IsFrame bytes → number 1 1 bytes ≡ 0 → Found bytes
 unfolding Stand message_slots
 hello bytes f is =
     let len = length-bytes_from 8 bytes f.long in
-    record { stand = (refl, (is, (omega (arith, f.len, len), (refl, (rest-stands 8 bytes f.long, tt))))); whole = omega (arith, len) }
+    (Spelled (Hello (number 4 4 bytes) (number 1 0 bytes) (bytes_from 8 bytes)), record { stand = (refl, (is, (omega (arith, f.len, len), (refl, (rest-stands 8 bytes f.long, tt))))); whole = omega (arith, len) })
 
-echo_request : (bytes : List ℕ) → Opens 2 bytes → 8 ≤ length bytes → spells (EchoRequest (number 4 4 bytes) (bytes_from 8 bytes)) bytes
+error : (bytes : List ℕ) → IsFrame bytes → number 1 1 bytes ≡ 1 → Found bytes
 unfolding Stand message_slots
-echo_request bytes o long =
-    let len = length-bytes_from 8 bytes long in
-    record { stand = (o.version, (o.kind, (omega (arith, o.len, len), (refl, (rest-stands 8 bytes long, tt))))); whole = omega (arith, len) }
+error bytes f is =
+    let o = opens 1 bytes f is refl in
+    let long : 12 ≤ length bytes = leb-true 12 (length bytes) (allowed 1 bytes f is) in
+    let len = length-bytes_from 12 bytes long in
+    (Spelled (Error (number 4 4 bytes) (number 2 8 bytes) (number 2 10 bytes) (bytes_from 12 bytes)), record { stand = (o.version, (o.kind, (omega (arith, o.len, len), (refl, (refl, (refl, (rest-stands 12 bytes long, tt))))))); whole = omega (arith, len) })
 
-echo_reply : (bytes : List ℕ) → Opens 3 bytes → 8 ≤ length bytes → spells (EchoReply (number 4 4 bytes) (bytes_from 8 bytes)) bytes
+echo_request : (bytes : List ℕ) → IsFrame bytes → number 1 1 bytes ≡ 2 → Found bytes
 unfolding Stand message_slots
-echo_reply bytes o long =
-    let len = length-bytes_from 8 bytes long in
-    record { stand = (o.version, (o.kind, (omega (arith, o.len, len), (refl, (rest-stands 8 bytes long, tt))))); whole = omega (arith, len) }
+echo_request bytes f is =
+    let o = opens 2 bytes f is refl in
+    let len = length-bytes_from 8 bytes f.long in
+    (Spelled (EchoRequest (number 4 4 bytes) (bytes_from 8 bytes)), record { stand = (o.version, (o.kind, (omega (arith, o.len, len), (refl, (rest-stands 8 bytes f.long, tt))))); whole = omega (arith, len) })
+
+echo_reply : (bytes : List ℕ) → IsFrame bytes → number 1 1 bytes ≡ 3 → Found bytes
+unfolding Stand message_slots
+echo_reply bytes f is =
+    let o = opens 3 bytes f is refl in
+    let len = length-bytes_from 8 bytes f.long in
+    (Spelled (EchoReply (number 4 4 bytes) (bytes_from 8 bytes)), record { stand = (o.version, (o.kind, (omega (arith, o.len, len), (refl, (rest-stands 8 bytes f.long, tt))))); whole = omega (arith, len) })
+
+vendor : (bytes : List ℕ) → IsFrame bytes → number 1 1 bytes ≡ 4 → Found bytes
+unfolding Stand message_slots
+vendor bytes f is =
+    let o = opens 4 bytes f is refl in
+    let long : 12 ≤ length bytes = leb-true 12 (length bytes) (allowed 4 bytes f is) in
+    let len = length-bytes_from 12 bytes long in
+    (Spelled (Vendor (number 4 4 bytes) (number 4 8 bytes) (bytes_from 12 bytes)), record { stand = (o.version, (o.kind, (omega (arith, o.len, len), (refl, (refl, (rest-stands 12 bytes long, tt)))))); whole = omega (arith, len) })
+
+features_request : (bytes : List ℕ) → IsFrame bytes → number 1 1 bytes ≡ 5 → Found bytes
+unfolding Stand message_slots
+features_request bytes f is =
+    let o = opens 5 bytes f is refl in
+    let long : length bytes ≡ 8 = eqb-true (length bytes) 8 (allowed 5 bytes f is) in
+    (Spelled (FeaturesRequest (number 4 4 bytes)), record { stand = (o.version, (o.kind, (omega (arith, o.len, long), (refl, tt)))); whole = omega (arith, long) })
+
+whole_ports : (n : ℕ) → allows_length 6 n ≡ true → (32 ≤ n) × (48 * ((n - 32) / 48) ≡ n - 32)
+whole_ports n h =
+    let both = and_parts (leb 32 n) (eqb ((n - 32) % 48) 0) h in
+    let rem : (n - 32) % 48 ≡ 0 = eqb-true ((n - 32) % 48) 0 both.1 in
+    (leb-true 32 n both.0, omega (arith, rem))
+
+features_reply : (bytes : List ℕ) → IsFrame bytes → number 1 1 bytes ≡ 6 → Found bytes
+unfolding Stand message_slots
+features_reply bytes f is =
+    let o = opens 6 bytes f is refl in
+    let whole = whole_ports (length bytes) (allowed 6 bytes f is) in
+    let has = fixed-found port_slots 48 port_fixed ((length bytes - 32) / 48) 32 bytes in
+    let wide : 32 + width (flat_map port_slots has.list) ≡ length bytes = omega (arith, has.wide, whole.0, whole.1) in
+    (Spelled (FeaturesReply (number 4 4 bytes) (number 8 8 bytes) (number 4 16 bytes) (number 1 20 bytes) (number 4 24 bytes) (number 4 28 bytes) has.list), record { stand = (o.version, (o.kind, (omega (arith, o.len, wide), (refl, (refl, (refl, (refl, (refl, (refl, has.stand))))))))); whole = omega (arith, wide) })
+
+get_config_request : (bytes : List ℕ) → IsFrame bytes → number 1 1 bytes ≡ 7 → Found bytes
+unfolding Stand message_slots
+get_config_request bytes f is =
+    let o = opens 7 bytes f is refl in
+    let long : length bytes ≡ 8 = eqb-true (length bytes) 8 (allowed 7 bytes f is) in
+    (Spelled (GetConfigRequest (number 4 4 bytes)), record { stand = (o.version, (o.kind, (omega (arith, o.len, long), (refl, tt)))); whole = omega (arith, long) })
+
+get_config_reply : (bytes : List ℕ) → IsFrame bytes → number 1 1 bytes ≡ 8 → Found bytes
+unfolding Stand message_slots
+get_config_reply bytes f is =
+    let o = opens 8 bytes f is refl in
+    let long : length bytes ≡ 12 = eqb-true (length bytes) 12 (allowed 8 bytes f is) in
+    (Spelled (GetConfigReply (number 4 4 bytes) (number 2 8 bytes) (number 2 10 bytes)), record { stand = (o.version, (o.kind, (omega (arith, o.len, long), (refl, (refl, (refl, tt)))))); whole = omega (arith, long) })
+
+set_config : (bytes : List ℕ) → IsFrame bytes → number 1 1 bytes ≡ 9 → Found bytes
+unfolding Stand message_slots
+set_config bytes f is =
+    let o = opens 9 bytes f is refl in
+    let long : length bytes ≡ 12 = eqb-true (length bytes) 12 (allowed 9 bytes f is) in
+    (Spelled (SetConfig (number 4 4 bytes) (number 2 8 bytes) (number 2 10 bytes)), record { stand = (o.version, (o.kind, (omega (arith, o.len, long), (refl, (refl, (refl, tt)))))); whole = omega (arith, long) })
+
+packet_in : (bytes : List ℕ) → IsFrame bytes → number 1 1 bytes ≡ 10 → Found bytes
+unfolding Stand message_slots
+packet_in bytes f is =
+    let o = opens 10 bytes f is refl in
+    let long : 18 ≤ length bytes = leb-true 18 (length bytes) (allowed 10 bytes f is) in
+    let len = length-bytes_from 18 bytes long in
+    (Spelled (PacketIn (number 4 4 bytes) (number 4 8 bytes) (number 2 12 bytes) (number 2 14 bytes) (number 1 16 bytes) (bytes_from 18 bytes)), record { stand = (o.version, (o.kind, (omega (arith, o.len, len), (refl, (refl, (refl, (refl, (refl, (rest-stands 18 bytes long, tt))))))))); whole = omega (arith, len) })
+
+flow_removed : (bytes : List ℕ) → IsFrame bytes → number 1 1 bytes ≡ 11 → Found bytes
+unfolding Stand message_slots
+flow_removed bytes f is =
+    let o = opens 11 bytes f is refl in
+    let long : length bytes ≡ 88 = eqb-true (length bytes) 88 (allowed 11 bytes f is) in
+    let flow = (match_there 8 bytes).0 in
+    let wide = width-append (match_slots flow) (behind_flow_removed (number 8 48 bytes) (number 2 56 bytes) (number 1 58 bytes) (number 4 60 bytes) (number 4 64 bytes) (number 2 68 bytes) (number 8 72 bytes) (number 8 80 bytes)) in
+    let both : Stand 8 (match_slots flow ++ (behind_flow_removed (number 8 48 bytes) (number 2 56 bytes) (number 1 58 bytes) (number 4 60 bytes) (number 4 64 bytes) (number 2 68 bytes) (number 8 72 bytes) (number 8 80 bytes))) bytes = with_match 8 flow (behind_flow_removed (number 8 48 bytes) (number 2 56 bytes) (number 1 58 bytes) (number 4 60 bytes) (number 4 64 bytes) (number 2 68 bytes) (number 8 72 bytes) (number 8 80 bytes)) bytes (match_there 8 bytes).1 (refl, (refl, (refl, (refl, (refl, (refl, (refl, (refl, tt)))))))) in
+    (Spelled (FlowRemoved (number 4 4 bytes) flow (number 8 48 bytes) (number 2 56 bytes) (number 1 58 bytes) (number 4 60 bytes) (number 4 64 bytes) (number 2 68 bytes) (number 8 72 bytes) (number 8 80 bytes)), record { stand = (o.version, (o.kind, (omega (arith, o.len, long, wide, width-match flow), (refl, both)))); whole = omega (arith, long, wide, width-match flow) })
+
+port_status : (bytes : List ℕ) → IsFrame bytes → number 1 1 bytes ≡ 12 → Found bytes
+unfolding Stand message_slots
+port_status bytes f is =
+    let o = opens 12 bytes f is refl in
+    let long : length bytes ≡ 64 = eqb-true (length bytes) 64 (allowed 12 bytes f is) in
+    (Spelled (PortStatus (number 4 4 bytes) (number 1 8 bytes) (port_there 16 bytes).0), record { stand = (o.version, (o.kind, (omega (arith, o.len, long, width-port (port_there 16 bytes).0), (refl, (refl, (port_there 16 bytes).1))))); whole = omega (arith, long, width-port (port_there 16 bytes).0) })
+
+packet_out_list : (bytes : List ℕ) → IsFrame bytes → number 1 1 bytes ≡ 13 → 16 + actions_len bytes ≤ length bytes → listed.Found action_slots RefusesAction 16 (part (actions_len bytes) 16 bytes) → Found bytes
+unfolding Stand message_slots
+packet_out_list bytes f is le (inr (e, r)) = late bytes f e (inl (is, inr (le, r)))
+packet_out_list bytes f is le (inl (us, h)) =
+    let o = opens 13 bytes f is refl in
+    let there = part-whole 16 (actions_len bytes) (flat_map action_slots us) bytes le h in
+    let len = length-bytes_from (16 + actions_len bytes) bytes le in
+    let wide = width-append (flat_map action_slots us) (rest (bytes_from (16 + actions_len bytes) bytes)) in
+    let tail : Stand (16 + width (flat_map action_slots us)) (rest (bytes_from (16 + actions_len bytes) bytes)) bytes = Stand-at (16 + actions_len bytes) (16 + width (flat_map action_slots us)) (rest (bytes_from (16 + actions_len bytes) bytes)) bytes (omega (arith, there.1)) (rest-stands (16 + actions_len bytes) bytes le, tt) in
+    let both : Stand 16 (flat_map action_slots us ++ rest (bytes_from (16 + actions_len bytes) bytes)) bytes = Stand-append 16 (flat_map action_slots us) (rest (bytes_from (16 + actions_len bytes) bytes)) bytes there.0 tail in
+    (Spelled (PacketOut (number 4 4 bytes) (number 4 8 bytes) (number 2 12 bytes) us (bytes_from (16 + actions_len bytes) bytes)), record { stand = (o.version, (o.kind, (omega (arith, o.len, len, wide, there.1), (refl, (refl, (refl, (sym there.1, both))))))); whole = omega (arith, len, wide, there.1) })
+
+packet_out : (bytes : List ℕ) → IsFrame bytes → number 1 1 bytes ≡ 13 → Found bytes
+packet_out bytes f is = elim (cases_lt (length bytes) (16 + actions_len bytes)) [
+  | inl short ↦ late bytes f (refusal 14 BadLength) (inl (is, inl (short, refl)))
+  | inr le ↦ packet_out_list bytes f is le (listed.items-found action_slots RefusesAction action_item 16 (part (actions_len bytes) 16 bytes))
+]
+
+flow_mod_list : (bytes : List ℕ) → IsFrame bytes → number 1 1 bytes ≡ 14 → 72 ≤ length bytes → listed.Found action_slots RefusesAction 72 (part (length bytes - 72) 72 bytes) → Found bytes
+unfolding Stand message_slots
+flow_mod_list bytes f is le (inr (e, r)) = late bytes f e (inr (is, r))
+flow_mod_list bytes f is le (inl (us, h)) =
+    let o = opens 14 bytes f is refl in
+    let flow = (match_there 8 bytes).0 in
+    let there = part-whole 72 (length bytes - 72) (flat_map action_slots us) bytes (omega (arith, le)) h in
+    let wide = width-append (match_slots flow) (behind_flow_mod (number 8 48 bytes) (number 2 56 bytes) (number 2 58 bytes) (number 2 60 bytes) (number 2 62 bytes) (number 4 64 bytes) (number 2 68 bytes) (number 2 70 bytes) us) in
+    let both : Stand 8 (match_slots flow ++ (behind_flow_mod (number 8 48 bytes) (number 2 56 bytes) (number 2 58 bytes) (number 2 60 bytes) (number 2 62 bytes) (number 4 64 bytes) (number 2 68 bytes) (number 2 70 bytes) us)) bytes = with_match 8 flow (behind_flow_mod (number 8 48 bytes) (number 2 56 bytes) (number 2 58 bytes) (number 2 60 bytes) (number 2 62 bytes) (number 4 64 bytes) (number 2 68 bytes) (number 2 70 bytes) us) bytes (match_there 8 bytes).1 (refl, (refl, (refl, (refl, (refl, (refl, (refl, (refl, there.0)))))))) in
+    (Spelled (FlowMod (number 4 4 bytes) flow (number 8 48 bytes) (number 2 56 bytes) (number 2 58 bytes) (number 2 60 bytes) (number 2 62 bytes) (number 4 64 bytes) (number 2 68 bytes) (number 2 70 bytes) us), record { stand = (o.version, (o.kind, (omega (arith, o.len, le, wide, width-match flow, there.1), (refl, both)))); whole = omega (arith, le, wide, width-match flow, there.1) })
+
+flow_mod : (bytes : List ℕ) → IsFrame bytes → number 1 1 bytes ≡ 14 → Found bytes
+flow_mod bytes f is = flow_mod_list bytes f is (leb-true 72 (length bytes) (allowed 14 bytes f is)) (listed.items-found action_slots RefusesAction action_item 72 (part (length bytes - 72) 72 bytes))
+
+port_mod : (bytes : List ℕ) → IsFrame bytes → number 1 1 bytes ≡ 15 → Found bytes
+unfolding Stand message_slots
+port_mod bytes f is =
+    let o = opens 15 bytes f is refl in
+    let long : length bytes ≡ 32 = eqb-true (length bytes) 32 (allowed 15 bytes f is) in
+    (Spelled (PortMod (number 4 4 bytes) (number 2 8 bytes) (part 6 10 bytes) (number 4 16 bytes) (number 4 20 bytes) (number 4 24 bytes)), record { stand = (o.version, (o.kind, (omega (arith, o.len, long), (refl, (refl, (refl, (refl, (refl, (refl, tt))))))))); whole = omega (arith, long) })
+
+barrier_request : (bytes : List ℕ) → IsFrame bytes → number 1 1 bytes ≡ 18 → Found bytes
+unfolding Stand message_slots
+barrier_request bytes f is =
+    let o = opens 18 bytes f is refl in
+    let long : length bytes ≡ 8 = eqb-true (length bytes) 8 (allowed 18 bytes f is) in
+    (Spelled (BarrierRequest (number 4 4 bytes)), record { stand = (o.version, (o.kind, (omega (arith, o.len, long), (refl, tt)))); whole = omega (arith, long) })
+
+barrier_reply : (bytes : List ℕ) → IsFrame bytes → number 1 1 bytes ≡ 19 → Found bytes
+unfolding Stand message_slots
+barrier_reply bytes f is =
+    let o = opens 19 bytes f is refl in
+    let long : length bytes ≡ 8 = eqb-true (length bytes) 8 (allowed 19 bytes f is) in
+    (Spelled (BarrierReply (number 4 4 bytes)), record { stand = (o.version, (o.kind, (omega (arith, o.len, long), (refl, tt)))); whole = omega (arith, long) })
+
+queue_get_config_request : (bytes : List ℕ) → IsFrame bytes → number 1 1 bytes ≡ 20 → Found bytes
+unfolding Stand message_slots
+queue_get_config_request bytes f is =
+    let o = opens 20 bytes f is refl in
+    let long : length bytes ≡ 12 = eqb-true (length bytes) 12 (allowed 20 bytes f is) in
+    (Spelled (QueueGetConfigRequest (number 4 4 bytes) (number 2 8 bytes)), record { stand = (o.version, (o.kind, (omega (arith, o.len, long), (refl, (refl, tt))))); whole = omega (arith, long) })
 
 -- ---- whatever the type
 
+none_left : (kind : ℕ) → is_kind kind ≡ true → is_built kind ≡ true → (kind ≡ 0 → ⊥) → (kind ≡ 1 → ⊥) → (kind ≡ 2 → ⊥) → (kind ≡ 3 → ⊥) → (kind ≡ 4 → ⊥) → (kind ≡ 5 → ⊥) → (kind ≡ 6 → ⊥) → (kind ≡ 7 → ⊥) → (kind ≡ 8 → ⊥) → (kind ≡ 9 → ⊥) → (kind ≡ 10 → ⊥) → (kind ≡ 11 → ⊥) → (kind ≡ 12 → ⊥) → (kind ≡ 13 → ⊥) → (kind ≡ 14 → ⊥) → (kind ≡ 15 → ⊥) → (kind ≡ 18 → ⊥) → (kind ≡ 19 → ⊥) → (kind ≡ 20 → ⊥) → ⊥
+none_left kind known built no0 no1 no2 no3 no4 no5 no6 no7 no8 no9 no10 no11 no12 no13 no14 no15 no18 no19 no20 =
+    let low : kind ≤ 21 = leb-true kind 21 known in
+    let no16 : kind ≡ 16 → ⊥ = λ is. let b : is_built kind ≡ false = rw is refl in absurd cc in
+    let no17 : kind ≡ 17 → ⊥ = λ is. let b : is_built kind ≡ false = rw is refl in absurd cc in
+    let no21 : kind ≡ 21 → ⊥ = λ is. let b : is_built kind ≡ false = rw is refl in absurd cc in
+    omega (arith, low, no16, no17, no21, no0, no1, no2, no3, no4, no5, no6, no7, no8, no9, no10, no11, no12, no13, no14, no15, no18, no19, no20)
+
 -- the types one after the other: what was found of one, or it is a later one
-frame_found : (bytes : List ℕ) → IsFrame bytes → (reading : Reading) × Reads bytes reading
+frame_found : (bytes : List ℕ) → IsFrame bytes → Found bytes
 frame_found bytes f =
     let kind = number 1 1 bytes in
     elim (cases_eq kind 0) [
-      | inl is ↦ (Spelled (Hello (number 4 4 bytes) (number 1 0 bytes) (bytes_from 8 bytes)), hello bytes f is)
-      | inr no0 ↦ elim (cases_eq kind 2) [
-        | inl is ↦ (Spelled (EchoRequest (number 4 4 bytes) (bytes_from 8 bytes)), echo_request bytes (opens 2 bytes f is refl) f.long)
-        | inr no2 ↦ elim (cases_eq kind 3) [
-          | inl is ↦ (Spelled (EchoReply (number 4 4 bytes) (bytes_from 8 bytes)), echo_reply bytes (opens 3 bytes f is refl) f.long)
-          | inr no3 ↦ absurd (grind (arith, nat_tests, f.built))
+      | inl is ↦ hello bytes f is
+      | inr no0 ↦ elim (cases_eq kind 1) [
+        | inl is ↦ error bytes f is
+        | inr no1 ↦ elim (cases_eq kind 2) [
+          | inl is ↦ echo_request bytes f is
+          | inr no2 ↦ elim (cases_eq kind 3) [
+            | inl is ↦ echo_reply bytes f is
+            | inr no3 ↦ elim (cases_eq kind 4) [
+              | inl is ↦ vendor bytes f is
+              | inr no4 ↦ elim (cases_eq kind 5) [
+                | inl is ↦ features_request bytes f is
+                | inr no5 ↦ elim (cases_eq kind 6) [
+                  | inl is ↦ features_reply bytes f is
+                  | inr no6 ↦ elim (cases_eq kind 7) [
+                    | inl is ↦ get_config_request bytes f is
+                    | inr no7 ↦ elim (cases_eq kind 8) [
+                      | inl is ↦ get_config_reply bytes f is
+                      | inr no8 ↦ elim (cases_eq kind 9) [
+                        | inl is ↦ set_config bytes f is
+                        | inr no9 ↦ elim (cases_eq kind 10) [
+                          | inl is ↦ packet_in bytes f is
+                          | inr no10 ↦ elim (cases_eq kind 11) [
+                            | inl is ↦ flow_removed bytes f is
+                            | inr no11 ↦ elim (cases_eq kind 12) [
+                              | inl is ↦ port_status bytes f is
+                              | inr no12 ↦ elim (cases_eq kind 13) [
+                                | inl is ↦ packet_out bytes f is
+                                | inr no13 ↦ elim (cases_eq kind 14) [
+                                  | inl is ↦ flow_mod bytes f is
+                                  | inr no14 ↦ elim (cases_eq kind 15) [
+                                    | inl is ↦ port_mod bytes f is
+                                    | inr no15 ↦ elim (cases_eq kind 18) [
+                                      | inl is ↦ barrier_request bytes f is
+                                      | inr no18 ↦ elim (cases_eq kind 19) [
+                                        | inl is ↦ barrier_reply bytes f is
+                                        | inr no19 ↦ elim (cases_eq kind 20) [
+                                          | inl is ↦ queue_get_config_request bytes f is
+                                          | inr no20 ↦ absurd (none_left kind f.known f.built no0 no1 no2 no3 no4 no5 no6 no7 no8 no9 no10 no11 no12 no13 no14 no15 no18 no19 no20)
+                                        ]
+                                      ]
+                                    ]
+                                  ]
+                                ]
+                              ]
+                            ]
+                          ]
+                        ]
+                      ]
+                    ]
+                  ]
+                ]
+              ]
+            ]
+          ]
         ]
       ]
     ]

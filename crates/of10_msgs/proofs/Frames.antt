@@ -56,6 +56,10 @@ early_of bytes f =
     let short : ltb (number 2 2 bytes) 8 ≡ false = le-ltb (number 2 2 bytes) 8 (omega (arith, f.len, f.long)) in
     rw (le-ltb (length bytes) 8 f.long, f.version, f.known, short, told, f.built, f.allowed) refl
 
+-- the length is one that the layout of the type allows
+pub allowed : (kind : ℕ) (bytes : List ℕ) → IsFrame bytes → number 1 1 bytes ≡ kind → allows_length kind (length bytes) ≡ true
+allowed kind bytes f is = rw (← is) f.allowed
+
 -- ---- types
 
 -- a type that isn't another

@@ -1,4 +1,5 @@
 pub mod Frames
+pub mod Tails
 pub mod Spelled
 pub mod Accepted
 pub mod Found

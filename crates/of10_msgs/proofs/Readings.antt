@@ -1,6 +1,7 @@
 -- Exactly one message or one refusal, and what follows for an answer.
-use Rattle.std.proofs.Common.{◌≡◌, ℕ, ◌≤◌, max, Bool, true, false, not, ◌&&◌, cond, eqb, ltb, List, length, Option, Some, None, Result, Ok, Err, refl, sym, ap, ◌∙◌, inl, inr, ◌⊎◌, arith}
-use Rattle.std.specs.Prelude.{IfErr, IfSome, MatchOption}
+use Rattle.std.proofs.Common.{◌≡◌, ℕ, ◌-◌, ◌<◌, ◌^◌, ◌≤◌, max, Bool, true, false, not, ◌&&◌, cond, eqb, ltb, List, length, Option, Some, None, Result, Ok, Err, refl, sym, ap, ◌∙◌, inl, inr, ◌⊎◌, arith}
+use Rattle.std.proofs.lemmas.Bool.{leb-true}
+use Rattle.std.specs.Prelude.{IfOk, IfErr, IfSome, MatchOption}
 use Rattle.of10_wire.specs.declared.refusal.WireRefusal.{WireRefusal}
 use Rattle.of10_wire.specs.declared.refusal.WireWhy.{WireWhy}
 use Rattle.of10_wire.specs.declared.refusal.WireWhy.TheVariants.{BadVersion, BadType, BadLength, NotYet}
@@ -9,16 +10,33 @@ use Rattle.of10_wire.specs.Refusals.{refusal, Answers, out_of_memory}
 use Rattle.of10_wire.specs.Headers.{is_kind, header_refusal}
 use Rattle.of10_msgs.specs.declared.message.Message.{Message}
 use Rattle.of10_msgs.specs.Messages.{spells}
-use Rattle.of10_msgs.specs.Refused.{early, is_built, allows_length, or_else, frame_refusal, Late, Refuses}
+use Rattle.of10_msgs.specs.Refused.{early, is_built, allows_length, or_else, frame_refusal, actions_len, Late, LatePacketOut, LateFlowMod, Refuses}
+use Rattle.of10_msgs.specs.Sending.{IsSendable}
 use Rattle.of10_msgs.specs.Readings.{Reading, Spelled, Refused, Reads, HasOneReading}
+use Rattle.of10_wire.specs.Layout.{part}
+use Rattle.of10_wire.specs.Actions.{action_slots, RefusesAction}
+use Rattle.of10_wire.proofs.Standing.{length-part}
+use Rattle.of10_wire.proofs.Listed.{items-refused-once, items-refused-within}
+use Rattle.of10_wire.proofs.ActionLaws.{action_item}
+use Rattle.of10_msgs.proofs.Frames.{IsFrame, frame_of, allowed}
 use Rattle.of10_msgs.proofs.Spelled.{message-once}
-use Rattle.of10_msgs.proofs.Accepted.{not-refused}
+use Rattle.of10_msgs.proofs.Accepted.{not-refused, late_packet_out, late_flow_mod, sendable}
 use Rattle.of10_msgs.proofs.Found.{found}
 
 -- ---- one refusal
 
+packet_out-once : (bytes : List ℕ) (d e : WireRefusal) → LatePacketOut bytes d → LatePacketOut bytes e → d ≡ e
+packet_out-once bytes d e (inl x) (inl y) = x.1 ∙ sym y.1
+packet_out-once bytes d e (inl x) (inr y) = absurd (omega (arith, x.0, y.0))
+packet_out-once bytes d e (inr x) (inl y) = absurd (omega (arith, x.0, y.0))
+packet_out-once bytes d e (inr x) (inr y) = items-refused-once action_slots RefusesAction action_item 16 (part (actions_len bytes) 16 bytes) d e x.1 y.1
+
+flow_mod-once : (bytes : List ℕ) (d e : WireRefusal) → LateFlowMod bytes d → LateFlowMod bytes e → d ≡ e
+flow_mod-once bytes d e x y = items-refused-once action_slots RefusesAction action_item 72 (part (length bytes - 72) 72 bytes) d e x y
+
 late-once : (bytes : List ℕ) (d e : WireRefusal) → Late bytes d → Late bytes e → d ≡ e
-late-once bytes d e h k = absurd h
+late-once bytes d e (inl x) k = packet_out-once bytes d e x.1 (late_packet_out bytes e x.0 k)
+late-once bytes d e (inr x) k = flow_mod-once bytes d e x.1 (late_flow_mod bytes e x.0 k)
 
 refusal-once_by : (bytes : List ℕ) (first : Option WireRefusal) (d e : WireRefusal) → early bytes ≡ first → Refuses bytes d → Refuses bytes e → d ≡ e
 refusal-once_by bytes None d e is h k = late-once bytes d e (rw is at h) (rw is at k)
@@ -84,17 +102,33 @@ early-place bytes =
     either_front (header_refusal bytes) (frame_refusal (number 1 1 bytes) (number 2 2 bytes) (length bytes)) (header-place bytes) (frame-place (number 1 1 bytes) (number 2 2 bytes) (length bytes))
     )
 
-late-place : (bytes : List ℕ) (e : WireRefusal) → Late bytes e → e.at ≤ length bytes
-late-place bytes e h = absurd h
+packet_out-place : (bytes : List ℕ) (e : WireRefusal) → 16 ≤ length bytes → LatePacketOut bytes e → e.at ≤ length bytes
+packet_out-place bytes e long (inl x) = omega (arith, long, ap (λ (d : WireRefusal). d.at) x.1)
+packet_out-place bytes e long (inr x) =
+    let near = items-refused-within action_slots RefusesAction action_item 16 (part (actions_len bytes) 16 bytes) e x.1 in
+    omega (arith, near, length-part (actions_len bytes) 16 bytes x.0, x.0)
 
-refused-place_by : (bytes : List ℕ) (first : Option WireRefusal) (e : WireRefusal) → IfSome first (λ d. d.at ≤ 2) → MatchOption first (Late bytes e) (λ d. e ≡ d) → e.at ≤ max 2 (length bytes)
-refused-place_by bytes None e low h = omega (arith, late-place bytes e h)
-refused-place_by bytes (Some first) e low h = omega (arith, low, ap (λ (d : WireRefusal). d.at) h)
+flow_mod-place : (bytes : List ℕ) (e : WireRefusal) → 72 ≤ length bytes → LateFlowMod bytes e → e.at ≤ length bytes
+flow_mod-place bytes e long x =
+    let near = items-refused-within action_slots RefusesAction action_item 72 (part (length bytes - 72) 72 bytes) e x in
+    omega (arith, near, length-part (length bytes - 72) 72 bytes (omega (arith, long)), long)
+
+late-place : (bytes : List ℕ) (e : WireRefusal) → IsFrame bytes → Late bytes e → e.at ≤ length bytes
+late-place bytes e f (inl x) = packet_out-place bytes e (leb-true 16 (length bytes) (allowed 13 bytes f x.0)) x.1
+late-place bytes e f (inr x) = flow_mod-place bytes e (leb-true 72 (length bytes) (allowed 14 bytes f x.0)) x.1
+
+refused-place_by : (bytes : List ℕ) (first : Option WireRefusal) (e : WireRefusal) → early bytes ≡ first → IfSome first (λ d. d.at ≤ 2) → MatchOption first (Late bytes e) (λ d. e ≡ d) → e.at ≤ max 2 (length bytes)
+refused-place_by bytes None e is low h = omega (arith, late-place bytes e (frame_of bytes is) h)
+refused-place_by bytes (Some first) e is low h = omega (arith, low, ap (λ (d : WireRefusal). d.at) h)
 
 pub refused-place : (bytes : List ℕ) (e : WireRefusal) → Refuses bytes e → e.at ≤ max 2 (length bytes)
-refused-place bytes e h = refused-place_by bytes (early bytes) e (early-place bytes) h
+refused-place bytes e h = refused-place_by bytes (early bytes) e refl (early-place bytes) h
 
 pub answer-place : (bytes : List ℕ) (r : Result Message WireRefusal) → Answers r (λ m. spells m bytes) (Refuses bytes) → IfErr r (λ e. e.at ≤ max 2 (length bytes))
 answer-place bytes (Ok x) a = tt
 answer-place bytes (Err e) (inl memory) = omega (arith, ap (λ (d : WireRefusal). d.at) memory)
 answer-place bytes (Err e) (inr refused) = refused-place bytes e refused
+
+pub answer-sendable : (bytes : List ℕ) (r : Result Message WireRefusal) → Answers r (λ m. spells m bytes) (Refuses bytes) → IfOk r (λ m. length bytes < 2 ^ 16) → IfOk r (λ m. IsSendable m)
+answer-sendable bytes (Ok m) a short = sendable m bytes a short
+answer-sendable bytes (Err e) a short = tt

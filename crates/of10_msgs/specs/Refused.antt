@@ -1,14 +1,15 @@
 -- The first reason why bytes are no message.
-use Rattle.std.specs.Prelude.{ℕ, ◌≡◌, ◌-◌, ◌%◌, List, length, Option, Some, None, MatchOption, Bool, true, not, ◌==◌, ◌||◌, ◌&&◌, nat_lt, nat_le, if◌then◌else◌}
+use Rattle.std.specs.Prelude.{ℕ, ◌≡◌, ◌+◌, ◌-◌, ◌<◌, ◌≤◌, ◌%◌, ◌⊎◌, List, length, Option, Some, None, MatchOption, Bool, true, not, ◌==◌, ◌||◌, ◌&&◌, nat_lt, nat_le, if◌then◌else◌}
 use Rattle.of10_wire.specs.declared.refusal.WireRefusal.{WireRefusal}
 use Rattle.of10_wire.specs.declared.refusal.WireWhy.TheVariants.{BadLength, NotYet}
 use Rattle.of10_wire.specs.Refusals.{refusal}
-use Rattle.of10_wire.specs.Layout.{number}
+use Rattle.of10_wire.specs.Layout.{number, part}
+use Rattle.of10_wire.specs.Actions.{IsRefusedAction}
 use Rattle.of10_wire.specs.Headers.{header_refusal}
 
 -- the types whose messages are read so far
 abbrev pub is_built : ℕ → Bool
-is_built kind = (kind == 0) || (kind == 2) || (kind == 3)
+is_built kind = not ((kind == 16) || (kind == 17) || (kind == 21))
 
 -- whether the layout of a type allows a frame of this length: fixed layouts one length, the others a least one, and
 -- a FEATURES_REPLY a whole number of ports
@@ -45,9 +46,23 @@ early bytes =
     if nat_lt (length bytes) 8 then Some (refusal 2 BadLength)
     else or_else (header_refusal bytes) (frame_refusal (number 1 1 bytes) (number 2 2 bytes) (length bytes))
 
+-- how many bytes of actions a PACKET_OUT says that it has
+abbrev pub actions_len : List ℕ → ℕ
+actions_len bytes = number 2 14 bytes
+
+-- a PACKET_OUT has fewer bytes than its actions, or they are refused
+abbrev pub LatePacketOut : List ℕ → WireRefusal → Type 0
+LatePacketOut bytes e =
+    ((length bytes < 16 + actions_len bytes) × (e ≡ refusal 14 BadLength))
+    ⊎ ((16 + actions_len bytes ≤ length bytes) × IsRefusedAction 16 (part (actions_len bytes) 16 bytes) e)
+
+-- the actions of a FLOW_MOD are refused
+abbrev pub LateFlowMod : List ℕ → WireRefusal → Type 0
+LateFlowMod bytes e = IsRefusedAction 72 (part (length bytes - 72) 72 bytes) e
+
 -- what the body shows, from left to right
 abbrev pub Late : List ℕ → WireRefusal → Type 0
-Late bytes e = ⊥
+Late bytes e = ((number 1 1 bytes ≡ 13) × LatePacketOut bytes e) ⊎ ((number 1 1 bytes ≡ 14) × LateFlowMod bytes e)
 
 -- The first reason why the bytes are no message.
 abbrev pub Refuses : List ℕ → WireRefusal → Type 0

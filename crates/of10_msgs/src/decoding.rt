@@ -8,7 +8,11 @@ ghost use Rattle.of10_msgs.specs.Refused.{early, is_built, allows_length, Refuse
 ghost use Rattle.of10_msgs.specs.Sending.{IsSendable};
 
 use crate::message::Message;
-use crate::reading::{echo_reply, echo_request, hello};
+use crate::reading::{
+    barrier_reply, barrier_request, echo_reply, echo_request, error, features_reply,
+    features_request, flow_mod, flow_removed, get_config_reply, get_config_request, hello,
+    packet_in, packet_out, port_mod, port_status, queue_get_config_request, set_config, vendor,
+};
 use of10_wire::{WireRefusal, WireWhy, header_refusal, u8_at, u16_at};
 use std::alloc::Global;
 
@@ -22,7 +26,7 @@ fn refusal(at: usize, why: WireWhy) -> Option<WireRefusal>
 fn is_built(kind: u8) -> bool
     ensures { result ≡ is_built kind }
 {
-    matches!(kind, 0 | 2 | 3)
+    !matches!(kind, 16 | 17 | 21)
 }
 
 /// Whether a frame of this type may have this length.
@@ -79,8 +83,24 @@ fn read(alloc: Global, bytes: &[u8]) -> Result<Message, WireRefusal>
     }
     match u8_at(bytes, 1) {
         0 => Ok(hello(alloc, bytes)?),
+        1 => Ok(error(alloc, bytes)?),
         2 => Ok(echo_request(alloc, bytes)?),
-        _ => Ok(echo_reply(alloc, bytes)?),
+        3 => Ok(echo_reply(alloc, bytes)?),
+        4 => Ok(vendor(alloc, bytes)?),
+        5 => Ok(features_request(bytes)),
+        6 => Ok(features_reply(alloc, bytes)?),
+        7 => Ok(get_config_request(bytes)),
+        8 => Ok(get_config_reply(bytes)),
+        9 => Ok(set_config(bytes)),
+        10 => Ok(packet_in(alloc, bytes)?),
+        11 => Ok(flow_removed(bytes)),
+        12 => Ok(port_status(bytes)),
+        13 => packet_out(alloc, bytes),
+        14 => flow_mod(alloc, bytes),
+        15 => Ok(port_mod(bytes)),
+        18 => Ok(barrier_request(bytes)),
+        19 => Ok(barrier_reply(bytes)),
+        _ => Ok(queue_get_config_request(bytes)),
     }
 }
 

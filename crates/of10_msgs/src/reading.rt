@@ -1,11 +1,16 @@
 //! Whole frames of one type, read.
 
-ghost use Rattle.std.specs.Prelude.{◌≡◌, ◌≤◌, length, IfOk};
+ghost use Rattle.std.specs.Prelude.{◌≡◌, ◌+◌, ◌-◌, ◌≤◌, ◌<◌, ◌^◌, ◌%◌, length, IfOk};
 ghost use Rattle.of10_wire.specs.Layout.{number};
+ghost use Rattle.of10_wire.specs.Refusals.{Answers};
 ghost use Rattle.of10_msgs.specs.Messages.{spells, Opens};
+ghost use Rattle.of10_msgs.specs.Refused.{LatePacketOut, LateFlowMod};
 
 use crate::message::Message;
-use of10_wire::{body_at, u8_at, u32_at};
+use of10_wire::{
+    WireRefusal, WireWhy, array_at, body_at, fixed_at, fixed_from, items_at, u8_at, u16_at, u32_at,
+    u64_at,
+};
 use std::alloc::{AllocError, Global};
 
 #[tactic(auto, unfolding(of10_wire::specs::Layout::Stand, crate::specs::Messages::message_slots))]
@@ -19,6 +24,21 @@ pub fn hello(alloc: Global, bytes: &[u8]) -> Result<Message, AllocError>
     Ok(Message::Hello {
         xid: u32_at(bytes, 4),
         version: u8_at(bytes, 0),
+        body,
+    })
+}
+
+#[tactic(auto, unfolding(of10_wire::specs::Layout::Stand, crate::specs::Messages::message_slots))]
+pub fn error(alloc: Global, bytes: &[u8]) -> Result<Message, AllocError>
+    requires opens { Opens 1 bytes.now }
+    requires least { 12 ≤ length bytes.now }
+    ensures { IfOk result (λ m. spells m bytes.now) }
+{
+    let body = body_at(alloc, bytes, 12, bytes.len())?;
+    Ok(Message::Error {
+        xid: u32_at(bytes, 4),
+        kind: u16_at(bytes, 8),
+        code: u16_at(bytes, 10),
         body,
     })
 }
@@ -47,4 +67,231 @@ pub fn echo_reply(alloc: Global, bytes: &[u8]) -> Result<Message, AllocError>
         xid: u32_at(bytes, 4),
         body,
     })
+}
+
+#[tactic(auto, unfolding(of10_wire::specs::Layout::Stand, crate::specs::Messages::message_slots))]
+pub fn vendor(alloc: Global, bytes: &[u8]) -> Result<Message, AllocError>
+    requires opens { Opens 4 bytes.now }
+    requires least { 12 ≤ length bytes.now }
+    ensures { IfOk result (λ m. spells m bytes.now) }
+{
+    let body = body_at(alloc, bytes, 12, bytes.len())?;
+    Ok(Message::Vendor {
+        xid: u32_at(bytes, 4),
+        vendor: u32_at(bytes, 8),
+        body,
+    })
+}
+
+#[tactic(auto, unfolding(of10_wire::specs::Layout::Stand, crate::specs::Messages::message_slots))]
+pub fn features_request(bytes: &[u8]) -> Message
+    requires opens { Opens 5 bytes.now }
+    requires len { length bytes.now ≡ 8 }
+    ensures { spells result bytes.now }
+{
+    Message::FeaturesRequest {
+        xid: u32_at(bytes, 4),
+    }
+}
+
+#[tactic(auto, unfolding(of10_wire::specs::Layout::Stand, crate::specs::Messages::message_slots))]
+pub fn features_reply(alloc: Global, bytes: &[u8]) -> Result<Message, AllocError>
+    requires opens { Opens 6 bytes.now }
+    requires least { 32 ≤ length bytes.now }
+    requires whole { (length bytes.now - 32) % 48 ≡ 0 }
+    ensures { IfOk result (λ m. spells m bytes.now) }
+{
+    let ports = fixed_from(alloc, bytes, 32)?;
+    Ok(Message::FeaturesReply {
+        xid: u32_at(bytes, 4),
+        datapath_id: u64_at(bytes, 8),
+        n_buffers: u32_at(bytes, 16),
+        n_tables: u8_at(bytes, 20),
+        capabilities: u32_at(bytes, 24),
+        actions: u32_at(bytes, 28),
+        ports,
+    })
+}
+
+#[tactic(auto, unfolding(of10_wire::specs::Layout::Stand, crate::specs::Messages::message_slots))]
+pub fn get_config_request(bytes: &[u8]) -> Message
+    requires opens { Opens 7 bytes.now }
+    requires len { length bytes.now ≡ 8 }
+    ensures { spells result bytes.now }
+{
+    Message::GetConfigRequest {
+        xid: u32_at(bytes, 4),
+    }
+}
+
+#[tactic(auto, unfolding(of10_wire::specs::Layout::Stand, crate::specs::Messages::message_slots))]
+pub fn get_config_reply(bytes: &[u8]) -> Message
+    requires opens { Opens 8 bytes.now }
+    requires len { length bytes.now ≡ 12 }
+    ensures { spells result bytes.now }
+{
+    Message::GetConfigReply {
+        xid: u32_at(bytes, 4),
+        flags: u16_at(bytes, 8),
+        miss_send_len: u16_at(bytes, 10),
+    }
+}
+
+#[tactic(auto, unfolding(of10_wire::specs::Layout::Stand, crate::specs::Messages::message_slots))]
+pub fn set_config(bytes: &[u8]) -> Message
+    requires opens { Opens 9 bytes.now }
+    requires len { length bytes.now ≡ 12 }
+    ensures { spells result bytes.now }
+{
+    Message::SetConfig {
+        xid: u32_at(bytes, 4),
+        flags: u16_at(bytes, 8),
+        miss_send_len: u16_at(bytes, 10),
+    }
+}
+
+#[tactic(auto, unfolding(of10_wire::specs::Layout::Stand, crate::specs::Messages::message_slots))]
+pub fn packet_in(alloc: Global, bytes: &[u8]) -> Result<Message, AllocError>
+    requires opens { Opens 10 bytes.now }
+    requires least { 18 ≤ length bytes.now }
+    ensures { IfOk result (λ m. spells m bytes.now) }
+{
+    let body = body_at(alloc, bytes, 18, bytes.len())?;
+    Ok(Message::PacketIn {
+        xid: u32_at(bytes, 4),
+        buffer_id: u32_at(bytes, 8),
+        total_len: u16_at(bytes, 12),
+        in_port: u16_at(bytes, 14),
+        reason: u8_at(bytes, 16),
+        body,
+    })
+}
+
+#[tactic(auto, unfolding(of10_wire::specs::Layout::Stand, of10_wire::specs::Parts::match_slots, crate::specs::Messages::message_slots))]
+pub fn flow_removed(bytes: &[u8]) -> Message
+    requires opens { Opens 11 bytes.now }
+    requires len { length bytes.now ≡ 88 }
+    ensures { spells result bytes.now }
+{
+    Message::FlowRemoved {
+        xid: u32_at(bytes, 4),
+        flow: fixed_at(bytes, 8),
+        cookie: u64_at(bytes, 48),
+        priority: u16_at(bytes, 56),
+        reason: u8_at(bytes, 58),
+        duration_sec: u32_at(bytes, 60),
+        duration_nsec: u32_at(bytes, 64),
+        idle_timeout: u16_at(bytes, 68),
+        packet_count: u64_at(bytes, 72),
+        byte_count: u64_at(bytes, 80),
+    }
+}
+
+#[tactic(auto, unfolding(of10_wire::specs::Layout::Stand, of10_wire::specs::Parts::port_slots, crate::specs::Messages::message_slots))]
+pub fn port_status(bytes: &[u8]) -> Message
+    requires opens { Opens 12 bytes.now }
+    requires len { length bytes.now ≡ 64 }
+    ensures { spells result bytes.now }
+{
+    Message::PortStatus {
+        xid: u32_at(bytes, 4),
+        reason: u8_at(bytes, 8),
+        desc: fixed_at(bytes, 16),
+    }
+}
+
+#[tactic(auto, unfolding(of10_wire::specs::Layout::Stand, crate::specs::Messages::message_slots))]
+pub fn packet_out(alloc: Global, bytes: &[u8]) -> Result<Message, WireRefusal>
+    requires opens { Opens 13 bytes.now }
+    requires least { 16 ≤ length bytes.now }
+    ensures { Answers result (λ m. spells m bytes.now) (LatePacketOut bytes.now) }
+{
+    let end = 16 + u16_at(bytes, 14) as usize;
+    if bytes.len() < end {
+        return Err(WireRefusal {
+            at: 14,
+            why: WireWhy::BadLength,
+        });
+    }
+    let actions = items_at(alloc, bytes, 16, end, 0)?;
+    let body = body_at(alloc, bytes, end, bytes.len())?;
+    Ok(Message::PacketOut {
+        xid: u32_at(bytes, 4),
+        buffer_id: u32_at(bytes, 8),
+        in_port: u16_at(bytes, 12),
+        actions,
+        body,
+    })
+}
+
+#[tactic(auto, unfolding(of10_wire::specs::Layout::Stand, of10_wire::specs::Parts::match_slots, crate::specs::Messages::message_slots))]
+pub fn flow_mod(alloc: Global, bytes: &[u8]) -> Result<Message, WireRefusal>
+    requires opens { Opens 14 bytes.now }
+    requires least { 72 ≤ length bytes.now }
+    ensures { Answers result (λ m. spells m bytes.now) (LateFlowMod bytes.now) }
+{
+    let actions = items_at(alloc, bytes, 72, bytes.len(), 0)?;
+    Ok(Message::FlowMod {
+        xid: u32_at(bytes, 4),
+        flow: fixed_at(bytes, 8),
+        cookie: u64_at(bytes, 48),
+        command: u16_at(bytes, 56),
+        idle_timeout: u16_at(bytes, 58),
+        hard_timeout: u16_at(bytes, 60),
+        priority: u16_at(bytes, 62),
+        buffer_id: u32_at(bytes, 64),
+        out_port: u16_at(bytes, 68),
+        flags: u16_at(bytes, 70),
+        actions,
+    })
+}
+
+#[tactic(auto, unfolding(of10_wire::specs::Layout::Stand, crate::specs::Messages::message_slots))]
+pub fn port_mod(bytes: &[u8]) -> Message
+    requires opens { Opens 15 bytes.now }
+    requires len { length bytes.now ≡ 32 }
+    ensures { spells result bytes.now }
+{
+    Message::PortMod {
+        xid: u32_at(bytes, 4),
+        port_no: u16_at(bytes, 8),
+        hw_addr: array_at(bytes, 10),
+        config: u32_at(bytes, 16),
+        mask: u32_at(bytes, 20),
+        advertise: u32_at(bytes, 24),
+    }
+}
+
+#[tactic(auto, unfolding(of10_wire::specs::Layout::Stand, crate::specs::Messages::message_slots))]
+pub fn barrier_request(bytes: &[u8]) -> Message
+    requires opens { Opens 18 bytes.now }
+    requires len { length bytes.now ≡ 8 }
+    ensures { spells result bytes.now }
+{
+    Message::BarrierRequest {
+        xid: u32_at(bytes, 4),
+    }
+}
+
+#[tactic(auto, unfolding(of10_wire::specs::Layout::Stand, crate::specs::Messages::message_slots))]
+pub fn barrier_reply(bytes: &[u8]) -> Message
+    requires opens { Opens 19 bytes.now }
+    requires len { length bytes.now ≡ 8 }
+    ensures { spells result bytes.now }
+{
+    Message::BarrierReply {
+        xid: u32_at(bytes, 4),
+    }
+}
+
+#[tactic(auto, unfolding(of10_wire::specs::Layout::Stand, crate::specs::Messages::message_slots))]
+pub fn queue_get_config_request(bytes: &[u8]) -> Message
+    requires opens { Opens 20 bytes.now }
+    requires len { length bytes.now ≡ 12 }
+    ensures { spells result bytes.now }
+{
+    Message::QueueGetConfigRequest {
+        xid: u32_at(bytes, 4),
+        port: u16_at(bytes, 8),
+    }
 }

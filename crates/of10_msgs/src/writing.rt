@@ -1,14 +1,82 @@
 //! Messages, written.
 
 ghost use Rattle.std.specs.Prelude.{min, IsTrue, ◌↔◌, OnOk, OnErr, ◌≡◌, ◌+◌, ◌++◌, ◌≤◌, ◌<◌, ◌^◌, vec_len, vec_capacity};
+ghost use Rattle.std.specs.List.{flat_map, AllByRecursion};
+ghost use Rattle.of10_wire.specs.Actions.{action_slots, IsProper};
 ghost use Rattle.of10_wire.specs.Layout.{width};
 ghost use Rattle.of10_wire.specs.Writing.{Writes};
-ghost use Rattle.of10_msgs.specs.Messages.{message_slots, header_of, spells, zeroed};
-ghost use Rattle.of10_msgs.specs.Sending.{IsSendable};
+ghost use Rattle.of10_msgs.specs.Messages.{message_slots, header_of, version_of, kind_of, xid_of, fields_of, rest, spells, zeroed};
+ghost use Rattle.of10_msgs.specs.Sending.{IsProperMessage, IsSendable};
 
 use crate::message::Message;
-use of10_wire::{put_bytes, put_u8, put_u16, put_u32};
+use of10_wire::{
+    Action, Body, Part, are_proper, len_all, put_all, put_bytes, put_pad, put_u8, put_u16, put_u32,
+    put_u64,
+};
 use std::alloc::AllocError;
+
+/// The version in the message's header.
+fn version(message: &Message) -> u8
+    ensures { result ≡ version_of message.now }
+{
+    match message {
+        Message::Hello { version, .. } => *version,
+        _ => 1,
+    }
+}
+
+/// The number of the message's type.
+fn kind(message: &Message) -> u8
+    ensures { result ≡ kind_of message.now }
+{
+    match message {
+        Message::Hello { .. } => 0,
+        Message::Error { .. } => 1,
+        Message::EchoRequest { .. } => 2,
+        Message::EchoReply { .. } => 3,
+        Message::Vendor { .. } => 4,
+        Message::FeaturesRequest { .. } => 5,
+        Message::FeaturesReply { .. } => 6,
+        Message::GetConfigRequest { .. } => 7,
+        Message::GetConfigReply { .. } => 8,
+        Message::SetConfig { .. } => 9,
+        Message::PacketIn { .. } => 10,
+        Message::FlowRemoved { .. } => 11,
+        Message::PortStatus { .. } => 12,
+        Message::PacketOut { .. } => 13,
+        Message::FlowMod { .. } => 14,
+        Message::PortMod { .. } => 15,
+        Message::BarrierRequest { .. } => 18,
+        Message::BarrierReply { .. } => 19,
+        Message::QueueGetConfigRequest { .. } => 20,
+    }
+}
+
+fn xid(message: &Message) -> u32
+    ensures { result ≡ xid_of message.now }
+{
+    match message {
+        Message::Hello { xid, .. }
+        | Message::Error { xid, .. }
+        | Message::EchoRequest { xid, .. }
+        | Message::EchoReply { xid, .. }
+        | Message::Vendor { xid, .. }
+        | Message::FeaturesRequest { xid }
+        | Message::FeaturesReply { xid, .. }
+        | Message::GetConfigRequest { xid }
+        | Message::GetConfigReply { xid, .. }
+        | Message::SetConfig { xid, .. }
+        | Message::PacketIn { xid, .. }
+        | Message::FlowRemoved { xid, .. }
+        | Message::PortStatus { xid, .. }
+        | Message::PacketOut { xid, .. }
+        | Message::FlowMod { xid, .. }
+        | Message::PortMod { xid, .. }
+        | Message::BarrierRequest { xid }
+        | Message::BarrierReply { xid }
+        | Message::QueueGetConfigRequest { xid, .. } => *xid,
+    }
+}
 
 /// The header of a frame of this length.
 fn put_header(out: &mut Vec<u8>, version: u8, kind: u8, len: usize, xid: u32)
@@ -22,48 +90,245 @@ fn put_header(out: &mut Vec<u8>, version: u8, kind: u8, len: usize, xid: u32)
     put_u32(out, xid);
 }
 
+/// The actions, and then the bytes.
+#[tactic(auto, using(crate::proofs::Tails::width_tail))]
+fn put_actions_and_body(out: &mut Vec<u8>, actions: &[Action], body: &Body)
+    requires room { vec_len out.old + width (flat_map action_slots actions.now ++ rest body.now) ≤ vec_capacity out.old }
+    requires proper { AllByRecursion IsProper actions.now }
+    requires short { width (flat_map action_slots actions.now ++ rest body.now) < 2 ^ 16 }
+    ensures { Writes out.old out.new (flat_map action_slots actions.now ++ rest body.now) }
+{
+    put_all(out, actions);
+    put_bytes(out, body.as_slice());
+}
+
+/// What stands behind the header.
+#[tactic(auto, using(crate::proofs::Tails::width_tail, crate::proofs::Tails::ports_proper), unfolding(of10_wire::specs::Parts::match_slots, of10_wire::specs::Parts::port_slots))]
+fn put_fields(out: &mut Vec<u8>, message: &Message)
+    requires room { vec_len out.old + width (fields_of message.now) ≤ vec_capacity out.old }
+    requires short { width (fields_of message.now) < 2 ^ 16 }
+    requires proper { IsProperMessage message.now }
+    ensures { Writes out.old out.new (fields_of message.now) }
+{
+    match message {
+        Message::Hello { body, .. } => put_bytes(out, body.as_slice()),
+        Message::Error {
+            kind,
+            code,
+            body,
+            ..
+        } => {
+            put_u16(out, *kind);
+            put_u16(out, *code);
+            put_bytes(out, body.as_slice());
+        }
+        Message::EchoRequest { body, .. } => put_bytes(out, body.as_slice()),
+        Message::EchoReply { body, .. } => put_bytes(out, body.as_slice()),
+        Message::Vendor { vendor, body, .. } => {
+            put_u32(out, *vendor);
+            put_bytes(out, body.as_slice());
+        }
+        Message::FeaturesRequest { .. } => {}
+        Message::FeaturesReply {
+            datapath_id,
+            n_buffers,
+            n_tables,
+            capabilities,
+            actions,
+            ports,
+            ..
+        } => {
+            put_u64(out, *datapath_id);
+            put_u32(out, *n_buffers);
+            put_u8(out, *n_tables);
+            put_pad::<3>(out);
+            put_u32(out, *capabilities);
+            put_u32(out, *actions);
+            put_all(out, ports.as_slice());
+        }
+        Message::GetConfigRequest { .. } => {}
+        Message::GetConfigReply {
+            flags,
+            miss_send_len,
+            ..
+        } => {
+            put_u16(out, *flags);
+            put_u16(out, *miss_send_len);
+        }
+        Message::SetConfig {
+            flags,
+            miss_send_len,
+            ..
+        } => {
+            put_u16(out, *flags);
+            put_u16(out, *miss_send_len);
+        }
+        Message::PacketIn {
+            buffer_id,
+            total_len,
+            in_port,
+            reason,
+            body,
+            ..
+        } => {
+            put_u32(out, *buffer_id);
+            put_u16(out, *total_len);
+            put_u16(out, *in_port);
+            put_u8(out, *reason);
+            put_pad::<1>(out);
+            put_bytes(out, body.as_slice());
+        }
+        Message::FlowRemoved {
+            flow,
+            cookie,
+            priority,
+            reason,
+            duration_sec,
+            duration_nsec,
+            idle_timeout,
+            packet_count,
+            byte_count,
+            ..
+        } => {
+            flow.put(out);
+            put_u64(out, *cookie);
+            put_u16(out, *priority);
+            put_u8(out, *reason);
+            put_pad::<1>(out);
+            put_u32(out, *duration_sec);
+            put_u32(out, *duration_nsec);
+            put_u16(out, *idle_timeout);
+            put_pad::<2>(out);
+            put_u64(out, *packet_count);
+            put_u64(out, *byte_count);
+        }
+        Message::PortStatus { reason, desc, .. } => {
+            put_u8(out, *reason);
+            put_pad::<7>(out);
+            desc.put(out);
+        }
+        Message::PacketOut {
+            buffer_id,
+            in_port,
+            actions,
+            body,
+            ..
+        } => {
+            let actions = actions.as_slice();
+            put_u32(out, *buffer_id);
+            put_u16(out, *in_port);
+            put_u16(out, len_all(actions) as u16);
+            put_actions_and_body(out, actions, body);
+        }
+        Message::FlowMod {
+            flow,
+            cookie,
+            command,
+            idle_timeout,
+            hard_timeout,
+            priority,
+            buffer_id,
+            out_port,
+            flags,
+            actions,
+            ..
+        } => {
+            flow.put(out);
+            put_u64(out, *cookie);
+            put_u16(out, *command);
+            put_u16(out, *idle_timeout);
+            put_u16(out, *hard_timeout);
+            put_u16(out, *priority);
+            put_u32(out, *buffer_id);
+            put_u16(out, *out_port);
+            put_u16(out, *flags);
+            put_all(out, actions.as_slice());
+        }
+        Message::PortMod {
+            port_no,
+            hw_addr,
+            config,
+            mask,
+            advertise,
+            ..
+        } => {
+            put_u16(out, *port_no);
+            put_bytes(out, hw_addr);
+            put_u32(out, *config);
+            put_u32(out, *mask);
+            put_u32(out, *advertise);
+            put_pad::<4>(out);
+        }
+        Message::BarrierRequest { .. } => {}
+        Message::BarrierReply { .. } => {}
+        Message::QueueGetConfigRequest { port, .. } => {
+            put_u16(out, *port);
+            put_pad::<2>(out);
+        }
+    }
+}
+
 /// Writes a message that takes `len` bytes.
 #[tactic(auto, unfolding(crate::specs::Messages::message_slots))]
 fn put_message(out: &mut Vec<u8>, message: &Message, len: usize)
     requires len { len ≡ width (message_slots message.now) }
     requires room { vec_len out.old + len ≤ vec_capacity out.old }
     requires short { len < 2 ^ 16 }
+    requires proper { IsProperMessage message.now }
     ensures { Writes out.old out.new (message_slots message.now) }
 {
-    match message {
-        Message::Hello { xid, version, body } => {
-            put_header(out, *version, 0, len, *xid);
-            put_bytes(out, body.as_slice());
-        }
-        Message::EchoRequest { xid, body } => {
-            put_header(out, 1, 2, len, *xid);
-            put_bytes(out, body.as_slice());
-        }
-        Message::EchoReply { xid, body } => {
-            put_header(out, 1, 3, len, *xid);
-            put_bytes(out, body.as_slice());
-        }
-    }
+    put_header(out, version(message), kind(message), len, xid(message));
+    put_fields(out, message);
 }
 
 /// How many bytes the message takes, up to 65,536.
-#[tactic(auto, unfolding(crate::specs::Messages::message_slots))]
+#[tactic(auto, using(crate::proofs::Tails::width_tail), unfolding(crate::specs::Messages::message_slots, of10_wire::specs::Parts::match_slots, of10_wire::specs::Parts::port_slots))]
 fn message_len(message: &Message) -> usize
     ensures { result ≡ min (width (message_slots message.now)) 65536 }
 {
     let len = match message {
         Message::Hello { body, .. } => 8 + body.len().min(65536),
+        Message::Error { body, .. } => 12 + body.len().min(65536),
         Message::EchoRequest { body, .. } => 8 + body.len().min(65536),
         Message::EchoReply { body, .. } => 8 + body.len().min(65536),
+        Message::Vendor { body, .. } => 12 + body.len().min(65536),
+        Message::FeaturesRequest { .. } => 8,
+        Message::FeaturesReply { ports, .. } => 32 + len_all(ports.as_slice()),
+        Message::GetConfigRequest { .. } => 8,
+        Message::GetConfigReply { .. } => 12,
+        Message::SetConfig { .. } => 12,
+        Message::PacketIn { body, .. } => 18 + body.len().min(65536),
+        Message::FlowRemoved { .. } => 88,
+        Message::PortStatus { .. } => 64,
+        Message::PacketOut { actions, body, .. } => {
+            16 + len_all(actions.as_slice()) + body.len().min(65536)
+        }
+        Message::FlowMod { actions, .. } => 72 + len_all(actions.as_slice()),
+        Message::PortMod { .. } => 32,
+        Message::BarrierRequest { .. } => 8,
+        Message::BarrierReply { .. } => 8,
+        Message::QueueGetConfigRequest { .. } => 12,
     };
     len.min(65536)
 }
 
-/// Whether the message has a frame: whether it takes at most 65,535 bytes.
+/// Whether the message's parts can be written.
+fn has_proper_parts(message: &Message) -> bool
+    ensures { IsTrue result ↔ IsProperMessage message.now }
+{
+    match message {
+        Message::PacketOut { actions, .. } => are_proper(actions.as_slice()),
+        Message::FlowMod { actions, .. } => are_proper(actions.as_slice()),
+        _ => true,
+    }
+}
+
+/// Whether the message has a frame: whether it takes at most 65,535 bytes, and the body of each vendor action is a
+/// multiple of 8 bytes.
 pub fn is_sendable(message: &Message) -> bool
     ensures { IsTrue result ↔ IsSendable message.now }
 {
-    message_len(message) < 65536
+    message_len(message) < 65536 && has_proper_parts(message)
 }
 
 /// Appends the message's spelling, with each pad as zeros.

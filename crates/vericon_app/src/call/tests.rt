@@ -80,7 +80,11 @@ fn frames_prints_these_lines_with_these_statuses(rt: HostRuntime) -> Result<(), 
     let cases: [(&[u8], &[u8], u8); 3] = [
         (&[1, 0, 0, 8, 0, 0, 0, 1], b"0 HELLO length 8 xid 1\n", 0),
         (&[], b"", 0),
-        (&[1, 5, 0, 8, 0, 0, 0, 1], b"1 refused NotYet\n", 3),
+        (
+            &[1, 5, 0, 8, 0, 0, 0, 1],
+            b"0 FEATURES_REQUEST length 8 xid 1\n",
+            0,
+        ),
     ];
     let words = two_words(rt.alloc(), "frames", "p")?;
     for (bytes, wanted, number) in cases {

@@ -1,0 +1,9 @@
+pub mod Places
+pub mod Growth
+pub mod Entries
+pub mod Learned
+pub mod Logged
+pub mod Clauses
+pub mod Models
+pub mod Turned
+pub mod Ties

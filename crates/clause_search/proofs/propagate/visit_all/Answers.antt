@@ -1,0 +1,10 @@
+use Rattle.clause_search.proofs.Entries.{extends_on}
+use Rattle.clause_search.proofs.propagate.visit_all.Goals as goal
+
+pub returns-then-is_some-clause-extends : goal.returns-then-is_some-clause-extends
+returns-then-is_some-clause-extends c =
+    extends_on c.args.clauses.now.atoms c.args.clauses.now.clauses c.args.trail.now c.places.trail c.visit.new.trail c.places.invariant c.in_ok-found.ensures.extends
+
+pub places-preserved : goal.places-preserved
+places-preserved c =
+    extends_on c.args.clauses.now.atoms c.args.clauses.now.clauses c.args.trail.now c.places.trail c.visit.new.trail c.places.invariant c.in_ok-found.ensures.extends

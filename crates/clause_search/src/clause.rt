@@ -1,0 +1,105 @@
+//! What a clause says under the values of a trail.
+
+ghost use Rattle.std.specs.Prelude.{◌≡◌};
+ghost use Rattle.clause_search.specs.Trails.{values_of};
+ghost use Rattle.clause_search.specs.Searches.{Does, IsEither, Leaves};
+
+use crate::occurrences::Occurrences;
+use crate::trail::Trail;
+use clause_log::Lit;
+
+/// What a clause does under the values of a trail.
+#[derive(Clone, Copy, Debug)]
+pub enum Verdict {
+    Quiet,
+    /// Its only literal that isn't false, which has no value yet.
+    Forces(Lit),
+    /// Its literals are false.
+    Conflict,
+}
+
+/// A literal without a value, of a clause with so many of them.
+#[derive(Clone, Copy, Debug)]
+pub struct Candidate {
+    pub literal: Lit,
+    pub open: usize,
+}
+
+/// What the values of a trail leave of a clause.
+#[derive(Clone, Copy, Debug)]
+pub enum Choice {
+    /// One of its literals is true.
+    True,
+    /// None is true, and this one has no value.
+    Open(Candidate),
+    /// Its literals are false.
+    False,
+}
+
+/// What the clause does; it is quiet where it has a true literal, or two without a value.
+pub fn verdict_of(trail: &Trail, clause: &[Lit]) -> Verdict
+    ensures { Does (values_of trail.now) clause.now result }
+{
+    let mut rest = clause;
+    let mut found: Option<Lit> = None;
+    'literals: while let [l, more @ ..] = rest {
+        match trail.value(*l) {
+            Some(true) => return Verdict::Quiet,
+            Some(false) => {}
+            None => {
+                if found.is_some() {
+                    return Verdict::Quiet;
+                }
+                found = Some(*l);
+            }
+        }
+        rest = more;
+    }
+    match found {
+        Some(l) => Verdict::Forces(l),
+        None => Verdict::Conflict,
+    }
+}
+
+// Of two literals the one that more clauses hold, counted once more.
+fn more_held(occurrences: &Occurrences, found: Option<Candidate>, l: Lit) -> Candidate
+    ensures { IsEither found l result.literal }
+{
+    match found {
+        None => Candidate {
+            literal: l,
+            open: 1,
+        },
+        Some(k) => {
+            let open = k.open.saturating_add(1);
+            if occurrences.holding(l).len() > occurrences.holding(k.literal).len() {
+                Candidate { literal: l, open }
+            } else {
+                Candidate {
+                    literal: k.literal,
+                    open,
+                }
+            }
+        }
+    }
+}
+
+/// What is left of the clause: a true literal, else, of those without a value, the one that most clauses hold.
+pub fn choice_of(trail: &Trail, occurrences: &Occurrences, clause: &[Lit]) -> Choice
+    ensures { Leaves (values_of trail.now) clause.now result }
+{
+    let mut rest = clause;
+    let mut found: Option<Candidate> = None;
+    'literals: while let [l, more @ ..] = rest {
+        match trail.value(*l) {
+            Some(true) => return Choice::True,
+            Some(false) => {}
+            None => found = Some(more_held(occurrences, found, *l)),
+        }
+        rest = more;
+    }
+    match found {
+        Some(candidate) => Choice::Open(candidate),
+        None => Choice::False,
+    }
+}

@@ -1,0 +1,10 @@
+use clause_log::{Log, Valuation};
+
+/// What a search answers.
+#[derive(Drop)]
+pub enum Outcome {
+    /// This valuation makes every clause true.
+    Model(Valuation),
+    /// This log is accepted, so none does.
+    Refuted(Log),
+}

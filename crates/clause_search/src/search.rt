@@ -1,0 +1,38 @@
+//! The search.
+
+ghost use Rattle.std.specs.Prelude.{IfOk};
+ghost use Rattle.clause_search.specs.Outcomes.{Answers};
+
+use crate::model::valuation_of;
+use crate::occurrences::Occurrences;
+use crate::outcome::Outcome;
+use crate::trail::Trail;
+use crate::turn::{Turn, advance};
+use clause_log::{Clauses, Log};
+use std::alloc::{AllocError, Global};
+
+/// A valuation that makes every clause true, or a log that refutes the clauses: `accepts` takes it, its literals
+/// are of atoms from 1 to `atoms`, and its hints are at most 2^63 - 1.
+///
+/// Literals are decided, and what clauses then force is made true. At a conflict the clause of the negated
+/// decisions is logged, and the last decided literal made false; so both ways of a decision lead to the clause of
+/// the earlier ones. Only atoms that a clause names take room. The search may take time that is exponential in the
+/// number of these.
+pub fn solve(alloc: Global, clauses: &Clauses) -> Result<Outcome, AllocError>
+    ensures { IfOk result (λ o. Answers clauses.now o) }
+{
+    clauses.atoms();
+    let occurrences = Occurrences::of(alloc, clauses)?;
+    let mut trail = Trail::new(alloc);
+    let mut log = Log::try_new(alloc)?;
+    'turns: loop {
+        match advance(alloc, clauses, &occurrences, &mut trail, &mut log)? {
+            Turn::GoesOn => {}
+            Turn::AllTrue => {
+                let valuation = valuation_of(alloc, &trail)?;
+                return Ok(Outcome::Model(valuation));
+            }
+            Turn::Failed => return Ok(Outcome::Refuted(log)),
+        }
+    }
+}

@@ -1,0 +1,142 @@
+-- Formulas, as they are printed.
+use Rattle.std.proofs.Common.{◌≡◌, ℕ, zero, suc, ◌+◌, ◌-◌, ◌≤◌, Bool, true, false, cond, ltb, List, ◌++◌, length, inl, inr, refl, subst, append-nil, arith}
+use Rattle.std.specs.Prelude.{codes}
+use Rattle.std.proofs.lemmas.Bool.{ltb-false}
+use Rattle.csdn_tokens.specs.declared.Kind.TheVariants as k
+use Rattle.csdn_tokens.specs.Lex.{word_kind}
+use Rattle.csdn_tree.specs.declared.names.RawName.{RawName}
+use Rattle.csdn_tree.specs.declared.syntax.RawFlow.{RawFlow}
+use Rattle.csdn_tree.specs.declared.syntax.RawPacket.{RawPacket}
+use Rattle.csdn_tree.specs.declared.syntax.RawFormula.{RawFormula}
+use Rattle.csdn_text.specs.Symbols.{formula, iff, implies, either, both, unary, flow, packet}
+use Rattle.csdn_text.specs.Grammar.{flow_of, packet_of}
+use Rattle.csdn_print.specs.Words.{term_text, flow_text, packet_text}
+use Rattle.csdn_print.specs.Formulas.{operand}
+use Rattle.csdn_print.specs.Placeless.{bare_flow, bare_packet, bare_formula}
+use Rattle.csdn_print.proofs.Prints.{FlowPrints, PacketPrints, inside}
+use Rattle.csdn_print.proofs.Lexing.{IsWord, reserved, open_is, close_is, comma_is}
+use Rattle.csdn_print.proofs.Lines.{nil, gap, symbol, arrow, along, by, before, final}
+use Rattle.csdn_print.proofs.WordLines.{Again, term_again}
+
+-- the same formula, places aside
+abbrev pub SameAs : RawFormula → RawFormula → Type 0
+SameAs p v = bare_formula v ≡ bare_formula p
+
+-- ---- reserved words
+
+pub true_is : IsWord (codes "true") k.True
+unfolding word_kind
+true_is = reserved (codes "true") k.True refl (omega arith) refl
+
+pub false_is : IsWord (codes "false") k.False
+unfolding word_kind
+false_is = reserved (codes "false") k.False refl (omega arith) refl
+
+pub not_is : IsWord (codes "not") k.Not
+unfolding word_kind
+not_is = reserved (codes "not") k.Not refl (omega arith) refl
+
+pub and_is : IsWord (codes "and") k.And
+unfolding word_kind
+and_is = reserved (codes "and") k.And refl (omega arith) refl
+
+pub or_is : IsWord (codes "or") k.Or
+unfolding word_kind
+or_is = reserved (codes "or") k.Or refl (omega arith) refl
+
+pub forall_is : IsWord (codes "forall") k.Forall
+unfolding word_kind
+forall_is = reserved (codes "forall") k.Forall refl (omega arith) refl
+
+pub exists_is : IsWord (codes "exists") k.Exists
+unfolding word_kind
+exists_is = reserved (codes "exists") k.Exists refl (omega arith) refl
+
+pub ft_is : IsWord (codes "ft") k.Ft
+unfolding word_kind
+ft_is = reserved (codes "ft") k.Ft refl (omega arith) refl
+
+pub sent_is : IsWord (codes "sent") k.Sent
+unfolding word_kind
+sent_is = reserved (codes "sent") k.Sent refl (omega arith) refl
+
+pub rcv_this_is : IsWord (codes "rcv_this") k.RcvThis
+unfolding word_kind
+rcv_this_is = reserved (codes "rcv_this") k.RcvThis refl (omega arith) refl
+
+-- ---- flows and packets
+
+pub flow_again : {most d : ℕ} (x : RawName) (w : RawFlow) → d ≤ most → FlowPrints w → (at : ℕ)
+    → Again most d at flow (flow_text w) (λ v. bare_flow (flow_of x v) ≡ bare_flow (record w { switch = x }))
+flow_again x w room is at =
+    let a = term_again w.source room is.1.0 (at + 1) in
+    let b = term_again w.target room is.1.1.0 (at + 1 + length (term_text w.source) + 2) in
+    let i = term_again w.ingress room is.1.1.1.0 (at + 1 + length (term_text w.source) + 2 + length (term_text w.target) + 1 + 1) in
+    let o = term_again w.egress room is.1.1.1.1 (at + 1 + length (term_text w.source) + 2 + length (term_text w.target) + 1 + 1 + length (term_text w.ingress) + 2) in
+    record {
+      value = _;
+      line = by _ (inl refl) (symbol open_is room (before a.line refl (arrow room (before b.line refl (symbol comma_is room (gap 32 refl (before i.line refl (arrow room (before o.line refl (symbol close_is room nil))))))))));
+      same = let e1 = a.same in let e2 = b.same in let e3 = i.same in let e4 = o.same in cc;
+    }
+
+pub packet_again : {most d : ℕ} (x : RawName) (w : RawPacket) → d ≤ most → PacketPrints w → (at : ℕ)
+    → Again most d at packet (packet_text w) (λ v. bare_packet (packet_of x v) ≡ bare_packet (record w { switch = x }))
+packet_again x w room is at =
+    let a = term_again w.source room is.1.0 (at + 1) in
+    let b = term_again w.target room is.1.1.0 (at + 1 + length (term_text w.source) + 2) in
+    let i = term_again w.ingress room is.1.1.1 (at + 1 + length (term_text w.source) + 2 + length (term_text w.target) + 1 + 1) in
+    record {
+      value = _;
+      line = by _ (inl refl) (symbol open_is room (before a.line refl (arrow room (before b.line refl (symbol comma_is room (gap 32 refl (before i.line refl (symbol close_is room nil))))))));
+      same = let e1 = a.same in let e2 = b.same in let e3 = i.same in cc;
+    }
+
+-- ---- levels
+
+abbrev ReadAt : (most d at needed : ℕ) → List ℕ → RawFormula → Type 0
+ReadAt most d at zero bytes p = Again most d at formula bytes (SameAs p)
+ReadAt most d at (suc zero) bytes p = Again most d at iff bytes (SameAs p)
+ReadAt most d at (suc (suc zero)) bytes p = Again most d at implies bytes (SameAs p)
+ReadAt most d at (suc (suc (suc zero))) bytes p = Again most d at either bytes (SameAs p)
+ReadAt most d at (suc (suc (suc (suc zero)))) bytes p = Again most d at both bytes (SameAs p)
+ReadAt most d at (suc (suc (suc (suc (suc n))))) bytes p = Again most d at unary bytes (SameAs p)
+
+-- these bytes are read as a formula at a place that needs a level
+pub record FormulaAt (most d at needed : ℕ) (bytes : List ℕ) (p : RawFormula) : Type 0 where
+  pub again : ReadAt most d at needed bytes p
+
+-- a formula may stand where a level less is needed
+lower : {most d at : ℕ} {bytes : List ℕ} {p : RawFormula} (n : ℕ) → FormulaAt most d at (suc n) bytes p → FormulaAt most d at n bytes p
+lower zero a = record { again = record { value = a.again.value; line = by _ (inr (inr (inl refl))) (final a.again.line); same = a.again.same } }
+lower {bytes = bytes} (suc zero) a = record { again = record { value = a.again.value; line = by _ (inl refl) (along (append-nil bytes) (before a.again.line refl (final (by _ (inr (inl refl)) nil)))); same = a.again.same } }
+lower {bytes = bytes} (suc (suc zero)) a = record { again = record { value = a.again.value; line = by _ (inl refl) (along (append-nil bytes) (before a.again.line refl (final (by _ (inr (inl refl)) nil)))); same = a.again.same } }
+lower {bytes = bytes} (suc (suc (suc zero))) a = record { again = record { value = a.again.value; line = by _ (inl refl) (along (append-nil bytes) (before a.again.line refl (final (by _ (inr (inl refl)) nil)))); same = a.again.same } }
+lower {bytes = bytes} (suc (suc (suc (suc zero)))) a = record { again = record { value = a.again.value; line = by _ (inl refl) (along (append-nil bytes) (before a.again.line refl (final (by _ (inr (inl refl)) nil)))); same = a.again.same } }
+lower (suc (suc (suc (suc (suc n))))) a = record { again = a.again }
+
+-- .. and where some levels less are
+lower_by : {most d at : ℕ} {bytes : List ℕ} {p : RawFormula} (j n : ℕ) → FormulaAt most d at (j + n) bytes p → FormulaAt most d at n bytes p
+lower_by {most} {d} {at} {bytes} {p} zero n a = subst (λ i. FormulaAt most d at i bytes p) (let e : 0 + n ≡ n = omega arith in e) a
+lower_by {most} {d} {at} {bytes} {p} (suc j) n a = lower_by j n (lower (j + n) (subst (λ i. FormulaAt most d at i bytes p) (let e : suc j + n ≡ suc (j + n) = omega arith in e) a))
+
+pub to_level : {most d at : ℕ} {bytes : List ℕ} {p : RawFormula} (own needed : ℕ) → needed ≤ own → FormulaAt most d at own bytes p → FormulaAt most d at needed bytes p
+to_level {most} {d} {at} {bytes} {p} own needed le a =
+    lower_by (own - needed) needed (subst (λ i. FormulaAt most d at i bytes p) (let e : own ≡ (own - needed) + needed = omega (arith, le) in e) a)
+
+-- in parentheses
+wrapped : {most d at : ℕ} {bytes : List ℕ} {p : RawFormula} → d + 1 ≤ most → FormulaAt most (d + 1) (at + 1) 0 bytes p → FormulaAt most d at 5 (codes "(" ++ (bytes ++ codes ")")) p
+wrapped room a = record { again = record { value = a.again.value; line = by _ (inr (inl refl)) (final (by _ (inr (inr (inl refl))) (symbol open_is room (before a.again.line refl (symbol close_is room nil))))); same = a.again.same } }
+
+-- what a formula needs so as to stand at a depth, where its own level is needed
+pub record Own (most d own : ℕ) (bytes : List ℕ) (p : RawFormula) : Type 0 where
+  pub room : d ≤ most
+  pub line : (at : ℕ) → FormulaAt most d at own bytes p
+
+-- an operand, where a level is needed
+pub operand_at : {most : ℕ} {bytes : List ℕ} {p : RawFormula} (d needed own : ℕ) → needed ≤ 5 → Own most (inside needed own d) own bytes p → (at : ℕ)
+    → FormulaAt most d at needed (operand needed own bytes) p
+operand_at {most} {bytes} {p} d needed own few h at = go (ltb own needed) refl h
+  where
+    go : (b : Bool) → ltb own needed ≡ b → Own most (cond b (d + 1) d) own bytes p → FormulaAt most d at needed (cond b (codes "(" ++ (bytes ++ codes ")")) bytes) p
+    go true is a = to_level 5 needed few (wrapped a.room (to_level own 0 (omega arith) (a.line (at + 1))))
+    go false is a = to_level own needed (ltb-false own needed is) (a.line at)

@@ -1,0 +1,10 @@
+pub mod Lexing
+pub mod Lines
+pub mod Prints
+pub mod WordLines
+pub mod FormulaLines
+pub mod FormulaTexts
+pub mod CommandTexts
+pub mod ItemTexts
+pub mod Fits
+pub mod Law

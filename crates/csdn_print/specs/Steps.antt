@@ -1,0 +1,291 @@
+-- The clauses of the definitions on trees, at what the code sees.
+use Rattle.std.specs.Prelude.{◌≡◌, ℕ, true, false, List, codes, refl}
+use Rattle.std.proofs.Common.{ap}
+use Rattle.csdn_core.specs.declared.terms.Sort.{Sort}
+use Rattle.csdn_tree.specs.declared.names.RawName.{RawName}
+use Rattle.csdn_tree.specs.declared.names.RawTerm.{RawTerm}
+use Rattle.csdn_tree.specs.declared.syntax.FlowWord.{FlowWord}
+use Rattle.csdn_tree.specs.declared.syntax.RawFlow.{RawFlow}
+use Rattle.csdn_tree.specs.declared.syntax.RawPacket.{RawPacket}
+use Rattle.csdn_tree.specs.declared.syntax.RawFormula.{RawFormula}
+use Rattle.csdn_tree.specs.declared.syntax.RawFormula.TheVariants as f
+use Rattle.csdn_tree.specs.declared.syntax.RawCommand.{RawCommand}
+use Rattle.csdn_tree.specs.declared.syntax.RawCommand.TheVariants as c
+use Rattle.csdn_tree.specs.RawTree.{Not-is, And-is, Or-is, Implies-is, Iff-is, Forall-is, Exists-is, Seq-is, If-is, Pick-is}
+use Rattle.csdn_print.specs.declared.forms.Lead.{Lead}
+use Rattle.csdn_print.specs.declared.forms.Lead.TheVariants.{Nothing, Binds}
+use Rattle.csdn_print.specs.declared.forms.Quantifier.TheVariants as q
+use Rattle.csdn_print.specs.Words.{◌·◌, sort_text, term_text, terms_text, flow_text, packet_text}
+use Rattle.csdn_print.specs.Formulas.{level, operand, lead_text, quantifier_text, flow_word, formula_text}
+use Rattle.csdn_print.specs.Commands.{inner, is_skip, block_text, otherwise_text, command_text}
+use Rattle.csdn_print.specs.Placeless.{bare_name, bare_term, bare_terms, bare_flow, bare_packet, bare_formula, bare_command}
+
+pub level-True : level f.True ≡ 5
+unfolding level
+level-True = refl
+
+pub level-False : level f.False ≡ 5
+unfolding level
+level-False = refl
+
+pub level-Atom : (x : RawName) (us : List RawTerm) → level (f.Atom x us) ≡ 5
+unfolding level
+level-Atom x us = refl
+
+pub level-Same : (u v : RawTerm) → level (f.Same u v) ≡ 5
+unfolding level
+level-Same u v = refl
+
+pub level-Flow : (at : ℕ) (word : FlowWord) (ts : RawFlow) → level (f.Flow at word ts) ≡ 5
+unfolding level
+level-Flow at word ts = refl
+
+pub level-RcvThis : (at : ℕ) (ts : RawPacket) → level (f.RcvThis at ts) ≡ 5
+unfolding level
+level-RcvThis at ts = refl
+
+pub level-Not : (p : RawFormula) → level (f.Not p) ≡ 5
+unfolding level
+level-Not p = rw Not-is refl
+
+pub level-And : (p r : RawFormula) → level (f.And p r) ≡ 4
+unfolding level
+level-And p r = rw And-is refl
+
+pub level-Or : (p r : RawFormula) → level (f.Or p r) ≡ 3
+unfolding level
+level-Or p r = rw Or-is refl
+
+pub level-Implies : (p r : RawFormula) → level (f.Implies p r) ≡ 2
+unfolding level
+level-Implies p r = rw Implies-is refl
+
+pub level-Iff : (p r : RawFormula) → level (f.Iff p r) ≡ 1
+unfolding level
+level-Iff p r = rw Iff-is refl
+
+pub level-Forall : (x : RawName) (s : Sort) (p : RawFormula) → level (f.Forall x s p) ≡ 0
+unfolding level
+level-Forall x s p = rw Forall-is refl
+
+pub level-Exists : (x : RawName) (s : Sort) (p : RawFormula) → level (f.Exists x s p) ≡ 0
+unfolding level
+level-Exists x s p = rw Exists-is refl
+
+pub formula_text-True : (lead : Lead) → formula_text lead f.True ≡ lead_text lead · codes "true"
+unfolding formula_text
+formula_text-True lead = refl
+
+pub formula_text-False : (lead : Lead) → formula_text lead f.False ≡ lead_text lead · codes "false"
+unfolding formula_text
+formula_text-False lead = refl
+
+pub formula_text-Atom : (lead : Lead) (x : RawName) (us : List RawTerm) → formula_text lead (f.Atom x us) ≡ lead_text lead · x.text · terms_text us
+unfolding formula_text
+formula_text-Atom lead x us = refl
+
+pub formula_text-Same : (lead : Lead) (u v : RawTerm) → formula_text lead (f.Same u v) ≡ lead_text lead · term_text u · codes " = " · term_text v
+unfolding formula_text
+formula_text-Same lead u v = refl
+
+pub formula_text-Flow : (lead : Lead) (at : ℕ) (word : FlowWord) (ts : RawFlow) → formula_text lead (f.Flow at word ts) ≡ lead_text lead · ts.switch.text · flow_word word · flow_text ts
+unfolding formula_text
+formula_text-Flow lead at word ts = refl
+
+pub formula_text-RcvThis : (lead : Lead) (at : ℕ) (ts : RawPacket) → formula_text lead (f.RcvThis at ts) ≡ lead_text lead · ts.switch.text · codes ".rcv_this" · packet_text ts
+unfolding formula_text
+formula_text-RcvThis lead at ts = refl
+
+pub formula_text-Not : (lead : Lead) (p : RawFormula) → formula_text lead (f.Not p) ≡ lead_text lead · codes "not " · operand 5 (level p) (formula_text Nothing p)
+unfolding formula_text
+formula_text-Not lead p = rw Not-is
+
+pub formula_text-And : (lead : Lead) (p r : RawFormula) → formula_text lead (f.And p r) ≡ lead_text lead · operand 5 (level p) (formula_text Nothing p) · codes " and " · operand 4 (level r) (formula_text Nothing r)
+unfolding formula_text
+formula_text-And lead p r = rw And-is
+
+pub formula_text-Or : (lead : Lead) (p r : RawFormula) → formula_text lead (f.Or p r) ≡ lead_text lead · operand 4 (level p) (formula_text Nothing p) · codes " or " · operand 3 (level r) (formula_text Nothing r)
+unfolding formula_text
+formula_text-Or lead p r = rw Or-is
+
+pub formula_text-Implies : (lead : Lead) (p r : RawFormula) → formula_text lead (f.Implies p r) ≡ lead_text lead · operand 3 (level p) (formula_text Nothing p) · codes " -> " · operand 2 (level r) (formula_text Nothing r)
+unfolding formula_text
+formula_text-Implies lead p r = rw Implies-is
+
+pub formula_text-Iff : (lead : Lead) (p r : RawFormula) → formula_text lead (f.Iff p r) ≡ lead_text lead · operand 2 (level p) (formula_text Nothing p) · codes " <-> " · operand 2 (level r) (formula_text Nothing r)
+unfolding formula_text
+formula_text-Iff lead p r = rw Iff-is
+
+pub formula_text-Forall : (lead : Lead) (x : RawName) (s : Sort) (p : RawFormula) → formula_text lead (f.Forall x s p) ≡ quantifier_text lead q.All · x.text · codes ":" · sort_text s · formula_text (Binds q.All) p
+unfolding formula_text
+formula_text-Forall lead x s p = rw Forall-is
+
+pub formula_text-Exists : (lead : Lead) (x : RawName) (s : Sort) (p : RawFormula) → formula_text lead (f.Exists x s p) ≡ quantifier_text lead q.Some · x.text · codes ":" · sort_text s · formula_text (Binds q.Some) p
+unfolding formula_text
+formula_text-Exists lead x s p = rw Exists-is
+
+pub is_skip-Skip : is_skip c.Skip ≡ true
+unfolding is_skip
+is_skip-Skip = refl
+
+pub is_skip-Seq : (a b : RawCommand) → is_skip (c.Seq a b) ≡ false
+unfolding is_skip
+is_skip-Seq a b = rw Seq-is refl
+
+pub is_skip-If : (p : RawFormula) (a b : RawCommand) → is_skip (c.If p a b) ≡ false
+unfolding is_skip
+is_skip-If p a b = rw If-is refl
+
+pub is_skip-Pick : (x : RawName) (s : Sort) (p : RawFormula) (a b : RawCommand) → is_skip (c.Pick x s p a b) ≡ false
+unfolding is_skip
+is_skip-Pick x s p a b = rw Pick-is refl
+
+pub is_skip-Insert : (x : RawName) (us : List RawTerm) → is_skip (c.Insert x us) ≡ false
+unfolding is_skip
+is_skip-Insert x us = refl
+
+pub is_skip-Remove : (x : RawName) (us : List RawTerm) → is_skip (c.Remove x us) ≡ false
+unfolding is_skip
+is_skip-Remove x us = refl
+
+pub is_skip-Install : (ts : RawFlow) → is_skip (c.Install ts) ≡ false
+unfolding is_skip
+is_skip-Install ts = refl
+
+pub is_skip-Forward : (ts : RawFlow) → is_skip (c.Forward ts) ≡ false
+unfolding is_skip
+is_skip-Forward ts = refl
+
+pub is_skip-Flood : (ts : RawPacket) → is_skip (c.Flood ts) ≡ false
+unfolding is_skip
+is_skip-Flood ts = refl
+
+pub command_text-Skip : (indent : List ℕ) → command_text indent c.Skip ≡ indent · codes "skip;\n"
+unfolding command_text
+command_text-Skip indent = refl
+
+pub command_text-Seq : (indent : List ℕ) (a b : RawCommand) → command_text indent (c.Seq a b) ≡ command_text indent a · command_text indent b
+unfolding command_text
+command_text-Seq indent a b = rw Seq-is
+
+pub command_text-If : (indent : List ℕ) (p : RawFormula) (a b : RawCommand) → command_text indent (c.If p a b) ≡ indent · codes "if " · formula_text Nothing p · codes " " · block_text indent (command_text (inner indent) a) · otherwise_text indent (is_skip b) (command_text (inner indent) b) · codes "\n"
+unfolding command_text
+command_text-If indent p a b = rw If-is
+
+pub command_text-Pick : (indent : List ℕ) (x : RawName) (s : Sort) (p : RawFormula) (a b : RawCommand) → command_text indent (c.Pick x s p a b) ≡ indent · codes "pick " · x.text · codes ":" · sort_text s · codes " where " · formula_text Nothing p · codes " " · block_text indent (command_text (inner indent) a) · otherwise_text indent (is_skip b) (command_text (inner indent) b) · codes "\n"
+unfolding command_text
+command_text-Pick indent x s p a b = rw Pick-is
+
+pub command_text-Insert : (indent : List ℕ) (x : RawName) (us : List RawTerm) → command_text indent (c.Insert x us) ≡ indent · x.text · codes ".insert" · terms_text us · codes ";\n"
+unfolding command_text
+command_text-Insert indent x us = refl
+
+pub command_text-Remove : (indent : List ℕ) (x : RawName) (us : List RawTerm) → command_text indent (c.Remove x us) ≡ indent · x.text · codes ".remove" · terms_text us · codes ";\n"
+unfolding command_text
+command_text-Remove indent x us = refl
+
+pub command_text-Install : (indent : List ℕ) (ts : RawFlow) → command_text indent (c.Install ts) ≡ indent · ts.switch.text · codes ".install" · flow_text ts · codes ";\n"
+unfolding command_text
+command_text-Install indent ts = refl
+
+pub command_text-Forward : (indent : List ℕ) (ts : RawFlow) → command_text indent (c.Forward ts) ≡ indent · ts.switch.text · codes ".forward" · flow_text ts · codes ";\n"
+unfolding command_text
+command_text-Forward indent ts = refl
+
+pub command_text-Flood : (indent : List ℕ) (ts : RawPacket) → command_text indent (c.Flood ts) ≡ indent · ts.switch.text · codes ".flood" · packet_text ts · codes ";\n"
+unfolding command_text
+command_text-Flood indent ts = refl
+
+pub bare_formula-True : bare_formula f.True ≡ f.True
+unfolding bare_formula
+bare_formula-True = refl
+
+pub bare_formula-False : bare_formula f.False ≡ f.False
+unfolding bare_formula
+bare_formula-False = refl
+
+pub bare_formula-Atom : (x : RawName) (us : List RawTerm) → bare_formula (f.Atom x us) ≡ f.Atom (bare_name x) (bare_terms us)
+unfolding bare_formula
+bare_formula-Atom x us = refl
+
+pub bare_formula-Same : (u v : RawTerm) → bare_formula (f.Same u v) ≡ f.Same (bare_term u) (bare_term v)
+unfolding bare_formula
+bare_formula-Same u v = refl
+
+pub bare_formula-Flow : (at : ℕ) (word : FlowWord) (ts : RawFlow) → bare_formula (f.Flow at word ts) ≡ f.Flow 0 word (bare_flow ts)
+unfolding bare_formula
+bare_formula-Flow at word ts = refl
+
+pub bare_formula-RcvThis : (at : ℕ) (ts : RawPacket) → bare_formula (f.RcvThis at ts) ≡ f.RcvThis 0 (bare_packet ts)
+unfolding bare_formula
+bare_formula-RcvThis at ts = refl
+
+pub bare_formula-Not : (p : RawFormula) → bare_formula (f.Not p) ≡ f.Not (bare_formula p)
+unfolding bare_formula
+bare_formula-Not p = ap bare_formula (Not-is p)
+
+pub bare_formula-And : (p r : RawFormula) → bare_formula (f.And p r) ≡ f.And (bare_formula p) (bare_formula r)
+unfolding bare_formula
+bare_formula-And p r = ap bare_formula (And-is p r)
+
+pub bare_formula-Or : (p r : RawFormula) → bare_formula (f.Or p r) ≡ f.Or (bare_formula p) (bare_formula r)
+unfolding bare_formula
+bare_formula-Or p r = ap bare_formula (Or-is p r)
+
+pub bare_formula-Implies : (p r : RawFormula) → bare_formula (f.Implies p r) ≡ f.Implies (bare_formula p) (bare_formula r)
+unfolding bare_formula
+bare_formula-Implies p r = ap bare_formula (Implies-is p r)
+
+pub bare_formula-Iff : (p r : RawFormula) → bare_formula (f.Iff p r) ≡ f.Iff (bare_formula p) (bare_formula r)
+unfolding bare_formula
+bare_formula-Iff p r = ap bare_formula (Iff-is p r)
+
+pub bare_formula-Forall : (x : RawName) (s : Sort) (p : RawFormula) → bare_formula (f.Forall x s p) ≡ f.Forall (bare_name x) s (bare_formula p)
+unfolding bare_formula
+bare_formula-Forall x s p = ap bare_formula (Forall-is x s p)
+
+pub bare_formula-Exists : (x : RawName) (s : Sort) (p : RawFormula) → bare_formula (f.Exists x s p) ≡ f.Exists (bare_name x) s (bare_formula p)
+unfolding bare_formula
+bare_formula-Exists x s p = ap bare_formula (Exists-is x s p)
+
+pub bare_command-Skip : bare_command c.Skip ≡ c.Skip
+unfolding bare_command
+bare_command-Skip = refl
+
+pub bare_command-Seq : (a b : RawCommand) → bare_command (c.Seq a b) ≡ c.Seq (bare_command a) (bare_command b)
+unfolding bare_command
+bare_command-Seq a b = ap bare_command (Seq-is a b)
+
+pub bare_command-If : (p : RawFormula) (a b : RawCommand) → bare_command (c.If p a b) ≡ c.If (bare_formula p) (bare_command a) (bare_command b)
+unfolding bare_command
+bare_command-If p a b = ap bare_command (If-is p a b)
+
+pub bare_command-Pick : (x : RawName) (s : Sort) (p : RawFormula) (a b : RawCommand) → bare_command (c.Pick x s p a b) ≡ c.Pick (bare_name x) s (bare_formula p) (bare_command a) (bare_command b)
+unfolding bare_command
+bare_command-Pick x s p a b = ap bare_command (Pick-is x s p a b)
+
+pub bare_command-Insert : (x : RawName) (us : List RawTerm) → bare_command (c.Insert x us) ≡ c.Insert (bare_name x) (bare_terms us)
+unfolding bare_command
+bare_command-Insert x us = refl
+
+pub bare_command-Remove : (x : RawName) (us : List RawTerm) → bare_command (c.Remove x us) ≡ c.Remove (bare_name x) (bare_terms us)
+unfolding bare_command
+bare_command-Remove x us = refl
+
+pub bare_command-Install : (ts : RawFlow) → bare_command (c.Install ts) ≡ c.Install (bare_flow ts)
+unfolding bare_command
+bare_command-Install ts = refl
+
+pub bare_command-Forward : (ts : RawFlow) → bare_command (c.Forward ts) ≡ c.Forward (bare_flow ts)
+unfolding bare_command
+bare_command-Forward ts = refl
+
+pub bare_command-Flood : (ts : RawPacket) → bare_command (c.Flood ts) ≡ c.Flood (bare_packet ts)
+unfolding bare_command
+bare_command-Flood ts = refl
+
+pub ruleset formula_steps = (level-True, level-False, level-Atom, level-Same, level-Flow, level-RcvThis, level-Not, level-And, level-Or, level-Implies, level-Iff, level-Forall, level-Exists, formula_text-True, formula_text-False, formula_text-Atom, formula_text-Same, formula_text-Flow, formula_text-RcvThis, formula_text-Not, formula_text-And, formula_text-Or, formula_text-Implies, formula_text-Iff, formula_text-Forall, formula_text-Exists)
+
+pub ruleset command_steps = (is_skip-Skip, is_skip-Seq, is_skip-If, is_skip-Pick, is_skip-Insert, is_skip-Remove, is_skip-Install, is_skip-Forward, is_skip-Flood, command_text-Skip, command_text-Seq, command_text-If, command_text-Pick, command_text-Insert, command_text-Remove, command_text-Install, command_text-Forward, command_text-Flood)
+
+pub ruleset bare_steps = (bare_formula-True, bare_formula-False, bare_formula-Atom, bare_formula-Same, bare_formula-Flow, bare_formula-RcvThis, bare_formula-Not, bare_formula-And, bare_formula-Or, bare_formula-Implies, bare_formula-Iff, bare_formula-Forall, bare_formula-Exists, bare_command-Skip, bare_command-Seq, bare_command-If, bare_command-Pick, bare_command-Insert, bare_command-Remove, bare_command-Install, bare_command-Forward, bare_command-Flood)

@@ -1,0 +1,7 @@
+pub mod Tied
+pub mod Binding
+pub mod Searched
+pub mod Ordered
+pub mod Accepted
+pub mod Stored
+pub mod Exact

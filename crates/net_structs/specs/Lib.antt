@@ -1,0 +1,6 @@
+pub mod Rows
+pub mod Networks
+pub mod Refusals
+pub mod Binds
+pub mod Views
+pub mod Depth

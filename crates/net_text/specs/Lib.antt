@@ -1,0 +1,3 @@
+pub mod Lines
+pub mod NetText
+pub mod Gives

@@ -1,0 +1,13 @@
+//! Texts of networks with a state and a packet.
+//!
+//! docs/FORMATS.md gives the format. `specs/Lines.antt` says what a line's words mean, with the reasons of a refusal in
+//! their order, and `specs/NetText.antt` the order of lines and how a case is spelled.
+#![tactic(auto)]
+
+mod line;
+mod place;
+mod read;
+mod refusal;
+
+pub use read::read_net;
+pub use refusal::{NetTextRefusal, Why};

@@ -1,0 +1,221 @@
+//! The reader of network texts.
+ghost use Rattle.std.specs.Prelude.{◌≡◌, None, Some};
+ghost use Rattle.text_lines.specs.Machine.{ended_at, reading};
+ghost use Rattle.net_text.specs.NetText.{end_of, fact_line, finish as finish_of, flow_of_line, item_line, net_format, static_of_line, step, stored_of_line};
+ghost use Rattle.net_text.specs.Gives.{Finds, Gives};
+
+use crate::line::{all_values, behind, constant, flow, header, packet, ports, sort, tuple};
+use crate::place::{Open, Place};
+use crate::refusal::{NetTextRefusal, Stop, Why};
+use csdn_core::event::Packet;
+use csdn_core::program::Program;
+use csdn_core::terms::Pred;
+use net_structs::case::Case;
+use net_structs::state::State;
+use std::alloc::Global;
+use text_lines::{Lines, Next, Words};
+
+/// The network of a text, with its state and its packet.
+pub fn read_net(alloc: Global, program: &Program, text: &[u8]) -> Result<Case, NetTextRefusal>
+    ensures { Gives result (reading (net_format program.now) text.now) }
+{
+    let mut lines = Lines::new(text);
+    let mut place = Place::Header;
+    'lines: loop {
+        match lines.next() {
+            Next::Line { number, line } => match take(alloc, program, place, Words::new(line)) {
+                Ok(next) => place = next,
+                Err(Stop::Refused(why)) => return Err(NetTextRefusal::Line { number, why }),
+                Err(Stop::Memory) => return Err(NetTextRefusal::Memory),
+            },
+            Next::End { past } => return finish(place, past),
+        }
+    }
+}
+
+fn finish(place: Place, number: u64) -> Result<Case, NetTextRefusal>
+    ensures { Gives result (ended_at number (finish_of place)) }
+{
+    match place {
+        Place::Header => Err(NetTextRefusal::Line {
+            number,
+            why: Why::Header,
+        }),
+        Place::Ended(case) => Ok(case),
+        _ => Err(NetTextRefusal::Line {
+            number,
+            why: Why::Missing,
+        }),
+    }
+}
+
+// The place behind a line with these words.
+fn take(alloc: Global, program: &Program, place: Place, words: Words) -> Result<Place, Stop>
+    ensures { Finds result (step program.now place words.entry) (λ next. next) }
+{
+    match place {
+        Place::Header => {
+            header(words)?;
+            Ok(Place::Switches)
+        }
+        Place::Switches => {
+            let words = behind(b"sw", words)?;
+            let sw = sort(alloc, words)?;
+            Ok(Place::Hosts(sw))
+        }
+        Place::Hosts(sw) => {
+            let words = behind(b"ho", words)?;
+            let ho = sort(alloc, words)?;
+            Ok(Place::Ports(sw, ho))
+        }
+        Place::Ports(sw, ho) => {
+            let words = behind(b"pr", words)?;
+            let draft = ports(alloc, program, &sw, &ho, words)?;
+            Ok(Place::Items(draft))
+        }
+        Place::Items(draft) => take_item(alloc, program, draft, words),
+        Place::Facts(draft, state) => take_fact(alloc, program, draft, state, words),
+        Place::Closing(draft, state, packet) => {
+            let words = behind(b"end", words)?;
+            close(alloc, draft, Some(state), packet, words)
+        }
+        Place::Ended(_) => Err(Stop::Refused(Why::Shape)),
+    }
+}
+
+// A line where constants and static tuples stand.
+#[tactic(auto, unfolding(crate::specs::NetText::item_line, crate::specs::NetText::item_by))]
+fn take_item(alloc: Global, program: &Program, draft: Open, words: Words) -> Result<Place, Stop>
+    ensures { Finds result (item_line program.now draft words.entry) (λ next. next) }
+{
+    let Some((key, words)) = words.next() else {
+        return Err(Stop::Refused(Why::Shape));
+    };
+    if key == b"c".as_slice() {
+        let draft = constant(program, draft, words)?;
+        Ok(Place::Items(draft))
+    } else if key == b"t".as_slice() {
+        let draft = with_static(alloc, program, draft, words)?;
+        Ok(Place::Items(draft))
+    } else if key == b"state".as_slice() {
+        if words.end().is_none() {
+            return Err(Stop::Refused(Why::Shape));
+        }
+        match State::try_empty(alloc, program) {
+            Ok(state) => Ok(Place::Facts(draft, state)),
+            Err(_) => Err(Stop::Memory),
+        }
+    } else if key == b"end".as_slice() {
+        close(alloc, draft, None, Packet::Nothing, words)
+    } else {
+        Err(Stop::Refused(Why::Shape))
+    }
+}
+
+// A line where the tuples of the state stand.
+#[tactic(auto, unfolding(crate::specs::NetText::fact_line, crate::specs::NetText::fact_by))]
+fn take_fact(
+    alloc: Global,
+    program: &Program,
+    draft: Open,
+    state: State,
+    words: Words,
+) -> Result<Place, Stop>
+    ensures { Finds result (fact_line program.now draft state words.entry) (λ next. next) }
+{
+    let Some((key, words)) = words.next() else {
+        return Err(Stop::Refused(Why::Shape));
+    };
+    if key == b"t".as_slice() {
+        let state = with_stored(alloc, program, &draft, state, words)?;
+        Ok(Place::Facts(draft, state))
+    } else if key == b"ft".as_slice() {
+        let state = with_flow(alloc, Pred::Ft, &draft, state, words)?;
+        Ok(Place::Facts(draft, state))
+    } else if key == b"sent".as_slice() {
+        let state = with_flow(alloc, Pred::Sent, &draft, state, words)?;
+        Ok(Place::Facts(draft, state))
+    } else if key == b"packet".as_slice() {
+        let packet = packet(&draft.network, words)?;
+        Ok(Place::Closing(draft, state, packet))
+    } else if key == b"end".as_slice() {
+        close(alloc, draft, Some(state), Packet::Nothing, words)
+    } else {
+        Err(Stop::Refused(Why::Shape))
+    }
+}
+
+#[tactic(auto, unfolding(crate::specs::NetText::static_of_line))]
+fn with_static(alloc: Global, program: &Program, draft: Open, words: Words) -> Result<Open, Stop>
+    ensures { Finds result (static_of_line program.now draft words.entry) (λ new. new) }
+{
+    let (rel, cells) = tuple(alloc, program, true, &draft.network, words)?;
+    let Open { network, values } = draft;
+    let mut network = network;
+    match network.insert(rel, &cells) {
+        Ok(_) => Ok(Open { network, values }),
+        Err(_) => Err(Stop::Memory),
+    }
+}
+
+#[tactic(auto, unfolding(crate::specs::NetText::stored_of_line))]
+fn with_stored(
+    alloc: Global,
+    program: &Program,
+    draft: &Open,
+    state: State,
+    words: Words,
+) -> Result<State, Stop>
+    ensures { Finds result (stored_of_line program.now draft.now state words.entry) (λ new. new) }
+{
+    let (rel, cells) = tuple(alloc, program, false, &draft.network, words)?;
+    let mut state = state;
+    match state.insert(Pred::Stored(rel), &cells) {
+        Ok(_) => Ok(state),
+        Err(_) => Err(Stop::Memory),
+    }
+}
+
+#[tactic(auto, unfolding(crate::specs::NetText::flow_of_line))]
+fn with_flow(
+    alloc: Global,
+    pred: Pred,
+    draft: &Open,
+    state: State,
+    words: Words,
+) -> Result<State, Stop>
+    ensures { Finds result (flow_of_line pred draft.now state words.entry) (λ new. new) }
+{
+    let cells = flow(alloc, &draft.network, words)?;
+    let mut state = state;
+    match state.insert(pred, &cells) {
+        Ok(_) => Ok(state),
+        Err(_) => Err(Stop::Memory),
+    }
+}
+
+// The line `end`, from the words behind it.
+#[tactic(auto, unfolding(crate::specs::NetText::end_of))]
+fn close(
+    alloc: Global,
+    draft: Open,
+    state: Option<State>,
+    packet: Packet,
+    words: Words,
+) -> Result<Place, Stop>
+    ensures { Finds result (end_of draft state packet words.entry) (λ next. next) }
+{
+    if words.end().is_none() {
+        return Err(Stop::Refused(Why::Shape));
+    }
+    let Open { network, values } = draft;
+    match all_values(alloc, &values) {
+        Ok(Some(values)) => Ok(Place::Ended(Case {
+            network: network.with_values(values),
+            state,
+            packet,
+        })),
+        Ok(None) => Err(Stop::Refused(Why::Missing)),
+        Err(_) => Err(Stop::Memory),
+    }
+}
