@@ -1,0 +1,47 @@
+//! `clauses FILE`: whether the logs of a file are accepted, and answers to clauses without a log.
+ghost use Rattle.std.specs.Prelude.{◌≡◌, ◌≤◌, IfOk};
+ghost use Rattle.vericon_app.specs.Status.{code_of};
+ghost use Rattle.vericon_app.specs.Inputs.{inputs_of};
+ghost use Rattle.vericon_app.specs.Clauses.{BlocksOutput, ClausesOutput};
+
+use crate::lines::refused_line;
+use crate::outcome::{Outcome, Status};
+use crate::source::{FileKind, Source, read_file};
+use clause_listing::list;
+use log_text::LogRefusal;
+use std::alloc::{AllocError, Global};
+use vericon_edge::files::Files;
+
+/// Lists the blocks that bytes are.
+fn list_blocks(alloc: Global, name: &str, bytes: &[u8]) -> Result<Outcome, AllocError>
+    ensures { IfOk result (λ outcome. BlocksOutput name.now bytes.now outcome.text.items (code_of outcome.status)) }
+{
+    match list(alloc, bytes) {
+        Ok(listing) => {
+            let status = if listing.all_accepted {
+                Status::Done
+            } else {
+                Status::NotAccepted
+            };
+            Ok(Outcome {
+                text: listing.text,
+                status,
+            })
+        }
+        Err(LogRefusal::Line { number }) => refused_line(alloc, name, number),
+        Err(LogRefusal::Memory) => Err(AllocError),
+    }
+}
+
+/// What `clauses` says of a file.
+pub fn clauses<F: Files>(alloc: Global, files: &mut F, name: &str) -> Result<Outcome, AllocError>
+    ensures output { IfOk result (λ outcome. ClausesOutput (inputs_of F.told F.read_faults files.old files.new) name.now outcome.text.items (code_of outcome.status)) }
+    ensures told { F.told files.new ≡ F.told files.old }
+    ensures later { F.read_faults files.old ≤ F.read_faults files.new }
+    ensures writes { F.write_faults files.new ≡ F.write_faults files.old }
+{
+    match read_file(alloc, files, FileKind::Logs, name)? {
+        Source::Bytes(bytes) => list_blocks(alloc, name, &bytes),
+        Source::Refused(outcome) => Ok(outcome),
+    }
+}
