@@ -44,6 +44,7 @@ pub fn named_atoms(alloc: Global, clauses: &Clauses) -> Result<Vec<u64>, AllocEr
     ensures { IfOk result (λ v. AreNamed clauses.now.clauses v.items) }
 {
     let atoms = enter_all(alloc, clauses)?;
+    // Its contract says that the atoms rise.
     atoms.len();
     let list = rising(alloc, &atoms)?;
     Ok(list)

@@ -21,6 +21,7 @@ use std::alloc::{AllocError, Global};
 pub fn solve(alloc: Global, clauses: &Clauses) -> Result<Outcome, AllocError>
     ensures { IfOk result (λ o. Answers clauses.now o) }
 {
+    // Its contract says that each clause is one over the atoms, which the trail's entries rest on.
     clauses.atoms();
     let occurrences = Occurrences::of(alloc, clauses)?;
     let mut trail = Trail::new(alloc);

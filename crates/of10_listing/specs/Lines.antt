@@ -1,7 +1,7 @@
 -- The line of each frame, and of what is left behind the last.
 use Rattle.std.specs.Prelude.{ℕ, zero, suc, ◌+◌, ◌<◌, ◌^◌, ◌==◌, if◌then◌else◌, List, [], ◌++◌, codes, decimal}
 use Rattle.of10_wire.specs.declared.refusal.WireWhy.{WireWhy}
-use Rattle.of10_wire.specs.declared.refusal.WireWhy.TheVariants.{Memory, BadVersion, BadType, BadLength, BadAction, BadStat, BadProperty, NotYet}
+use Rattle.of10_wire.specs.declared.refusal.WireWhy.TheVariants.{Memory, BadVersion, BadType, BadLength, BadAction, BadStat, BadProperty}
 use Rattle.of10_wire.specs.Layout.{width}
 use Rattle.of10_msgs.specs.declared.message.Message.{Message}
 use Rattle.of10_msgs.specs.Messages.{message_slots, kind_of, xid_of}
@@ -43,7 +43,6 @@ why_name BadLength = codes "BadLength"
 why_name BadAction = codes "BadAction"
 why_name BadStat = codes "BadStat"
 why_name BadProperty = codes "BadProperty"
-why_name NotYet = codes "NotYet"
 
 -- how many bytes the message's frame has
 abbrev pub frame_width : Message → ℕ

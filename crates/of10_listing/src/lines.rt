@@ -53,7 +53,6 @@ fn why_name(why: WireWhy) -> &'static [u8]
         WireWhy::BadAction => b"BadAction",
         WireWhy::BadStat => b"BadStat",
         WireWhy::BadProperty => b"BadProperty",
-        WireWhy::NotYet => b"NotYet",
     }
 }
 

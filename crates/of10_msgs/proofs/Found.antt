@@ -1,11 +1,15 @@
 -- Bytes that nothing refuses are a message.
-use Rattle.std.proofs.Common.{◌≡◌, ℕ, ◌+◌, ◌-◌, ◌*◌, ◌/◌, ◌%◌, ◌≤◌, List, ◌++◌, length, true, false, eqb, leb, Option, Some, None, refl, sym, inl, inr, arith}
+use Rattle.std.proofs.Common.{◌≡◌, ℕ, ◌+◌, ◌-◌, ◌*◌, ◌/◌, ◌%◌, ◌<◌, ◌≤◌, List, [], ◌∷◌, ◌++◌, length, true, false, not, eqb, leb, Option, Some, None, refl, sym, ◌∙◌, inl, inr, arith}
 use Rattle.std.proofs.lemmas.Bool.{cases_eq, cases_lt, eqb-true, leb-true, and_parts}
+use Rattle.std.proofs.lemmas.Bool.Decides.{nat_tests}
 use Rattle.std.specs.List.{flat_map}
+use Rattle.of10_wire.specs.declared.types.FlowMatch.{FlowMatch}
+use Rattle.of10_wire.specs.declared.types.PhyPort.{PhyPort}
+use Rattle.of10_wire.specs.declared.action.Action.{Action}
 use Rattle.of10_wire.specs.declared.refusal.WireRefusal.{WireRefusal}
 use Rattle.of10_wire.specs.declared.refusal.WireWhy.TheVariants.{BadLength}
 use Rattle.of10_wire.specs.Refusals.{refusal}
-use Rattle.of10_wire.specs.Layout.{width, number, part, Stand}
+use Rattle.of10_wire.specs.Layout.{width, number, part, Stand, Spells}
 use Rattle.of10_wire.specs.Headers.{is_kind}
 use Rattle.of10_wire.specs.Parts.{match_slots, port_slots}
 use Rattle.of10_wire.specs.Actions.{action_slots, RefusesAction}
@@ -15,9 +19,13 @@ use Rattle.of10_wire.proofs.Widths.{fixed-found}
 use Rattle.of10_wire.proofs.Listed as listed
 use Rattle.of10_wire.proofs.PartLaws.{match_there, port_there, width-match, width-port, with_match, port_fixed}
 use Rattle.of10_wire.proofs.ActionLaws.{action_item}
-use Rattle.of10_msgs.specs.declared.message.Message.TheVariants.{Hello, Error, EchoRequest, EchoReply, Vendor, FeaturesRequest, FeaturesReply, GetConfigRequest, GetConfigReply, SetConfig, PacketIn, FlowRemoved, PortStatus, PacketOut, FlowMod, PortMod, BarrierRequest, BarrierReply, QueueGetConfigRequest}
-use Rattle.of10_msgs.specs.Messages.{message_slots, rest}
-use Rattle.of10_msgs.specs.Refused.{early, allows_length, is_built, actions_len, Late}
+use Rattle.of10_stats.specs.Queues.{queue_slots, RefusesQueue}
+use Rattle.of10_stats.proofs.RequestLaws.{RequestFound, request_found}
+use Rattle.of10_stats.proofs.ReplyLaws.{ReplyFound, reply_found}
+use Rattle.of10_stats.proofs.QueueLaws.{queue_item}
+use Rattle.of10_msgs.specs.declared.message.Message.TheVariants.{Hello, Error, EchoRequest, EchoReply, Vendor, FeaturesRequest, FeaturesReply, GetConfigRequest, GetConfigReply, SetConfig, PacketIn, FlowRemoved, PortStatus, PacketOut, FlowMod, PortMod, StatsRequest, StatsReply, BarrierRequest, BarrierReply, QueueGetConfigRequest, QueueGetConfigReply}
+use Rattle.of10_msgs.specs.Messages.{message_slots, spells, Opens, rest}
+use Rattle.of10_msgs.specs.Refused.{early, allows_length, actions_len, Late}
 use Rattle.of10_msgs.specs.Readings.{Reading, Spelled, Refused, Reads}
 use Rattle.of10_msgs.proofs.Frames.{IsFrame, frame_of, early_of, allowed, opens}
 use Rattle.of10_msgs.proofs.Spelled.{behind_flow_removed, behind_flow_mod}
@@ -156,7 +164,7 @@ packet_out bytes f is = elim (cases_lt (length bytes) (16 + actions_len bytes)) 
 
 flow_mod_list : (bytes : List ℕ) → IsFrame bytes → number 1 1 bytes ≡ 14 → 72 ≤ length bytes → listed.Found action_slots RefusesAction 72 (part (length bytes - 72) 72 bytes) → Found bytes
 unfolding Stand message_slots
-flow_mod_list bytes f is le (inr (e, r)) = late bytes f e (inr (is, r))
+flow_mod_list bytes f is le (inr (e, r)) = late bytes f e (inr (inl (is, r)))
 flow_mod_list bytes f is le (inl (us, h)) =
     let o = opens 14 bytes f is refl in
     let flow = (match_there 8 bytes).0 in
@@ -174,6 +182,26 @@ port_mod bytes f is =
     let o = opens 15 bytes f is refl in
     let long : length bytes ≡ 32 = eqb-true (length bytes) 32 (allowed 15 bytes f is) in
     (Spelled (PortMod (number 4 4 bytes) (number 2 8 bytes) (part 6 10 bytes) (number 4 16 bytes) (number 4 20 bytes) (number 4 24 bytes)), record { stand = (o.version, (o.kind, (omega (arith, o.len, long), (refl, (refl, (refl, (refl, (refl, (refl, tt))))))))); whole = omega (arith, long) })
+
+stats_request_by : (bytes : List ℕ) → IsFrame bytes → number 1 1 bytes ≡ 16 → RequestFound bytes → Found bytes
+unfolding Stand message_slots
+stats_request_by bytes f is (inr (e, r)) = late bytes f e (inr (inr (inl (is, r))))
+stats_request_by bytes f is (inl (body, r)) =
+    let o = opens 16 bytes f is refl in
+    (Spelled (StatsRequest (number 4 4 bytes) (number 2 10 bytes) body), record { stand = (o.version, (o.kind, (omega (arith, o.len, r.whole), (refl, (r.kind, (refl, r.stand)))))); whole = omega (arith, r.whole) })
+
+stats_request : (bytes : List ℕ) → IsFrame bytes → number 1 1 bytes ≡ 16 → Found bytes
+stats_request bytes f is = stats_request_by bytes f is (request_found bytes (leb-true 12 (length bytes) (allowed 16 bytes f is)))
+
+stats_reply_by : (bytes : List ℕ) → IsFrame bytes → number 1 1 bytes ≡ 17 → ReplyFound bytes → Found bytes
+unfolding Stand message_slots
+stats_reply_by bytes f is (inr (e, r)) = late bytes f e (inr (inr (inr (inl (is, r)))))
+stats_reply_by bytes f is (inl (body, r)) =
+    let o = opens 17 bytes f is refl in
+    (Spelled (StatsReply (number 4 4 bytes) (number 2 10 bytes) body), record { stand = (o.version, (o.kind, (omega (arith, o.len, r.whole), (refl, (r.kind, (refl, r.stand)))))); whole = omega (arith, r.whole) })
+
+stats_reply : (bytes : List ℕ) → IsFrame bytes → number 1 1 bytes ≡ 17 → Found bytes
+stats_reply bytes f is = stats_reply_by bytes f is (reply_found bytes (leb-true 12 (length bytes) (allowed 17 bytes f is)))
 
 barrier_request : (bytes : List ℕ) → IsFrame bytes → number 1 1 bytes ≡ 18 → Found bytes
 unfolding Stand message_slots
@@ -196,15 +224,23 @@ queue_get_config_request bytes f is =
     let long : length bytes ≡ 12 = eqb-true (length bytes) 12 (allowed 20 bytes f is) in
     (Spelled (QueueGetConfigRequest (number 4 4 bytes) (number 2 8 bytes)), record { stand = (o.version, (o.kind, (omega (arith, o.len, long), (refl, (refl, tt))))); whole = omega (arith, long) })
 
+queue_reply_list : (bytes : List ℕ) → IsFrame bytes → number 1 1 bytes ≡ 21 → 16 ≤ length bytes → listed.Found queue_slots RefusesQueue 16 (part (length bytes - 16) 16 bytes) → Found bytes
+unfolding Stand message_slots
+queue_reply_list bytes f is le (inr (e, r)) = late bytes f e (inr (inr (inr (inr (is, r)))))
+queue_reply_list bytes f is le (inl (qs, h)) =
+    let o = opens 21 bytes f is refl in
+    let there = part-whole 16 (length bytes - 16) (flat_map queue_slots qs) bytes (omega (arith, le)) h in
+    (Spelled (QueueGetConfigReply (number 4 4 bytes) (number 2 8 bytes) qs), record { stand = (o.version, (o.kind, (omega (arith, o.len, le, there.1), (refl, (refl, there.0))))); whole = omega (arith, le, there.1) })
+
+queue_get_config_reply : (bytes : List ℕ) → IsFrame bytes → number 1 1 bytes ≡ 21 → Found bytes
+queue_get_config_reply bytes f is = queue_reply_list bytes f is (leb-true 16 (length bytes) (allowed 21 bytes f is)) (listed.items-found queue_slots RefusesQueue queue_item 16 (part (length bytes - 16) 16 bytes))
+
 -- ---- whatever the type
 
-none_left : (kind : ℕ) → is_kind kind ≡ true → is_built kind ≡ true → (kind ≡ 0 → ⊥) → (kind ≡ 1 → ⊥) → (kind ≡ 2 → ⊥) → (kind ≡ 3 → ⊥) → (kind ≡ 4 → ⊥) → (kind ≡ 5 → ⊥) → (kind ≡ 6 → ⊥) → (kind ≡ 7 → ⊥) → (kind ≡ 8 → ⊥) → (kind ≡ 9 → ⊥) → (kind ≡ 10 → ⊥) → (kind ≡ 11 → ⊥) → (kind ≡ 12 → ⊥) → (kind ≡ 13 → ⊥) → (kind ≡ 14 → ⊥) → (kind ≡ 15 → ⊥) → (kind ≡ 18 → ⊥) → (kind ≡ 19 → ⊥) → (kind ≡ 20 → ⊥) → ⊥
-none_left kind known built no0 no1 no2 no3 no4 no5 no6 no7 no8 no9 no10 no11 no12 no13 no14 no15 no18 no19 no20 =
+none_left : (kind : ℕ) → is_kind kind ≡ true → (kind ≡ 0 → ⊥) → (kind ≡ 1 → ⊥) → (kind ≡ 2 → ⊥) → (kind ≡ 3 → ⊥) → (kind ≡ 4 → ⊥) → (kind ≡ 5 → ⊥) → (kind ≡ 6 → ⊥) → (kind ≡ 7 → ⊥) → (kind ≡ 8 → ⊥) → (kind ≡ 9 → ⊥) → (kind ≡ 10 → ⊥) → (kind ≡ 11 → ⊥) → (kind ≡ 12 → ⊥) → (kind ≡ 13 → ⊥) → (kind ≡ 14 → ⊥) → (kind ≡ 15 → ⊥) → (kind ≡ 16 → ⊥) → (kind ≡ 17 → ⊥) → (kind ≡ 18 → ⊥) → (kind ≡ 19 → ⊥) → (kind ≡ 20 → ⊥) → (kind ≡ 21 → ⊥) → ⊥
+none_left kind known no0 no1 no2 no3 no4 no5 no6 no7 no8 no9 no10 no11 no12 no13 no14 no15 no16 no17 no18 no19 no20 no21 =
     let low : kind ≤ 21 = leb-true kind 21 known in
-    let no16 : kind ≡ 16 → ⊥ = λ is. let b : is_built kind ≡ false = rw is refl in absurd cc in
-    let no17 : kind ≡ 17 → ⊥ = λ is. let b : is_built kind ≡ false = rw is refl in absurd cc in
-    let no21 : kind ≡ 21 → ⊥ = λ is. let b : is_built kind ≡ false = rw is refl in absurd cc in
-    omega (arith, low, no16, no17, no21, no0, no1, no2, no3, no4, no5, no6, no7, no8, no9, no10, no11, no12, no13, no14, no15, no18, no19, no20)
+    omega (arith, low, no0, no1, no2, no3, no4, no5, no6, no7, no8, no9, no10, no11, no12, no13, no14, no15, no16, no17, no18, no19, no20, no21)
 
 -- the types one after the other: what was found of one, or it is a later one
 frame_found : (bytes : List ℕ) → IsFrame bytes → Found bytes
@@ -242,13 +278,22 @@ frame_found bytes f =
                                   | inl is ↦ flow_mod bytes f is
                                   | inr no14 ↦ elim (cases_eq kind 15) [
                                     | inl is ↦ port_mod bytes f is
-                                    | inr no15 ↦ elim (cases_eq kind 18) [
-                                      | inl is ↦ barrier_request bytes f is
-                                      | inr no18 ↦ elim (cases_eq kind 19) [
-                                        | inl is ↦ barrier_reply bytes f is
-                                        | inr no19 ↦ elim (cases_eq kind 20) [
-                                          | inl is ↦ queue_get_config_request bytes f is
-                                          | inr no20 ↦ absurd (none_left kind f.known f.built no0 no1 no2 no3 no4 no5 no6 no7 no8 no9 no10 no11 no12 no13 no14 no15 no18 no19 no20)
+                                    | inr no15 ↦ elim (cases_eq kind 16) [
+                                      | inl is ↦ stats_request bytes f is
+                                      | inr no16 ↦ elim (cases_eq kind 17) [
+                                        | inl is ↦ stats_reply bytes f is
+                                        | inr no17 ↦ elim (cases_eq kind 18) [
+                                          | inl is ↦ barrier_request bytes f is
+                                          | inr no18 ↦ elim (cases_eq kind 19) [
+                                            | inl is ↦ barrier_reply bytes f is
+                                            | inr no19 ↦ elim (cases_eq kind 20) [
+                                              | inl is ↦ queue_get_config_request bytes f is
+                                              | inr no20 ↦ elim (cases_eq kind 21) [
+                                                | inl is ↦ queue_get_config_reply bytes f is
+                                                | inr no21 ↦ absurd (none_left kind f.known no0 no1 no2 no3 no4 no5 no6 no7 no8 no9 no10 no11 no12 no13 no14 no15 no16 no17 no18 no19 no20 no21)
+                                              ]
+                                            ]
+                                          ]
                                         ]
                                       ]
                                     ]

@@ -2,27 +2,23 @@
 use Rattle.std.proofs.Common.{◌≡◌, ℕ, ◌≤◌, List, length, Bool, true, false, not, ◌&&◌, cond, eqb, ltb, Option, Some, None, refl, sym, ◌∙◌, inl, inr, arith}
 use Rattle.std.proofs.lemmas.Bool.{le-ltb, eq-eqb, eqb-true, ltb-false, not-false, and_cases}
 use Rattle.of10_wire.specs.declared.refusal.WireRefusal.{WireRefusal}
-use Rattle.of10_wire.specs.declared.refusal.WireWhy.TheVariants.{BadVersion, BadType, BadLength, NotYet}
+use Rattle.of10_wire.specs.declared.refusal.WireWhy.TheVariants.{BadVersion, BadType, BadLength}
 use Rattle.of10_wire.specs.Refusals.{refusal}
 use Rattle.of10_wire.specs.Layout.{Slot, number, Stand, Spells}
 use Rattle.of10_wire.specs.Headers.{is_kind, header_refusal}
+use Rattle.of10_wire.proofs.Tests.{passes}
 use Rattle.of10_msgs.specs.Messages.{frame, Opens}
-use Rattle.of10_msgs.specs.Refused.{is_built, allows_length, frame_refusal, or_else, early}
+use Rattle.of10_msgs.specs.Refused.{allows_length, frame_refusal, or_else, early}
 
--- A whole frame of a type that is read, whose layout allows its length.
+-- A whole frame of a type of OpenFlow 1.0, whose layout allows its length.
 pub record IsFrame (bytes : List ℕ) : Type 0 where
   pub long : 8 ≤ length bytes
   pub version : (not (eqb (number 1 0 bytes) 1) && not (eqb (number 1 1 bytes) 0)) ≡ false
   pub known : is_kind (number 1 1 bytes) ≡ true
   pub len : number 2 2 bytes ≡ length bytes
-  pub built : is_built (number 1 1 bytes) ≡ true
   pub allowed : allows_length (number 1 1 bytes) (length bytes) ≡ true
 
 -- ---- no refusal, test by test
-
-passes : (b : Bool) (e : WireRefusal) (rest : Option WireRefusal) → cond b (Some e) rest ≡ None → (b ≡ false) × (rest ≡ None)
-passes true e rest h = absurd cc
-passes false e rest h = (refl, h)
 
 both_none : (a b : Option WireRefusal) → or_else a b ≡ None → (a ≡ None) × (b ≡ None)
 both_none (Some e) b h = absurd cc
@@ -38,14 +34,12 @@ frame_of bytes h =
     let version = passes (not (eqb (number 1 0 bytes) 1) && not (eqb kind 0)) (refusal 0 BadVersion) _ parts.0 in
     let known = passes (not (is_kind kind)) (refusal 1 BadType) _ version.1 in
     let told = passes (not (eqb (number 2 2 bytes) len)) (refusal 2 BadLength) _ parts.1 in
-    let built = passes (not (is_built kind)) (refusal 1 NotYet) _ told.1 in
-    let allowed = passes (not (allows_length kind len)) (refusal 2 BadLength) None built.1 in
+    let allowed = passes (not (allows_length kind len)) (refusal 2 BadLength) None told.1 in
     record {
       long = ltb-false len 8 long.0;
       version = version.0;
       known = not-false (is_kind kind) known.0;
       len = eqb-true (number 2 2 bytes) len (not-false (eqb (number 2 2 bytes) len) told.0);
-      built = not-false (is_built kind) built.0;
       allowed = not-false (allows_length kind len) allowed.0;
     }
 
@@ -54,17 +48,13 @@ unfolding early header_refusal
 early_of bytes f =
     let told : eqb (number 2 2 bytes) (length bytes) ≡ true = eq-eqb (number 2 2 bytes) (length bytes) f.len in
     let short : ltb (number 2 2 bytes) 8 ≡ false = le-ltb (number 2 2 bytes) 8 (omega (arith, f.len, f.long)) in
-    rw (le-ltb (length bytes) 8 f.long, f.version, f.known, short, told, f.built, f.allowed) refl
+    rw (le-ltb (length bytes) 8 f.long, f.version, f.known, short, told, f.allowed) refl
 
 -- the length is one that the layout of the type allows
 pub allowed : (kind : ℕ) (bytes : List ℕ) → IsFrame bytes → number 1 1 bytes ≡ kind → allows_length kind (length bytes) ≡ true
 allowed kind bytes f is = rw (← is) f.allowed
 
 -- ---- types
-
--- a type that isn't another
-pub apart : (k m n : ℕ) → k ≡ m → k ≡ n → eqb m n ≡ false → ⊥
-apart k m n e f ne = let d : eqb m n ≡ true = eq-eqb m n (sym e ∙ f) in absurd cc
 
 -- a frame of another type than HELLO has version 1
 pub opens : (kind : ℕ) (bytes : List ℕ) → IsFrame bytes → number 1 1 bytes ≡ kind → eqb kind 0 ≡ false → Opens kind bytes
@@ -91,13 +81,12 @@ version_zero n = and_false (not (eqb n 1))
 
 -- a spelling of a frame is one, where its version, type and length may be so
 pub spelled_frame : (version kind xid : ℕ) (fields : List Slot) (bytes : List ℕ) → Spells (frame version kind xid fields) bytes → (not (eqb version 1) && not (eqb kind 0)) ≡ false
-    → is_kind kind ≡ true → is_built kind ≡ true → allows_length kind (length bytes) ≡ true → IsFrame bytes
+    → is_kind kind ≡ true → allows_length kind (length bytes) ≡ true → IsFrame bytes
 unfolding Stand
-spelled_frame version kind xid fields bytes h v known built allowed = record {
+spelled_frame version kind xid fields bytes h v known allowed = record {
   long = omega (arith, h.whole);
   version = rw (h.stand.0, h.stand.1.0) v;
   known = rw h.stand.1.0 known;
   len = omega (arith, h.whole, h.stand.1.1.0);
-  built = rw h.stand.1.0 built;
   allowed = rw h.stand.1.0 allowed;
 }

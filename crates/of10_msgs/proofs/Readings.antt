@@ -4,13 +4,13 @@ use Rattle.std.proofs.lemmas.Bool.{leb-true}
 use Rattle.std.specs.Prelude.{IfOk, IfErr, IfSome, MatchOption}
 use Rattle.of10_wire.specs.declared.refusal.WireRefusal.{WireRefusal}
 use Rattle.of10_wire.specs.declared.refusal.WireWhy.{WireWhy}
-use Rattle.of10_wire.specs.declared.refusal.WireWhy.TheVariants.{BadVersion, BadType, BadLength, NotYet}
+use Rattle.of10_wire.specs.declared.refusal.WireWhy.TheVariants.{BadVersion, BadType, BadLength}
 use Rattle.of10_wire.specs.Layout.{number}
 use Rattle.of10_wire.specs.Refusals.{refusal, Answers, out_of_memory}
 use Rattle.of10_wire.specs.Headers.{is_kind, header_refusal}
 use Rattle.of10_msgs.specs.declared.message.Message.{Message}
 use Rattle.of10_msgs.specs.Messages.{spells}
-use Rattle.of10_msgs.specs.Refused.{early, is_built, allows_length, or_else, frame_refusal, actions_len, Late, LatePacketOut, LateFlowMod, Refuses}
+use Rattle.of10_msgs.specs.Refused.{early, allows_length, or_else, frame_refusal, actions_len, Late, LatePacketOut, LateFlowMod, LateQueueReply, Refuses}
 use Rattle.of10_msgs.specs.Sending.{IsSendable}
 use Rattle.of10_msgs.specs.Readings.{Reading, Spelled, Refused, Reads, HasOneReading}
 use Rattle.of10_wire.specs.Layout.{part}
@@ -19,8 +19,14 @@ use Rattle.of10_wire.proofs.Standing.{length-part}
 use Rattle.of10_wire.proofs.Listed.{items-refused-once, items-refused-within}
 use Rattle.of10_wire.proofs.ActionLaws.{action_item}
 use Rattle.of10_msgs.proofs.Frames.{IsFrame, frame_of, allowed}
+use Rattle.of10_wire.proofs.Tests.{near_front}
+use Rattle.of10_stats.specs.Requests.{request_refusal}
+use Rattle.of10_stats.specs.Queues.{queue_slots, RefusesQueue}
+use Rattle.of10_stats.proofs.RequestLaws.{request-within}
+use Rattle.of10_stats.proofs.ReplyLaws.{reply-refused-once, reply-within}
+use Rattle.of10_stats.proofs.QueueLaws.{queue_item}
 use Rattle.of10_msgs.proofs.Spelled.{message-once}
-use Rattle.of10_msgs.proofs.Accepted.{not-refused, late_packet_out, late_flow_mod, sendable}
+use Rattle.of10_msgs.proofs.Accepted.{not-refused, late_packet_out, late_flow_mod, late_stats_request, late_stats_reply, late_queue_reply, sendable}
 use Rattle.of10_msgs.proofs.Found.{found}
 
 -- ---- one refusal
@@ -34,9 +40,15 @@ packet_out-once bytes d e (inr x) (inr y) = items-refused-once action_slots Refu
 flow_mod-once : (bytes : List ℕ) (d e : WireRefusal) → LateFlowMod bytes d → LateFlowMod bytes e → d ≡ e
 flow_mod-once bytes d e x y = items-refused-once action_slots RefusesAction action_item 72 (part (length bytes - 72) 72 bytes) d e x y
 
+request-refused-once : (bytes : List ℕ) (d e : WireRefusal) → request_refusal bytes ≡ Some d → request_refusal bytes ≡ Some e → d ≡ e
+request-refused-once bytes d e x y = let same : Some d ≡ Some e = sym x ∙ y in cc
+
 late-once : (bytes : List ℕ) (d e : WireRefusal) → Late bytes d → Late bytes e → d ≡ e
 late-once bytes d e (inl x) k = packet_out-once bytes d e x.1 (late_packet_out bytes e x.0 k)
-late-once bytes d e (inr x) k = flow_mod-once bytes d e x.1 (late_flow_mod bytes e x.0 k)
+late-once bytes d e (inr (inl x)) k = flow_mod-once bytes d e x.1 (late_flow_mod bytes e x.0 k)
+late-once bytes d e (inr (inr (inl x))) k = request-refused-once bytes d e x.1 (late_stats_request bytes e x.0 k)
+late-once bytes d e (inr (inr (inr (inl x)))) k = reply-refused-once bytes d e x.1 (late_stats_reply bytes e x.0 k)
+late-once bytes d e (inr (inr (inr (inr x)))) k = items-refused-once queue_slots RefusesQueue queue_item 16 (part (length bytes - 16) 16 bytes) d e x.1 (late_queue_reply bytes e x.0 k)
 
 refusal-once_by : (bytes : List ℕ) (first : Option WireRefusal) (d e : WireRefusal) → early bytes ≡ first → Refuses bytes d → Refuses bytes e → d ≡ e
 refusal-once_by bytes None d e is h k = late-once bytes d e (rw is at h) (rw is at k)
@@ -68,11 +80,6 @@ answer-only bytes (Err e) (inr refused) m h = absurd (not-refused m bytes e h re
 
 -- ---- where a refusal stands
 
--- a refusal at one of the first places, or what else there may be
-at_front : (b : Bool) (at : ℕ) (why : WireWhy) (rest : Option WireRefusal) → at ≤ 2 → IfSome rest (λ e. e.at ≤ 2) → IfSome (cond b (Some (refusal at why)) rest) (λ e. e.at ≤ 2)
-at_front true at why rest low h = low
-at_front false at why rest low h = h
-
 either_front : (a b : Option WireRefusal) → IfSome a (λ e. e.at ≤ 2) → IfSome b (λ e. e.at ≤ 2) → IfSome (or_else a b) (λ e. e.at ≤ 2)
 either_front (Some e) b h k = h
 either_front None b h k = k
@@ -82,23 +89,20 @@ unfolding header_refusal
 header-place bytes =
     let last = cond (ltb (number 2 2 bytes) 8) (Some (refusal 2 BadLength)) None in
     let next = cond (not (is_kind (number 1 1 bytes))) (Some (refusal 1 BadType)) last in
-    at_front (not (eqb (number 1 0 bytes) 1) && not (eqb (number 1 1 bytes) 0)) 0 BadVersion next (omega arith) (
-    at_front (not (is_kind (number 1 1 bytes))) 1 BadType last (omega arith) (at_front (ltb (number 2 2 bytes) 8) 2 BadLength None (omega arith) tt)
+    near_front 2 (not (eqb (number 1 0 bytes) 1) && not (eqb (number 1 1 bytes) 0)) (refusal 0 BadVersion) next (omega arith) (
+    near_front 2 (not (is_kind (number 1 1 bytes))) (refusal 1 BadType) last (omega arith) (near_front 2 (ltb (number 2 2 bytes) 8) (refusal 2 BadLength) None (omega arith) tt)
     )
 
 frame-place : (kind told len : ℕ) → IfSome (frame_refusal kind told len) (λ e. e.at ≤ 2)
 frame-place kind told len =
     let last = cond (not (allows_length kind len)) (Some (refusal 2 BadLength)) None in
-    let next = cond (not (is_built kind)) (Some (refusal 1 NotYet)) last in
-    at_front (not (eqb told len)) 2 BadLength next (omega arith) (
-    at_front (not (is_built kind)) 1 NotYet last (omega arith) (at_front (not (allows_length kind len)) 2 BadLength None (omega arith) tt)
-    )
+    near_front 2 (not (eqb told len)) (refusal 2 BadLength) last (omega arith) (near_front 2 (not (allows_length kind len)) (refusal 2 BadLength) None (omega arith) tt)
 
 early-place : (bytes : List ℕ) → IfSome (early bytes) (λ e. e.at ≤ 2)
 unfolding early
 early-place bytes =
     let behind = or_else (header_refusal bytes) (frame_refusal (number 1 1 bytes) (number 2 2 bytes) (length bytes)) in
-    at_front (ltb (length bytes) 8) 2 BadLength behind (omega arith) (
+    near_front 2 (ltb (length bytes) 8) (refusal 2 BadLength) behind (omega arith) (
     either_front (header_refusal bytes) (frame_refusal (number 1 1 bytes) (number 2 2 bytes) (length bytes)) (header-place bytes) (frame-place (number 1 1 bytes) (number 2 2 bytes) (length bytes))
     )
 
@@ -113,9 +117,17 @@ flow_mod-place bytes e long x =
     let near = items-refused-within action_slots RefusesAction action_item 72 (part (length bytes - 72) 72 bytes) e x in
     omega (arith, near, length-part (length bytes - 72) 72 bytes (omega (arith, long)), long)
 
+queue_reply-place : (bytes : List ℕ) (e : WireRefusal) → 16 ≤ length bytes → LateQueueReply bytes e → e.at ≤ length bytes
+queue_reply-place bytes e long x =
+    let near = items-refused-within queue_slots RefusesQueue queue_item 16 (part (length bytes - 16) 16 bytes) e x in
+    omega (arith, near, length-part (length bytes - 16) 16 bytes (omega (arith, long)), long)
+
 late-place : (bytes : List ℕ) (e : WireRefusal) → IsFrame bytes → Late bytes e → e.at ≤ length bytes
 late-place bytes e f (inl x) = packet_out-place bytes e (leb-true 16 (length bytes) (allowed 13 bytes f x.0)) x.1
-late-place bytes e f (inr x) = flow_mod-place bytes e (leb-true 72 (length bytes) (allowed 14 bytes f x.0)) x.1
+late-place bytes e f (inr (inl x)) = flow_mod-place bytes e (leb-true 72 (length bytes) (allowed 14 bytes f x.0)) x.1
+late-place bytes e f (inr (inr (inl x))) = omega (arith, request-within bytes e x.1, leb-true 12 (length bytes) (allowed 16 bytes f x.0))
+late-place bytes e f (inr (inr (inr (inl x)))) = reply-within bytes e (leb-true 12 (length bytes) (allowed 17 bytes f x.0)) x.1
+late-place bytes e f (inr (inr (inr (inr x)))) = queue_reply-place bytes e (leb-true 16 (length bytes) (allowed 21 bytes f x.0)) x.1
 
 refused-place_by : (bytes : List ℕ) (first : Option WireRefusal) (e : WireRefusal) → early bytes ≡ first → IfSome first (λ d. d.at ≤ 2) → MatchOption first (Late bytes e) (λ d. e ≡ d) → e.at ≤ max 2 (length bytes)
 refused-place_by bytes None e is low h = omega (arith, late-place bytes e (frame_of bytes is) h)

@@ -1,5 +1,5 @@
 -- At most one message is spelled.
-use Rattle.std.proofs.Common.{◌≡◌, ℕ, ◌+◌, List, [], ◌∷◌, length, refl, sym, ◌∙◌, arith}
+use Rattle.std.proofs.Common.{◌≡◌, ℕ, ◌+◌, List, [], ◌∷◌, ◌++◌, length, refl, sym, ◌∙◌, arith}
 use Rattle.std.specs.List.{flat_map}
 use Rattle.of10_wire.specs.declared.types.FlowMatch.{FlowMatch}
 use Rattle.of10_wire.specs.declared.types.PhyPort.{PhyPort}
@@ -8,13 +8,22 @@ use Rattle.of10_wire.specs.Layout.{Slot, Number, Pad, width, number, part, Stand
 use Rattle.of10_wire.specs.Parts.{match_slots, port_slots}
 use Rattle.of10_wire.specs.Actions.{action_slots}
 use Rattle.of10_wire.proofs.Standing.{Stand-front, Stand-back, width-append}
+use Rattle.of10_wire.proofs.Tests.{apart}
 use Rattle.of10_wire.proofs.Once.{items-once}
 use Rattle.of10_wire.proofs.PartLaws.{match-once, width-match, behind_match, port_fixed}
 use Rattle.of10_wire.proofs.ActionLaws.{action_part}
+use Rattle.of10_stats.specs.declared.request.StatsRequest as requested
+use Rattle.of10_stats.specs.declared.reply.StatsReply as replied
+use Rattle.of10_stats.specs.declared.queue.Queue.{Queue}
+use Rattle.of10_stats.specs.Requests.{IsRequest}
+use Rattle.of10_stats.specs.Replies.{IsReply}
+use Rattle.of10_stats.specs.Queues.{queue_slots}
+use Rattle.of10_stats.proofs.RequestLaws.{request-once}
+use Rattle.of10_stats.proofs.ReplyLaws.{reply-once}
+use Rattle.of10_stats.proofs.QueueLaws.{queue_item}
 use Rattle.of10_msgs.specs.declared.message.Message.{Message}
-use Rattle.of10_msgs.specs.declared.message.Message.TheVariants.{Hello, Error, EchoRequest, EchoReply, Vendor, FeaturesRequest, FeaturesReply, GetConfigRequest, GetConfigReply, SetConfig, PacketIn, FlowRemoved, PortStatus, PacketOut, FlowMod, PortMod, BarrierRequest, BarrierReply, QueueGetConfigRequest}
+use Rattle.of10_msgs.specs.declared.message.Message.TheVariants.{Hello, Error, EchoRequest, EchoReply, Vendor, FeaturesRequest, FeaturesReply, GetConfigRequest, GetConfigReply, SetConfig, PacketIn, FlowRemoved, PortStatus, PacketOut, FlowMod, PortMod, StatsRequest, StatsReply, BarrierRequest, BarrierReply, QueueGetConfigRequest, QueueGetConfigReply}
 use Rattle.of10_msgs.specs.Messages.{message_slots, spells, frame, rest, kind_of}
-use Rattle.of10_msgs.proofs.Frames.{apart}
 
 pub kind_stands : (m : Message) (bytes : List ℕ) → spells m bytes → number 1 1 bytes ≡ kind_of m
 unfolding Stand message_slots
@@ -28,6 +37,15 @@ behind_flow_removed cookie priority reason duration_sec duration_nsec idle_timeo
 abbrev pub behind_flow_mod : (cookie command idle_timeout hard_timeout priority buffer_id out_port flags : ℕ) (actions : List Action) → List Slot
 behind_flow_mod cookie command idle_timeout hard_timeout priority buffer_id out_port flags actions =
     Number 8 cookie ∷ Number 2 command ∷ Number 2 idle_timeout ∷ Number 2 hard_timeout ∷ Number 2 priority ∷ Number 4 buffer_id ∷ Number 2 out_port ∷ Number 2 flags ∷ flat_map action_slots actions
+
+-- the statistics in a STATS_REQUEST, and in a STATS_REPLY
+pub request_in : (xid flags : ℕ) (body : requested.StatsRequest) (bytes : List ℕ) → spells (StatsRequest xid flags body) bytes → IsRequest bytes body
+unfolding Stand message_slots
+request_in xid flags body bytes h = record { kind = h.stand.1.1.1.1.0; stand = h.stand.1.1.1.1.1.1; whole = omega (arith, h.whole) }
+
+pub reply_in : (xid flags : ℕ) (body : replied.StatsReply) (bytes : List ℕ) → spells (StatsReply xid flags body) bytes → IsReply bytes body
+unfolding Stand message_slots
+reply_in xid flags body bytes h = record { kind = h.stand.1.1.1.1.0; stand = h.stand.1.1.1.1.1.1; whole = omega (arith, h.whole) }
 
 -- a frame whose body is bytes
 body-once : (v kind x w y : ℕ) (b c : List ℕ) (bytes : List ℕ) → Spells (frame v kind x (rest b)) bytes → Spells (frame w kind y (rest c)) bytes → (v ≡ w) × (x ≡ y) × (b ≡ c)
@@ -144,6 +162,20 @@ port_mod-once : (a1 a2 : ℕ) (a3 : List ℕ) (a4 a5 a6 : ℕ) (b1 b2 : ℕ) (b3
 unfolding Stand message_slots
 port_mod-once a1 a2 a3 a4 a5 a6 b1 b2 b3 b4 b5 b6 bytes h k = cc
 
+stats_request-once : (a1 a2 : ℕ) (a3 : requested.StatsRequest) (b1 b2 : ℕ) (b3 : requested.StatsRequest) (bytes : List ℕ)
+    → spells (StatsRequest a1 a2 a3) bytes → spells (StatsRequest b1 b2 b3) bytes → StatsRequest a1 a2 a3 ≡ StatsRequest b1 b2 b3
+unfolding Stand message_slots
+stats_request-once a1 a2 a3 b1 b2 b3 bytes h k =
+    let same : a3 ≡ b3 = request-once a3 b3 bytes (request_in a1 a2 a3 bytes h) (request_in b1 b2 b3 bytes k) in
+    cc
+
+stats_reply-once : (a1 a2 : ℕ) (a3 : replied.StatsReply) (b1 b2 : ℕ) (b3 : replied.StatsReply) (bytes : List ℕ)
+    → spells (StatsReply a1 a2 a3) bytes → spells (StatsReply b1 b2 b3) bytes → StatsReply a1 a2 a3 ≡ StatsReply b1 b2 b3
+unfolding Stand message_slots
+stats_reply-once a1 a2 a3 b1 b2 b3 bytes h k =
+    let same : a3 ≡ b3 = reply-once a3 b3 bytes (reply_in a1 a2 a3 bytes h) (reply_in b1 b2 b3 bytes k) in
+    cc
+
 barrier_request-once : (a1 : ℕ) (b1 : ℕ) (bytes : List ℕ)
     → spells (BarrierRequest a1) bytes → spells (BarrierRequest b1) bytes → BarrierRequest a1 ≡ BarrierRequest b1
 unfolding Stand message_slots
@@ -158,6 +190,13 @@ queue_get_config_request-once : (a1 a2 : ℕ) (b1 b2 : ℕ) (bytes : List ℕ)
     → spells (QueueGetConfigRequest a1 a2) bytes → spells (QueueGetConfigRequest b1 b2) bytes → QueueGetConfigRequest a1 a2 ≡ QueueGetConfigRequest b1 b2
 unfolding Stand message_slots
 queue_get_config_request-once a1 a2 b1 b2 bytes h k = cc
+
+queue_get_config_reply-once : (a1 a2 : ℕ) (a3 : List Queue) (b1 b2 : ℕ) (b3 : List Queue) (bytes : List ℕ)
+    → spells (QueueGetConfigReply a1 a2 a3) bytes → spells (QueueGetConfigReply b1 b2 b3) bytes → QueueGetConfigReply a1 a2 a3 ≡ QueueGetConfigReply b1 b2 b3
+unfolding Stand message_slots
+queue_get_config_reply-once a1 a2 a3 b1 b2 b3 bytes h k =
+    let same : a3 ≡ b3 = items-once queue_slots queue_item.part 16 a3 b3 bytes h.stand.1.1.1.1.1 k.stand.1.1.1.1.1 (omega (arith, h.whole, k.whole)) in
+    cc
 
 pub message-once : (x y : Message) (bytes : List ℕ) → spells x bytes → spells y bytes → x ≡ y
 message-once (Hello a1 a2 a3) (Hello b1 b2 b3) bytes h k = hello-once a1 a2 a3 b1 b2 b3 bytes h k
@@ -192,9 +231,15 @@ message-once (FlowMod a1 a2 a3 a4 a5 a6 a7 a8 a9 a10 a11) (FlowMod b1 b2 b3 b4 b
 message-once (FlowMod a1 a2 a3 a4 a5 a6 a7 a8 a9 a10 a11) z bytes h k = absurd (apart (number 1 1 bytes) 14 (kind_of z) (kind_stands (FlowMod a1 a2 a3 a4 a5 a6 a7 a8 a9 a10 a11) bytes h) (kind_stands z bytes k) refl)
 message-once (PortMod a1 a2 a3 a4 a5 a6) (PortMod b1 b2 b3 b4 b5 b6) bytes h k = port_mod-once a1 a2 a3 a4 a5 a6 b1 b2 b3 b4 b5 b6 bytes h k
 message-once (PortMod a1 a2 a3 a4 a5 a6) z bytes h k = absurd (apart (number 1 1 bytes) 15 (kind_of z) (kind_stands (PortMod a1 a2 a3 a4 a5 a6) bytes h) (kind_stands z bytes k) refl)
+message-once (StatsRequest a1 a2 a3) (StatsRequest b1 b2 b3) bytes h k = stats_request-once a1 a2 a3 b1 b2 b3 bytes h k
+message-once (StatsRequest a1 a2 a3) z bytes h k = absurd (apart (number 1 1 bytes) 16 (kind_of z) (kind_stands (StatsRequest a1 a2 a3) bytes h) (kind_stands z bytes k) refl)
+message-once (StatsReply a1 a2 a3) (StatsReply b1 b2 b3) bytes h k = stats_reply-once a1 a2 a3 b1 b2 b3 bytes h k
+message-once (StatsReply a1 a2 a3) z bytes h k = absurd (apart (number 1 1 bytes) 17 (kind_of z) (kind_stands (StatsReply a1 a2 a3) bytes h) (kind_stands z bytes k) refl)
 message-once (BarrierRequest a1) (BarrierRequest b1) bytes h k = barrier_request-once a1 b1 bytes h k
 message-once (BarrierRequest a1) z bytes h k = absurd (apart (number 1 1 bytes) 18 (kind_of z) (kind_stands (BarrierRequest a1) bytes h) (kind_stands z bytes k) refl)
 message-once (BarrierReply a1) (BarrierReply b1) bytes h k = barrier_reply-once a1 b1 bytes h k
 message-once (BarrierReply a1) z bytes h k = absurd (apart (number 1 1 bytes) 19 (kind_of z) (kind_stands (BarrierReply a1) bytes h) (kind_stands z bytes k) refl)
 message-once (QueueGetConfigRequest a1 a2) (QueueGetConfigRequest b1 b2) bytes h k = queue_get_config_request-once a1 a2 b1 b2 bytes h k
 message-once (QueueGetConfigRequest a1 a2) z bytes h k = absurd (apart (number 1 1 bytes) 20 (kind_of z) (kind_stands (QueueGetConfigRequest a1 a2) bytes h) (kind_stands z bytes k) refl)
+message-once (QueueGetConfigReply a1 a2 a3) (QueueGetConfigReply b1 b2 b3) bytes h k = queue_get_config_reply-once a1 a2 a3 b1 b2 b3 bytes h k
+message-once (QueueGetConfigReply a1 a2 a3) z bytes h k = absurd (apart (number 1 1 bytes) 21 (kind_of z) (kind_stands (QueueGetConfigReply a1 a2 a3) bytes h) (kind_stands z bytes k) refl)

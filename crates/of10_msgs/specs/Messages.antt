@@ -4,8 +4,11 @@ use Rattle.std.specs.List.{flat_map}
 use Rattle.of10_wire.specs.Layout.{Slot, Number, Raw, Pad, Spells, appended, width, number}
 use Rattle.of10_wire.specs.Parts.{match_slots, port_slots}
 use Rattle.of10_wire.specs.Actions.{action_slots}
+use Rattle.of10_stats.specs.Requests.{request_kind, request_slots}
+use Rattle.of10_stats.specs.Replies.{reply_kind, reply_slots}
+use Rattle.of10_stats.specs.Queues.{queue_slots}
 use Rattle.of10_msgs.specs.declared.message.Message.{Message}
-use Rattle.of10_msgs.specs.declared.message.Message.TheVariants.{Hello, Error, EchoRequest, EchoReply, Vendor, FeaturesRequest, FeaturesReply, GetConfigRequest, GetConfigReply, SetConfig, PacketIn, FlowRemoved, PortStatus, PacketOut, FlowMod, PortMod, BarrierRequest, BarrierReply, QueueGetConfigRequest}
+use Rattle.of10_msgs.specs.declared.message.Message.TheVariants.{Hello, Error, EchoRequest, EchoReply, Vendor, FeaturesRequest, FeaturesReply, GetConfigRequest, GetConfigReply, SetConfig, PacketIn, FlowRemoved, PortStatus, PacketOut, FlowMod, PortMod, StatsRequest, StatsReply, BarrierRequest, BarrierReply, QueueGetConfigRequest, QueueGetConfigReply}
 
 -- the header, whose length counts the whole, and the fields behind it
 abbrev pub frame : (version kind xid : ℕ) → List Slot → List Slot
@@ -42,9 +45,12 @@ kind_of (PortStatus xid reason desc) = 12
 kind_of (PacketOut xid buffer_id in_port actions body) = 13
 kind_of (FlowMod xid flow cookie command idle_timeout hard_timeout priority buffer_id out_port flags actions) = 14
 kind_of (PortMod xid port_no hw_addr config mask advertise) = 15
+kind_of (StatsRequest xid flags body) = 16
+kind_of (StatsReply xid flags body) = 17
 kind_of (BarrierRequest xid) = 18
 kind_of (BarrierReply xid) = 19
 kind_of (QueueGetConfigRequest xid port) = 20
+kind_of (QueueGetConfigReply xid port queues) = 21
 
 abbrev pub xid_of : Message → ℕ
 xid_of (Hello xid version body) = xid
@@ -63,9 +69,12 @@ xid_of (PortStatus xid reason desc) = xid
 xid_of (PacketOut xid buffer_id in_port actions body) = xid
 xid_of (FlowMod xid flow cookie command idle_timeout hard_timeout priority buffer_id out_port flags actions) = xid
 xid_of (PortMod xid port_no hw_addr config mask advertise) = xid
+xid_of (StatsRequest xid flags body) = xid
+xid_of (StatsReply xid flags body) = xid
 xid_of (BarrierRequest xid) = xid
 xid_of (BarrierReply xid) = xid
 xid_of (QueueGetConfigRequest xid port) = xid
+xid_of (QueueGetConfigReply xid port queues) = xid
 
 -- what stands behind the header
 abbrev pub fields_of : Message → List Slot
@@ -85,9 +94,12 @@ fields_of (PortStatus xid reason desc) = Number 1 reason ∷ Pad 7 ∷ port_slot
 fields_of (PacketOut xid buffer_id in_port actions body) = Number 4 buffer_id ∷ Number 2 in_port ∷ Number 2 (width (flat_map action_slots actions)) ∷ (flat_map action_slots actions ++ rest body)
 fields_of (FlowMod xid flow cookie command idle_timeout hard_timeout priority buffer_id out_port flags actions) = match_slots flow ++ Number 8 cookie ∷ Number 2 command ∷ Number 2 idle_timeout ∷ Number 2 hard_timeout ∷ Number 2 priority ∷ Number 4 buffer_id ∷ Number 2 out_port ∷ Number 2 flags ∷ flat_map action_slots actions
 fields_of (PortMod xid port_no hw_addr config mask advertise) = Number 2 port_no ∷ Raw 6 hw_addr ∷ Number 4 config ∷ Number 4 mask ∷ Number 4 advertise ∷ Pad 4 ∷ []
+fields_of (StatsRequest xid flags body) = Number 2 (request_kind body) ∷ Number 2 flags ∷ request_slots body
+fields_of (StatsReply xid flags body) = Number 2 (reply_kind body) ∷ Number 2 flags ∷ reply_slots body
 fields_of (BarrierRequest xid) = []
 fields_of (BarrierReply xid) = []
 fields_of (QueueGetConfigRequest xid port) = Number 2 port ∷ Pad 2 ∷ []
+fields_of (QueueGetConfigReply xid port queues) = Number 2 port ∷ Pad 6 ∷ flat_map queue_slots queues
 
 unfoldable pub message_slots : Message → List Slot
 message_slots message = frame (version_of message) (kind_of message) (xid_of message) (fields_of message)

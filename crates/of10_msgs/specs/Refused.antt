@@ -1,15 +1,15 @@
 -- The first reason why bytes are no message.
 use Rattle.std.specs.Prelude.{ℕ, ◌≡◌, ◌+◌, ◌-◌, ◌<◌, ◌≤◌, ◌%◌, ◌⊎◌, List, length, Option, Some, None, MatchOption, Bool, true, not, ◌==◌, ◌||◌, ◌&&◌, nat_lt, nat_le, if◌then◌else◌}
 use Rattle.of10_wire.specs.declared.refusal.WireRefusal.{WireRefusal}
-use Rattle.of10_wire.specs.declared.refusal.WireWhy.TheVariants.{BadLength, NotYet}
+use Rattle.of10_wire.specs.declared.refusal.WireWhy.TheVariants.{BadLength}
 use Rattle.of10_wire.specs.Refusals.{refusal}
 use Rattle.of10_wire.specs.Layout.{number, part}
+use Rattle.of10_wire.specs.Lists.{IsRefusedIn}
 use Rattle.of10_wire.specs.Actions.{IsRefusedAction}
+use Rattle.of10_stats.specs.Requests.{request_refusal}
+use Rattle.of10_stats.specs.Replies.{RefusesReply}
+use Rattle.of10_stats.specs.Queues.{queue_slots, RefusesQueue}
 use Rattle.of10_wire.specs.Headers.{header_refusal}
-
--- the types whose messages are read so far
-abbrev pub is_built : ℕ → Bool
-is_built kind = not ((kind == 16) || (kind == 17) || (kind == 21))
 
 -- whether the layout of a type allows a frame of this length: fixed layouts one length, the others a least one, and
 -- a FEATURES_REPLY a whole number of ports
@@ -31,7 +31,6 @@ allows_length kind len =
 abbrev pub frame_refusal : (kind told len : ℕ) → Option WireRefusal
 frame_refusal kind told len =
     if not (told == len) then Some (refusal 2 BadLength)
-    else if not (is_built kind) then Some (refusal 1 NotYet)
     else if not (allows_length kind len) then Some (refusal 2 BadLength)
     else None
 
@@ -60,9 +59,17 @@ LatePacketOut bytes e =
 abbrev pub LateFlowMod : List ℕ → WireRefusal → Type 0
 LateFlowMod bytes e = IsRefusedAction 72 (part (length bytes - 72) 72 bytes) e
 
+-- the queues of a QUEUE_GET_CONFIG_REPLY are refused
+abbrev pub LateQueueReply : List ℕ → WireRefusal → Type 0
+LateQueueReply bytes e = IsRefusedIn queue_slots RefusesQueue 16 (part (length bytes - 16) 16 bytes) e
+
 -- what the body shows, from left to right
 abbrev pub Late : List ℕ → WireRefusal → Type 0
-Late bytes e = ((number 1 1 bytes ≡ 13) × LatePacketOut bytes e) ⊎ ((number 1 1 bytes ≡ 14) × LateFlowMod bytes e)
+Late bytes e =
+    ((number 1 1 bytes ≡ 13) × LatePacketOut bytes e)
+    ⊎ (((number 1 1 bytes ≡ 14) × LateFlowMod bytes e)
+    ⊎ (((number 1 1 bytes ≡ 16) × (request_refusal bytes ≡ Some e))
+    ⊎ (((number 1 1 bytes ≡ 17) × RefusesReply bytes e) ⊎ ((number 1 1 bytes ≡ 21) × LateQueueReply bytes e))))
 
 -- The first reason why the bytes are no message.
 abbrev pub Refuses : List ℕ → WireRefusal → Type 0

@@ -4,14 +4,15 @@ ghost use Rattle.std.specs.Prelude.{◌≡◌, ◌⊎◌, ◌≤◌, ◌<◌, �
 ghost use Rattle.of10_wire.specs.Refusals.{Answers, refusal, out_of_memory};
 ghost use Rattle.of10_msgs.specs.declared.message.Message.{Message};
 ghost use Rattle.of10_msgs.specs.Messages.{spells};
-ghost use Rattle.of10_msgs.specs.Refused.{early, is_built, allows_length, Refuses};
+ghost use Rattle.of10_msgs.specs.Refused.{early, allows_length, Refuses};
 ghost use Rattle.of10_msgs.specs.Sending.{IsSendable};
 
 use crate::message::Message;
 use crate::reading::{
     barrier_reply, barrier_request, echo_reply, echo_request, error, features_reply,
     features_request, flow_mod, flow_removed, get_config_reply, get_config_request, hello,
-    packet_in, packet_out, port_mod, port_status, queue_get_config_request, set_config, vendor,
+    packet_in, packet_out, port_mod, port_status, queue_get_config_reply, queue_get_config_request,
+    set_config, stats_reply, stats_request, vendor,
 };
 use of10_wire::{WireRefusal, WireWhy, header_refusal, u8_at, u16_at};
 use std::alloc::Global;
@@ -20,13 +21,6 @@ fn refusal(at: usize, why: WireWhy) -> Option<WireRefusal>
     ensures { result ≡ Some (refusal at why) }
 {
     Some(WireRefusal { at, why })
-}
-
-/// Whether messages of this type are read so far.
-fn is_built(kind: u8) -> bool
-    ensures { result ≡ is_built kind }
-{
-    !matches!(kind, 16 | 17 | 21)
 }
 
 /// Whether a frame of this type may have this length.
@@ -64,9 +58,6 @@ fn early_refusal(bytes: &[u8]) -> Option<WireRefusal>
         return refusal(2, WireWhy::BadLength);
     }
     let kind = u8_at(bytes, 1);
-    if !is_built(kind) {
-        return refusal(1, WireWhy::NotYet);
-    }
     if !allows_length(kind, bytes.len()) {
         return refusal(2, WireWhy::BadLength);
     }
@@ -98,9 +89,12 @@ fn read(alloc: Global, bytes: &[u8]) -> Result<Message, WireRefusal>
         13 => packet_out(alloc, bytes),
         14 => flow_mod(alloc, bytes),
         15 => Ok(port_mod(bytes)),
+        16 => stats_request(alloc, bytes),
+        17 => stats_reply(alloc, bytes),
         18 => Ok(barrier_request(bytes)),
         19 => Ok(barrier_reply(bytes)),
-        _ => Ok(queue_get_config_request(bytes)),
+        20 => Ok(queue_get_config_request(bytes)),
+        _ => queue_get_config_reply(alloc, bytes),
     }
 }
 

@@ -14,4 +14,6 @@ pub use message::Message;
 pub use writing::{encode, is_sendable};
 
 #[cfg(test)]
+mod stats_tests;
+#[cfg(test)]
 mod tests;

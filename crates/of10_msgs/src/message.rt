@@ -1,5 +1,6 @@
 //! Messages.
 
+use of10_stats::{Queues, StatsReply, StatsRequest};
 use of10_wire::{Actions, Body, FlowMatch, PhyPort, Ports};
 
 /// A message of OpenFlow 1.0 (OpenFlow Switch Specification 1.0.0, section 5). Pads, lengths and the numbers that
@@ -124,6 +125,18 @@ pub enum Message {
         mask: u32,
         advertise: u32,
     },
+    /// Asks a switch for statistics (section 5.3.5).
+    StatsRequest {
+        xid: u32,
+        flags: u16,
+        body: StatsRequest,
+    },
+    /// The statistics of a switch, or a part of them (section 5.3.5).
+    StatsReply {
+        xid: u32,
+        flags: u16,
+        body: StatsReply,
+    },
     /// Asks a switch to finish what it was sent before (section 5.3.7).
     BarrierRequest {
         xid: u32,
@@ -136,5 +149,11 @@ pub enum Message {
     QueueGetConfigRequest {
         xid: u32,
         port: u16,
+    },
+    /// The queues of a port (section 5.3.4).
+    QueueGetConfigReply {
+        xid: u32,
+        port: u16,
+        queues: Queues,
     },
 }

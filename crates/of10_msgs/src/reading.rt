@@ -1,12 +1,15 @@
 //! Whole frames of one type, read.
 
-ghost use Rattle.std.specs.Prelude.{◌≡◌, ◌+◌, ◌-◌, ◌≤◌, ◌<◌, ◌^◌, ◌%◌, length, IfOk};
+ghost use Rattle.std.specs.Prelude.{◌≡◌, ◌+◌, ◌-◌, ◌≤◌, ◌<◌, ◌^◌, ◌%◌, length, Some, IfOk};
 ghost use Rattle.of10_wire.specs.Layout.{number};
 ghost use Rattle.of10_wire.specs.Refusals.{Answers};
+ghost use Rattle.of10_stats.specs.Requests.{request_refusal};
+ghost use Rattle.of10_stats.specs.Replies.{RefusesReply};
 ghost use Rattle.of10_msgs.specs.Messages.{spells, Opens};
-ghost use Rattle.of10_msgs.specs.Refused.{LatePacketOut, LateFlowMod};
+ghost use Rattle.of10_msgs.specs.Refused.{LatePacketOut, LateFlowMod, LateQueueReply};
 
 use crate::message::Message;
+use of10_stats::{read_reply, read_request};
 use of10_wire::{
     WireRefusal, WireWhy, array_at, body_at, fixed_at, fixed_from, items_at, u8_at, u16_at, u32_at,
     u64_at,
@@ -263,6 +266,34 @@ pub fn port_mod(bytes: &[u8]) -> Message
 }
 
 #[tactic(auto, unfolding(of10_wire::specs::Layout::Stand, crate::specs::Messages::message_slots))]
+pub fn stats_request(alloc: Global, bytes: &[u8]) -> Result<Message, WireRefusal>
+    requires opens { Opens 16 bytes.now }
+    requires least { 12 ≤ length bytes.now }
+    ensures { Answers result (λ m. spells m bytes.now) (λ e. request_refusal bytes.now ≡ Some e) }
+{
+    let body = read_request(alloc, bytes)?;
+    Ok(Message::StatsRequest {
+        xid: u32_at(bytes, 4),
+        flags: u16_at(bytes, 10),
+        body,
+    })
+}
+
+#[tactic(auto, unfolding(of10_wire::specs::Layout::Stand, crate::specs::Messages::message_slots))]
+pub fn stats_reply(alloc: Global, bytes: &[u8]) -> Result<Message, WireRefusal>
+    requires opens { Opens 17 bytes.now }
+    requires least { 12 ≤ length bytes.now }
+    ensures { Answers result (λ m. spells m bytes.now) (RefusesReply bytes.now) }
+{
+    let body = read_reply(alloc, bytes)?;
+    Ok(Message::StatsReply {
+        xid: u32_at(bytes, 4),
+        flags: u16_at(bytes, 10),
+        body,
+    })
+}
+
+#[tactic(auto, unfolding(of10_wire::specs::Layout::Stand, crate::specs::Messages::message_slots))]
 pub fn barrier_request(bytes: &[u8]) -> Message
     requires opens { Opens 18 bytes.now }
     requires len { length bytes.now ≡ 8 }
@@ -294,4 +325,18 @@ pub fn queue_get_config_request(bytes: &[u8]) -> Message
         xid: u32_at(bytes, 4),
         port: u16_at(bytes, 8),
     }
+}
+
+#[tactic(auto, unfolding(of10_wire::specs::Layout::Stand, crate::specs::Messages::message_slots))]
+pub fn queue_get_config_reply(alloc: Global, bytes: &[u8]) -> Result<Message, WireRefusal>
+    requires opens { Opens 21 bytes.now }
+    requires least { 16 ≤ length bytes.now }
+    ensures { Answers result (λ m. spells m bytes.now) (LateQueueReply bytes.now) }
+{
+    let queues = items_at(alloc, bytes, 16, bytes.len(), 0)?;
+    Ok(Message::QueueGetConfigReply {
+        xid: u32_at(bytes, 4),
+        port: u16_at(bytes, 8),
+        queues,
+    })
 }

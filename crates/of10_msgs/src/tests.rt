@@ -337,8 +337,8 @@ fn each_rule_refuses_at_its_place(rt: HostRuntime) {
         (&[1, 0, 0, 7, 0, 0, 0, 1], 2, WireWhy::BadLength),
         (&[1, 2, 0, 9, 0, 0, 0, 1], 2, WireWhy::BadLength),
         (&[1, 2, 8, 0, 0, 0, 0, 1], 2, WireWhy::BadLength),
-        (&[1, 16, 0, 8, 0, 0, 0, 1], 1, WireWhy::NotYet),
-        (&[1, 16, 0, 9, 0, 0, 0, 1], 2, WireWhy::BadLength),
+        (&[1, 16, 0, 8, 0, 0, 0, 1], 2, WireWhy::BadLength),
+        (&[1, 21, 0, 15, 0, 0, 0, 1], 2, WireWhy::BadLength),
         (
             &[
                 1, 13, 0, 28, 0, 0, 0, 1, 255, 255, 255, 255, 255, 255, 0, 12, 0, 0, 0, 12, 0, 1,

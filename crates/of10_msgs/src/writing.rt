@@ -46,9 +46,12 @@ fn kind(message: &Message) -> u8
         Message::PacketOut { .. } => 13,
         Message::FlowMod { .. } => 14,
         Message::PortMod { .. } => 15,
+        Message::StatsRequest { .. } => 16,
+        Message::StatsReply { .. } => 17,
         Message::BarrierRequest { .. } => 18,
         Message::BarrierReply { .. } => 19,
         Message::QueueGetConfigRequest { .. } => 20,
+        Message::QueueGetConfigReply { .. } => 21,
     }
 }
 
@@ -72,9 +75,12 @@ fn xid(message: &Message) -> u32
         | Message::PacketOut { xid, .. }
         | Message::FlowMod { xid, .. }
         | Message::PortMod { xid, .. }
+        | Message::StatsRequest { xid, .. }
+        | Message::StatsReply { xid, .. }
         | Message::BarrierRequest { xid }
         | Message::BarrierReply { xid }
-        | Message::QueueGetConfigRequest { xid, .. } => *xid,
+        | Message::QueueGetConfigRequest { xid, .. }
+        | Message::QueueGetConfigReply { xid, .. } => *xid,
     }
 }
 
@@ -259,11 +265,26 @@ fn put_fields(out: &mut Vec<u8>, message: &Message)
             put_u32(out, *advertise);
             put_pad::<4>(out);
         }
+        Message::StatsRequest { flags, body, .. } => {
+            put_u16(out, body.kind());
+            put_u16(out, *flags);
+            body.put(out);
+        }
+        Message::StatsReply { flags, body, .. } => {
+            put_u16(out, body.kind());
+            put_u16(out, *flags);
+            body.put(out);
+        }
         Message::BarrierRequest { .. } => {}
         Message::BarrierReply { .. } => {}
         Message::QueueGetConfigRequest { port, .. } => {
             put_u16(out, *port);
             put_pad::<2>(out);
+        }
+        Message::QueueGetConfigReply { port, queues, .. } => {
+            put_u16(out, *port);
+            put_pad::<6>(out);
+            put_all(out, queues.as_slice());
         }
     }
 }
@@ -305,9 +326,12 @@ fn message_len(message: &Message) -> usize
         }
         Message::FlowMod { actions, .. } => 72 + len_all(actions.as_slice()),
         Message::PortMod { .. } => 32,
+        Message::StatsRequest { body, .. } => 12 + body.len(),
+        Message::StatsReply { body, .. } => 12 + body.len(),
         Message::BarrierRequest { .. } => 8,
         Message::BarrierReply { .. } => 8,
         Message::QueueGetConfigRequest { .. } => 12,
+        Message::QueueGetConfigReply { queues, .. } => 16 + len_all(queues.as_slice()),
     };
     len.min(65536)
 }
@@ -319,12 +343,14 @@ fn has_proper_parts(message: &Message) -> bool
     match message {
         Message::PacketOut { actions, .. } => are_proper(actions.as_slice()),
         Message::FlowMod { actions, .. } => are_proper(actions.as_slice()),
+        Message::StatsReply { body, .. } => body.is_proper(),
+        Message::QueueGetConfigReply { queues, .. } => are_proper(queues.as_slice()),
         _ => true,
     }
 }
 
-/// Whether the message has a frame: whether it takes at most 65,535 bytes, and the body of each vendor action is a
-/// multiple of 8 bytes.
+/// Whether the message has a frame: whether it takes at most 65,535 bytes, the body of each vendor action is a multiple
+/// of 8 bytes, and no queue property `Other` has kind 1.
 pub fn is_sendable(message: &Message) -> bool
     ensures { IsTrue result ↔ IsSendable message.now }
 {

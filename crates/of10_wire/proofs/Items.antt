@@ -72,6 +72,11 @@ first-stands item i x xs bytes h = let k = rw flat_map-cons at h in Stand-front 
 pub others-stand : {X : Type 0} (item : X → List Slot) (i : ℕ) (x : X) (xs : List X) (bytes : List ℕ) → Stand i (flat_map item (x ∷ xs)) bytes → Stand (i + width (item x)) (flat_map item xs) bytes
 others-stand item i x xs bytes h = let k = rw flat_map-cons at h in Stand-back i (item x) (flat_map item xs) bytes k
 
+-- parts of which nothing is asked
+pub all_free : {X : Type 0} (xs : List X) → AllByRecursion (λ (x : X). Unit {0}) xs
+all_free {X = X} [] = tt
+all_free {X = X} (x ∷ xs) = (tt, all_free xs)
+
 -- what holds of each part that stands holds of all
 pub items-proper : {X : Type 0} (item : X → List Slot) (P : X → Type 0) (each : (i : ℕ) (x : X) (bytes : List ℕ) → Stand i (item x) bytes → P x) (i : ℕ) (xs : List X) (bytes : List ℕ)
     → Stand i (flat_map item xs) bytes → AllByRecursion P xs

@@ -1,7 +1,9 @@
 pub mod Standing
+pub mod Tests
 pub mod Items
 pub mod Once
 pub mod Listed
 pub mod Widths
+pub mod Nested
 pub mod PartLaws
 pub mod ActionLaws

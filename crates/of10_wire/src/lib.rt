@@ -26,7 +26,7 @@ pub use read::{array_at, body_at, rest_from, u8_at, u16_at, u32_at, u64_at};
 pub use refusal::{WireRefusal, WireWhy};
 pub use rules::header_refusal;
 pub use types::{FlowMatch, Header, PhyPort, Ports};
-pub use write::{put_bytes, put_pad, put_u8, put_u16, put_u32, put_u64};
+pub use write::{put_bytes, put_other_u16, put_pad, put_u8, put_u16, put_u32, put_u64};
 
 #[cfg(test)]
 mod tests;

@@ -23,8 +23,6 @@ pub enum WireWhy {
     BadStat,
     /// No queue, or no property of one, begins here.
     BadProperty,
-    /// A type of OpenFlow 1.0 that isn't read yet.
-    NotYet,
 }
 
 /// Where bytes break a rule, counted from their first, and which.

@@ -1,8 +1,8 @@
 //! Numbers and bytes at the end of a vector that has room for them. Whoever writes makes room first, once, so
 //! that nothing here can fail.
 
-ghost use Rattle.std.specs.Prelude.{◌+◌, ◌≤◌, ◌∷◌, [], length, vec_len, vec_capacity};
-ghost use Rattle.of10_wire.specs.Layout.{Number, Raw, Pad};
+ghost use Rattle.std.specs.Prelude.{◌≢◌, ◌+◌, ◌≤◌, ◌∷◌, [], length, vec_len, vec_capacity};
+ghost use Rattle.of10_wire.specs.Layout.{Number, Except, Raw, Pad};
 ghost use Rattle.of10_wire.specs.Writing.{Writes};
 
 /// The bytes, at the end.
@@ -29,6 +29,15 @@ pub fn put_u16(out: &mut Vec<u8>, x: u16)
     ensures { Writes out.old out.new (Number 2 x ∷ []) }
 {
     put_bytes(out, &x.to_be_bytes());
+}
+
+/// A number that isn't `other`, in 2 bytes, the highest first.
+pub fn put_other_u16(out: &mut Vec<u8>, other: u16, x: u16)
+    requires room { vec_len out.old + 2 ≤ vec_capacity out.old }
+    requires apart { x ≢ other }
+    ensures { Writes out.old out.new (Except 2 other x ∷ []) }
+{
+    put_u16(out, x);
 }
 
 /// The number in 4 bytes, the highest first.
