@@ -1,4 +1,4 @@
--- Texts of networks: the machine over their lines, and how a kase is spelled.
+-- Texts of networks: the machine over their lines, and how a case is spelled.
 use Rattle.std.specs.Prelude.{ℕ, Bool, true, false, if◌then◌else◌, List, [], ◌∷◌, ◌++◌, map, Option, Some, None, Result, Ok, Err, slice_get, codes, decimal}
 use Rattle.std.specs.List.{flat_map}
 use Rattle.std.specs.Str.{bytes_eq}
@@ -27,7 +27,7 @@ use Rattle.net_text.specs.Lines.{◌>>=◌, or_why, header_of, behind, sort_of, 
 
 -- ---- the machine
 
--- the kase of `end`, behind that word: each constant has a value
+-- the case of `end`, behind that word: each constant has a value
 unfoldable pub end_of : Open → Option (List Row) → Packet → List (List ℕ) → Result Place Why
 end_of draft state packet ws = do
   alone ← or_why (ended ws) why.Shape
@@ -117,14 +117,14 @@ name_in (Some r) = r.name
 abbrev pub name_of : Parts → ℕ → List ℕ
 name_of P r = name_in (slice_get P.relations r)
 
+abbrev pub tuple_words : Parts → Pred → List ℕ → List (List ℕ)
+tuple_words P (Stored r) cells = codes "t" ∷ name_of P r.0 ∷ map decimal cells
+tuple_words P Ft cells = codes "ft" ∷ map decimal cells
+tuple_words P Sent cells = codes "sent" ∷ map decimal cells
+tuple_words P RcvThis cells = codes "rcv_this" ∷ map decimal cells
+
 abbrev pub row_words : Parts → Row → List (List ℕ)
-row_words P row = words_by row.pred
-  where
-    words_by : Pred → List (List ℕ)
-    words_by (Stored r) = codes "t" ∷ name_of P r.0 ∷ map decimal row.cells
-    words_by Ft = codes "ft" ∷ map decimal row.cells
-    words_by Sent = codes "sent" ∷ map decimal row.cells
-    words_by RcvThis = codes "rcv_this" ∷ map decimal row.cells
+row_words P row = tuple_words P row.pred row.cells
 
 abbrev pub constant_lines : List Constant → List ℕ → List (List (List ℕ))
 constant_lines [] ms = []
@@ -145,11 +145,18 @@ header_words = codes "vericon-net" ∷ codes "1" ∷ []
 abbrev pub end_words : List (List ℕ)
 end_words = codes "end" ∷ []
 
--- the words of each line of a kase
+-- the words of the header and of the lines of the sorts
+abbrev pub head_lines : Network → List (List (List ℕ))
+head_lines N = header_words ∷ (codes "sw" ∷ map decimal N.switches) ∷ (codes "ho" ∷ map decimal N.hosts) ∷ (codes "pr" ∷ map decimal N.ports) ∷ []
+
+-- .. and of the lines behind them
+abbrev pub part_lines : Parts → Case → List (List (List ℕ))
+part_lines P kase =
+    constant_lines P.constants kase.network.constants ++ (map (row_words P) (as_stored kase.network.rows) ++ (state_lines P kase.state ++ (packet_lines kase.packet ++ end_words ∷ [])))
+
+-- the words of each line of a case
 abbrev pub case_lines : Parts → Case → List (List (List ℕ))
-case_lines P kase =
-    header_words ∷ (codes "sw" ∷ map decimal kase.network.switches) ∷ (codes "ho" ∷ map decimal kase.network.hosts) ∷ (codes "pr" ∷ map decimal kase.network.ports)
-    ∷ (constant_lines P.constants kase.network.constants ++ (map (row_words P) (as_stored kase.network.rows) ++ (state_lines P kase.state ++ (packet_lines kase.packet ++ end_words ∷ []))))
+case_lines P kase = head_lines kase.network ++ part_lines P kase
 
 abbrev pub net_text : Parts → Case → List ℕ
 net_text P kase = flat_map line_text (case_lines P kase)

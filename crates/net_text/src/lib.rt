@@ -6,8 +6,10 @@
 
 mod line;
 mod place;
+mod print;
 mod read;
 mod refusal;
 
+pub use print::{Text, print_net};
 pub use read::read_net;
 pub use refusal::{NetTextRefusal, Why};

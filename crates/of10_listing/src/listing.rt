@@ -1,6 +1,7 @@
 //! The listing of a stream.
 
-ghost use Rattle.std.specs.Prelude.{◌≡◌, IfOk};
+ghost use Rattle.std.specs.Prelude.{ℕ, List, ◌≡◌, IfOk};
+ghost use Rattle.of10_stream.specs.Fronts.{IsFront};
 ghost use Rattle.of10_listing.specs.Listings.{IsListing, IsFirst, is_whole};
 
 use crate::lines::{Told, put_message_line, put_tail_line};
@@ -17,14 +18,22 @@ pub struct Listing {
     pub is_whole: bool,
 }
 
+/// How many bytes the first message's frame has, or the tail.
+fn length_of(front: &Front) -> Result<usize, Tail>
+    ensures { (bytes : List ℕ) → IsFront bytes front.now → IsFirst bytes result }
+{
+    match front {
+        Front::Message(_, length) => Ok(*length),
+        Front::Tail(tail) => Err(*tail),
+    }
+}
+
 /// How many bytes the first message's frame has, or the tail that all bytes are.
 fn first_length(alloc: Global, bytes: &[u8]) -> Result<Result<usize, Tail>, AllocError>
     ensures { IfOk result (IsFirst bytes.now) }
 {
-    match read_front(alloc, bytes)? {
-        Front::Message(_, length) => Ok(Ok(length)),
-        Front::Tail(tail) => Ok(Err(tail)),
-    }
+    let front = read_front(alloc, bytes)?;
+    Ok(length_of(&front))
 }
 
 /// Whether nothing is left.
