@@ -9,4 +9,4 @@ use Rattle.vericon_app.proofs.check.check_program.Goals as goal
 pub returns-then-is_first_form : goal.returns-then-is_first_form
 returns-then-is_first_form c =
     let form : IsFirstForm c.parts-parts.result.now = search rules in
-    if_ok c.check_first_form.result _ _ (λ outcome out. subst (λ (P : Parts). ProgramOutput c.args.name.now P outcome.text.items (code_of outcome.status)) c.parts-parts.ensures (has_the_form form out)) c.check_first_form.ensures
+    if_ok c.check_first_form.result _ _ (λ outcome out. subst (λ (P : Parts). ProgramOutput c.args.name.now P outcome.text.items (code_of outcome.status)) c.parts-parts.ensures.value (has_the_form form out)) c.check_first_form.ensures
