@@ -6,17 +6,22 @@ use Rattle.csdn_text.proofs.Whole.{reads_one}
 use Rattle.csdn_types.specs.declared.refusal.SortRefusal.{SortRefusal}
 use Rattle.csdn_types.specs.Resolved.{broken_rules, parts_of}
 use Rattle.truth_table.specs.FirstForm.{IsFirstForm}
-use Rattle.vericon_edge.specs.Told.{Told, holds, MayHold, MayBeMissing, MayBeLonger}
+use Rattle.vericon_edge.specs.Told.{Told, untold, absent, holds, MayHold, MayBeMissing, MayBeLonger}
+use Rattle.vericon_app.specs.declared.source.FileKind.{FileKind}
+use Rattle.vericon_app.specs.declared.source.FileKind.TheVariants.{Program, Frames, Logs}
 use Rattle.vericon_app.specs.declared.program.Why.{Why}
-use Rattle.vericon_app.specs.Words.{Form}
-use Rattle.vericon_app.specs.Inputs.{Inputs, was_read, was_refused, was_missing, was_longer, had_failed}
+use Rattle.vericon_app.specs.Words.{Form, usage, check, show, frames, clauses}
+use Rattle.vericon_app.specs.Inputs.{Inputs, WithFile, was_read, was_refused, was_missing, was_longer, had_failed}
 use Rattle.vericon_app.specs.Programs.{Spells, IsNoProgram, has_no_reading, breaks_a_rule}
 use Rattle.vericon_app.specs.Small.{IsSmall}
 use Rattle.vericon_app.specs.Check.{VerdictOutput, is_inductive, is_false_at_start, is_false_after, ProgramOutput, has_the_form, has_not_the_form, TextOutput, is_small, is_large, BytesOutput, is_program, is_no_program, CheckOutput}
-use Rattle.vericon_app.specs.Frames.{ListingOutput, FramesOutput, IsUndisturbedListing, IsListed, is_listed, is_longer}
+use Rattle.vericon_app.specs.Show.{PrintedOutput}
+use Rattle.vericon_app.specs.Frames.{ListingOutput}
+use Rattle.vericon_app.specs.Clauses.{BlocksOutput}
 use Rattle.vericon_app.specs.Output.{Output}
 use Rattle.vericon_app.specs.Left.{HasLeft, whole, no_memory, cut, cut_memory}
-use Rattle.vericon_app.specs.Decided.{IsUndisturbed, IsDecided, is_yes, is_counterexample, is_not_yet, spells_none, is_too_long}
+use Rattle.vericon_app.specs.Quiet.{IsUndisturbed, calm, Answers, answers, wants_memory}
+use Rattle.vericon_app.specs.Decided.{IsDecided, is_yes, is_counterexample, is_not_yet, spells_none, is_too_long}
 
 -- bytes spell at most one program
 pub spelled_once : (bytes : List ℕ) (P Q : Parts) → Spells bytes P → Spells bytes Q → P ≡ Q
@@ -62,33 +67,42 @@ file_decided given name bytes text status told steady counted (was_refused (was_
     is_too_long (subst (λ (t : Told). MayBeLonger t 65536) told may) status_is
 file_decided given name bytes text status told steady counted (was_refused (had_failed rose text_is status_is)) = absurd (omega arith)
 
--- an undisturbed call decides by the bytes, or memory was short
-pub decided : (form : Form) (given : Inputs) (old new : Option (List ℕ)) (before after status : ℕ) (bytes : List ℕ) → IsUndisturbed form given before after bytes → HasLeft (Output form given) old new before after status
-    → IsDecided bytes status ⊎ (status ≡ 7)
-decided form given old new before after status bytes quiet (whole text out grown steady) =
-    let here : CheckOutput given quiet.name text status = subst (λ (f : Form). Output f given text status) quiet.asked out in
-    inl (file_decided given quiet.name bytes text status quiet.told quiet.no_read_fault quiet.reads_counted here)
-decided form given old new before after status bytes quiet (no_memory is grown steady) = inr is
-decided form given old new before after status bytes quiet (cut text other out is grown rose) = absurd (omega (arith, rose, quiet.no_write_fault, quiet.writes_counted))
-decided form given old new before after status bytes quiet (cut_memory is grown rose) = absurd (omega (arith, rose, quiet.no_write_fault, quiet.writes_counted))
+-- an undisturbed check decides by the bytes, or memory was short
+pub decided : (form : Form) (given : Inputs) (old new : Option (List ℕ)) (before after status : ℕ) (name bytes : List ℕ) → form ≡ check name → given.told name ≡ holds bytes → IsUndisturbed given before after
+    → HasLeft (Output form given) old new before after status → IsDecided bytes status ⊎ (status ≡ 7)
+decided form given old new before after status name bytes asked told quiet (whole text out grown steady) =
+    inl (file_decided given name bytes text status told quiet.no_read_fault quiet.reads_counted (subst (λ (f : Form). Output f given text status) asked out))
+decided form given old new before after status name bytes asked told quiet (no_memory is grown steady) = inr is
+decided form given old new before after status name bytes asked told quiet (cut text other out is grown rose) = absurd (omega (arith, rose, quiet.no_write_fault, quiet.writes_counted))
+decided form given old new before after status name bytes asked told quiet (cut_memory is grown rose) = absurd (omega (arith, rose, quiet.no_write_fault, quiet.writes_counted))
 
-listed_file : (given : Inputs) (name bytes text : List ℕ) (status : ℕ) → given.told name ≡ holds bytes → given.after ≡ given.before → given.before < 18446744073709551615
-    → FramesOutput given name text status → IsListed bytes status
-listed_file given name bytes text status told steady counted (was_read found may within out) =
-    let is : found ≡ bytes = subst (λ (t : Told). MayHold t found) told may in
-    is_listed text (subst (λ (xs : List ℕ). ListingOutput xs text status) is out)
-listed_file given name bytes text status told steady counted (was_refused (was_missing may text_is status_is)) =
-    absurd (subst (λ (t : Told). MayBeMissing t given.before given.after) told may)
-listed_file given name bytes text status told steady counted (was_refused (was_longer may text_is status_is)) =
-    is_longer (subst (λ (t : Told). MayBeLonger t 16777216) told may) status_is
-listed_file given name bytes text status told steady counted (was_refused (had_failed rose text_is status_is)) = absurd (omega arith)
+-- ---- undisturbed calls
 
--- an undisturbed listing is of the bytes, or memory was short
-pub listed : (form : Form) (given : Inputs) (old new : Option (List ℕ)) (before after status : ℕ) (bytes : List ℕ) → IsUndisturbedListing form given before after bytes
-    → HasLeft (Output form given) old new before after status → IsListed bytes status ⊎ (status ≡ 7)
-listed form given old new before after status bytes quiet (whole text out grown steady) =
-    let here : FramesOutput given quiet.name text status = subst (λ (f : Form). Output f given text status) quiet.asked out in
-    inl (listed_file given quiet.name bytes text status quiet.told quiet.no_read_fault quiet.reads_counted here)
-listed form given old new before after status bytes quiet (no_memory is grown steady) = inr is
-listed form given old new before after status bytes quiet (cut text other out is grown rose) = absurd (omega (arith, rose, quiet.no_write_fault, quiet.writes_counted))
-listed form given old new before after status bytes quiet (cut_memory is grown rose) = absurd (omega (arith, rose, quiet.no_write_fault, quiet.writes_counted))
+missing_calmed : (told : Told) (before after : ℕ) → after ≡ before → before < 18446744073709551615 → MayBeMissing told before after → MayBeMissing told 0 0
+missing_calmed untold before after steady counted may = absurd (omega (arith, may))
+missing_calmed absent before after steady counted may = tt
+missing_calmed (holds held) before after steady counted may = may
+
+-- what no fault disturbed has the output of calm files
+file_calmed : (given : Inputs) (kind : FileKind) (name : List ℕ) (next next' : List ℕ → List ℕ → ℕ → Type 0) (text : List ℕ) (status : ℕ) → given.after ≡ given.before → given.before < 18446744073709551615
+    → ((bytes : List ℕ) → next bytes text status → next' bytes text status) → WithFile given kind name next text status → WithFile (calm given.told) kind name next' text status
+file_calmed given kind name next next' text status steady counted to (was_read bytes may within out) = was_read bytes may within (to bytes out)
+file_calmed given kind name next next' text status steady counted to (was_refused (was_missing may text_is status_is)) =
+    was_refused (was_missing (missing_calmed (given.told name) given.before given.after steady counted may) text_is status_is)
+file_calmed given kind name next next' text status steady counted to (was_refused (was_longer may text_is status_is)) = was_refused (was_longer may text_is status_is)
+file_calmed given kind name next next' text status steady counted to (was_refused (had_failed rose text_is status_is)) = absurd (omega (arith, rose))
+
+calmed : (form : Form) (given : Inputs) (text : List ℕ) (status : ℕ) → given.after ≡ given.before → given.before < 18446744073709551615 → Output form given text status → Output form (calm given.told) text status
+calmed usage given text status steady counted out = out
+calmed (check name) given text status steady counted out = file_calmed given Program name (BytesOutput name) (BytesOutput name) text status steady counted (λ bytes next. next) out
+calmed (show name) given text status steady counted out = file_calmed given Program name (PrintedOutput name) (PrintedOutput name) text status steady counted (λ bytes next. next) out
+calmed (frames name) given text status steady counted out = file_calmed given Frames name ListingOutput ListingOutput text status steady counted (λ bytes next. next) out
+calmed (clauses name) given text status steady counted out = file_calmed given Logs name (BlocksOutput name) (BlocksOutput name) text status steady counted (λ bytes next. next) out
+
+-- an undisturbed call answers, or memory was short
+pub answered : (form : Form) (given : Inputs) (old new : Option (List ℕ)) (before after status : ℕ) → IsUndisturbed given before after → HasLeft (Output form given) old new before after status
+    → Answers form given.told old new status
+answered form given old new before after status quiet (whole text out grown steady) = answers text (calmed form given text status quiet.no_read_fault quiet.reads_counted out) grown
+answered form given old new before after status quiet (no_memory is grown steady) = wants_memory is grown
+answered form given old new before after status quiet (cut text other out is grown rose) = absurd (omega (arith, rose, quiet.no_write_fault, quiet.writes_counted))
+answered form given old new before after status quiet (cut_memory is grown rose) = absurd (omega (arith, rose, quiet.no_write_fault, quiet.writes_counted))

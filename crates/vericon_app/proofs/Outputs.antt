@@ -3,13 +3,13 @@ use Rattle.std.proofs.Common.{◌≡◌, ℕ, List, ◌++◌, Option, Result, Ok
 use Rattle.csdn_core.specs.declared.program.Parts.{Parts}
 use Rattle.csdn_core.proofs.Induction.{sound}
 use Rattle.vericon_edge.specs.Told.{Told, MayHold}
-use Rattle.vericon_app.specs.Words.{Form, usage, check, frames}
+use Rattle.vericon_app.specs.Words.{Form, check}
 use Rattle.vericon_app.specs.Inputs.{Inputs, was_read, was_refused, was_missing, was_longer, had_failed}
 use Rattle.vericon_app.specs.Programs.{Spells}
 use Rattle.vericon_app.specs.Check.{VerdictOutput, is_inductive, is_false_at_start, is_false_after, ProgramOutput, has_the_form, has_not_the_form, TextOutput, is_small, is_large, BytesOutput, is_program, is_no_program, CheckOutput}
 use Rattle.vericon_app.specs.Output.{Output}
 use Rattle.vericon_app.specs.Left.{HasLeft, whole, cut, Finishes, all, front}
-use Rattle.vericon_app.specs.Verified.{IsVerifiedProgram, IsVerified}
+use Rattle.vericon_app.specs.Verified.{IsVerified}
 
 pub if_ok : {X E : Type 0} (r : Result X E) (A C : X → Type 0) → ((x : X) → A x → C x) → IfOk r A → IfOk r C
 if_ok (Ok x) A C to a = to x a
@@ -28,36 +28,33 @@ pub finished : (output : List ℕ → ℕ → Type 0) (text : List ℕ) (given :
 finished output text given old new before after status said (all is grown steady) = whole text (subst (λ (n : ℕ). output text n) (sym is) said) grown steady
 finished output text given old new before after status said (front is grown rose) = cut text given said is grown rose
 
-verified_verdict : (told : Told) (bytes text : List ℕ) (status : ℕ) (P : Parts) → MayHold told bytes → Spells bytes P → VerdictOutput P text status → status ≡ 0 → IsVerifiedProgram told
+verified_verdict : (told : Told) (bytes text : List ℕ) (status : ℕ) (P : Parts) → MayHold told bytes → Spells bytes P → VerdictOutput P text status → status ≡ 0 → IsVerified told
 verified_verdict told bytes text status P may spells (is_inductive inductive text_is status_is) zero_is =
     record { bytes = bytes; told_bytes = may; program = P; spells = spells; inductive = inductive; holds = sound P 0 inductive }
 verified_verdict told bytes text status P may spells (is_false_at_start v broken start text_is status_is) zero_is = absurd (omega arith)
 verified_verdict told bytes text status P may spells (is_false_after v values broken after text_is status_is) zero_is = absurd (omega arith)
 
-verified_program : (told : Told) (name bytes text : List ℕ) (status : ℕ) (P : Parts) → MayHold told bytes → Spells bytes P → ProgramOutput name P text status → status ≡ 0 → IsVerifiedProgram told
+verified_program : (told : Told) (name bytes text : List ℕ) (status : ℕ) (P : Parts) → MayHold told bytes → Spells bytes P → ProgramOutput name P text status → status ≡ 0 → IsVerified told
 verified_program told name bytes text status P may spells (has_the_form form out) zero_is = verified_verdict told bytes text status P may spells out zero_is
 verified_program told name bytes text status P may spells (has_not_the_form other text_is status_is) zero_is = absurd (omega arith)
 
-verified_text : (told : Told) (name bytes text : List ℕ) (status : ℕ) (P : Parts) → MayHold told bytes → Spells bytes P → TextOutput name bytes P text status → status ≡ 0 → IsVerifiedProgram told
+verified_text : (told : Told) (name bytes text : List ℕ) (status : ℕ) (P : Parts) → MayHold told bytes → Spells bytes P → TextOutput name bytes P text status → status ≡ 0 → IsVerified told
 verified_text told name bytes text status P may spells (is_small small out) zero_is = verified_program told name bytes text status P may spells out zero_is
 verified_text told name bytes text status P may spells (is_large large text_is status_is) zero_is = absurd (omega arith)
 
-verified_bytes : (told : Told) (name bytes text : List ℕ) (status : ℕ) → MayHold told bytes → BytesOutput name bytes text status → status ≡ 0 → IsVerifiedProgram told
+verified_bytes : (told : Told) (name bytes text : List ℕ) (status : ℕ) → MayHold told bytes → BytesOutput name bytes text status → status ≡ 0 → IsVerified told
 verified_bytes told name bytes text status may (is_program P spells out) zero_is = verified_text told name bytes text status P may spells out zero_is
 verified_bytes told name bytes text status may (is_no_program at why refusal text_is status_is) zero_is = absurd (omega arith)
 
-verified_file : (given : Inputs) (name text : List ℕ) (status : ℕ) → CheckOutput given name text status → status ≡ 0 → IsVerifiedProgram (given.told name)
+verified_file : (given : Inputs) (name text : List ℕ) (status : ℕ) → CheckOutput given name text status → status ≡ 0 → IsVerified (given.told name)
 verified_file given name text status (was_read bytes may within out) zero_is = verified_bytes (given.told name) name bytes text status may out zero_is
 verified_file given name text status (was_refused (was_missing may text_is status_is)) zero_is = absurd (omega arith)
 verified_file given name text status (was_refused (was_longer may text_is status_is)) zero_is = absurd (omega arith)
 verified_file given name text status (was_refused (had_failed rose text_is status_is)) zero_is = absurd (omega arith)
 
-verified_output : (form : Form) (given : Inputs) (text : List ℕ) (status : ℕ) → Output form given text status → status ≡ 0 → IsVerified form given.told
-verified_output usage given text status out zero_is = let status_is : status ≡ 6 = out.1 in omega arith
-verified_output (check name) given text status out zero_is = verified_file given name text status out zero_is
-verified_output (frames name) given text status out zero_is = tt
-
--- a call that ends with 0 has written a yes
-pub verified : (form : Form) (given : Inputs) (text : List ℕ) (said : ℕ) (old new : Option (List ℕ)) (before after status : ℕ) → Output form given text said → Finishes text said old new before after status → status ≡ 0 → IsVerified form given.told
-verified form given text said old new before after status out (all is grown steady) zero_is = verified_output form given text said out (sym is ∙ zero_is)
-verified form given text said old new before after status out (front is grown rose) zero_is = absurd (omega arith)
+-- a call of `check` that ends with 0 has written a yes
+pub verified : (form : Form) (given : Inputs) (text : List ℕ) (said : ℕ) (old new : Option (List ℕ)) (before after status : ℕ) (name : List ℕ)
+    → Output form given text said → Finishes text said old new before after status → form ≡ check name → status ≡ 0 → IsVerified (given.told name)
+verified form given text said old new before after status name out (all is grown steady) asked zero_is =
+    verified_file given name text said (subst (λ (f : Form). Output f given text said) asked out) (sym is ∙ zero_is)
+verified form given text said old new before after status name out (front is grown rose) asked zero_is = absurd (omega arith)

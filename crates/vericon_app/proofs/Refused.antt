@@ -38,10 +38,10 @@ text_refused : (bytes : List ℕ) (e : TextRefusal) (told : ProgramRefusal) → 
 text_refused bytes e Memory refused is = tt
 text_refused bytes e (At at why) refused is = no_reading bytes at why e refused is
 
-pub exit_text : (bytes : List ℕ) (r : Result Parts ProgramRefusal) (e : TextRefusal) → IsErrAnd r (λ told. told ≡ told_text e)
-    → ((tree : RawProgram) → Reads bytes tree → Agrees tree (Err e)) → (e ≡ text.Memory) ⊎ IsRefusedText bytes e → MatchResult r (Spells bytes) (IsProgramRefusal bytes)
-exit_text bytes (Ok P) e is only right = elim is [ ]
-exit_text bytes (Err told) e is only right = text_refused bytes e told (record { only = only; right = right }) is
+pub exit_text : {A : Type 0} (Right : A → Type 0) (bytes : List ℕ) (r : Result A ProgramRefusal) (e : TextRefusal) → IsErrAnd r (λ told. told ≡ told_text e)
+    → ((tree : RawProgram) → Reads bytes tree → Agrees tree (Err e)) → (e ≡ text.Memory) ⊎ IsRefusedText bytes e → MatchResult r Right (IsProgramRefusal bytes)
+exit_text Right bytes (Ok P) e is only right = elim is [ ]
+exit_text Right bytes (Err told) e is only right = text_refused bytes e told (record { only = only; right = right }) is
 
 broken_rule : (bytes : List ℕ) (tree : RawProgram) (at : ℕ) (why : Why) (e : SortRefusal) → Reads bytes tree → (e ≡ sorts.Memory) ⊎ IsLeast (broken_rules tree) e → At at why ≡ told_sorts e → IsNoProgram bytes at why
 broken_rule bytes tree at why e reads (inl memory) is =
@@ -52,6 +52,6 @@ sorts_refused : (bytes : List ℕ) (tree : RawProgram) (e : SortRefusal) (told :
 sorts_refused bytes tree e Memory reads refusal is = tt
 sorts_refused bytes tree e (At at why) reads refusal is = broken_rule bytes tree at why e reads refusal.is is
 
-pub exit_sorts : (bytes : List ℕ) (tree : RawProgram) (r : Result Parts ProgramRefusal) (e : SortRefusal) → IsErrAnd r (λ told. told ≡ told_sorts e) → Reads bytes tree → IsRefusal tree e → MatchResult r (Spells bytes) (IsProgramRefusal bytes)
-exit_sorts bytes tree (Ok P) e is reads refusal = elim is [ ]
-exit_sorts bytes tree (Err told) e is reads refusal = sorts_refused bytes tree e told reads refusal is
+pub exit_sorts : {A : Type 0} (Right : A → Type 0) (bytes : List ℕ) (tree : RawProgram) (r : Result A ProgramRefusal) (e : SortRefusal) → IsErrAnd r (λ told. told ≡ told_sorts e) → Reads bytes tree → IsRefusal tree e → MatchResult r Right (IsProgramRefusal bytes)
+exit_sorts Right bytes tree (Ok P) e is reads refusal = elim is [ ]
+exit_sorts Right bytes tree (Err told) e is reads refusal = sorts_refused bytes tree e told reads refusal is

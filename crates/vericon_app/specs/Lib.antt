@@ -7,8 +7,11 @@ pub mod Sources
 pub mod Inputs
 pub mod Small
 pub mod Check
+pub mod Show
 pub mod Frames
+pub mod Clauses
 pub mod Output
 pub mod Left
+pub mod Quiet
 pub mod Verified
 pub mod Decided

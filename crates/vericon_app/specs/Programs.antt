@@ -18,6 +18,12 @@ pub record Spells (bytes : List ℕ) (P : Parts) : Type 0 where
   pub reads : Reads bytes tree
   pub types : Types tree P
 
+-- The bytes read as a tree that keeps the rules on names and sorts.
+pub record Keeps (bytes : List ℕ) (tree : RawProgram) : Type 0 where
+  pub reads : Reads bytes tree
+  pub program : Parts
+  pub types : Types tree program
+
 -- The bytes spell no program: they are refused at this place, for this reason.
 pub data IsNoProgram (bytes : List ℕ) (at : ℕ) (why : Why) : Type 0 where
   -- they read as no tree

@@ -3,20 +3,13 @@ use Rattle.std.specs.Prelude.{ℕ, List}
 use Rattle.csdn_core.specs.declared.program.Parts.{Parts}
 use Rattle.csdn_core.specs.Holds.{IsInductive, Holds}
 use Rattle.vericon_edge.specs.Told.{Told, MayHold}
-use Rattle.vericon_app.specs.Words.{Form, usage, check, frames}
 use Rattle.vericon_app.specs.Programs.{Spells}
 
 -- The file's bytes spell a program that is 0-inductive, and that holds each invariant in every network and every run.
-pub record IsVerifiedProgram (told : Told) : Type 0 where
+pub record IsVerified (told : Told) : Type 0 where
   pub bytes : List ℕ
   pub told_bytes : MayHold told bytes
   pub program : Parts
   pub spells : Spells bytes program
   pub inductive : IsInductive 0 program
   pub holds : Holds program
-
--- a yes of `check` is one of its program; of a listing nothing more is said
-abbrev pub IsVerified : Form → (List ℕ → Told) → Type 0
-IsVerified usage told = ⊥
-IsVerified (check name) told = IsVerifiedProgram (told name)
-IsVerified (frames name) told = Unit {0}

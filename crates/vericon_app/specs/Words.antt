@@ -2,15 +2,19 @@
 use Rattle.std.specs.Prelude.{ℕ, Bool, not, ◌&&◌, ◌||◌, List, [], ◌∷◌, codes, if◌then◌else◌}
 use Rattle.std.specs.Str.{bytes_eq}
 use Rattle.vericon_app.specs.declared.words.Request.{Request}
-use Rattle.vericon_app.specs.declared.words.Request.TheVariants.{Usage, Check, Frames}
+use Rattle.vericon_app.specs.declared.words.Request.TheVariants.{Usage, Check, Show, Frames, Clauses}
 
 pub data Form : Type 0 where
   -- no stated form
   usage : Form
   -- `check PROGRAM`
   check : List ℕ → Form
+  -- `show PROGRAM`
+  show : List ℕ → Form
   -- `frames FILE`
   frames : List ℕ → Form
+  -- `clauses FILE`
+  clauses : List ℕ → Form
 
 -- a word that spells an option of `check`, which is never a file's name
 abbrev pub is_check_option : List ℕ → Bool
@@ -21,7 +25,9 @@ form_of [] = usage
 form_of (command ∷ []) = usage
 form_of (command ∷ file ∷ []) =
     if bytes_eq command (codes "check") && not (is_check_option file) then check file
+    else if bytes_eq command (codes "show") then show file
     else if bytes_eq command (codes "frames") then frames file
+    else if bytes_eq command (codes "clauses") then clauses file
     else usage
 form_of (command ∷ first ∷ second ∷ more) = usage
 
@@ -29,4 +35,6 @@ form_of (command ∷ first ∷ second ∷ more) = usage
 abbrev pub form_found : Request → Form
 form_found Usage = usage
 form_found (Check program) = check program.now
+form_found (Show program) = show program.now
 form_found (Frames file) = frames file.now
+form_found (Clauses file) = clauses file.now

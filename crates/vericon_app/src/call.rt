@@ -6,14 +6,18 @@ ghost use Rattle.vericon_app.specs.Lines.{memory_text};
 ghost use Rattle.vericon_app.specs.Inputs.{inputs_of};
 ghost use Rattle.vericon_app.specs.Output.{Output};
 ghost use Rattle.vericon_app.specs.Left.{HasLeft, Finishes};
+ghost use Rattle.vericon_app.specs.Words.{check as check_form};
 ghost use Rattle.vericon_app.specs.Verified.{IsVerified};
-ghost use Rattle.vericon_app.specs.Decided.{IsUndisturbed, IsDecided};
-ghost use Rattle.vericon_app.specs.Frames.{IsUndisturbedListing, IsListed};
+ghost use Rattle.vericon_app.specs.Quiet.{IsUndisturbed, Answers};
+ghost use Rattle.vericon_app.specs.Decided.{IsDecided};
+ghost use Rattle.vericon_edge.specs.Told.{holds};
 
 use crate::check::check;
+use crate::clauses::clauses;
 use crate::frames::frames;
 use crate::lines::usage;
 use crate::outcome::{Outcome, Status};
+use crate::show::show;
 use crate::words::{Request, request_of};
 use std::alloc::{AllocError, Global};
 use vericon_edge::files::Files;
@@ -33,7 +37,9 @@ fn run_command<F: Files>(
     match request_of(words) {
         Request::Usage => usage(alloc),
         Request::Check { program } => check(alloc, files, program),
+        Request::Show { program } => show(alloc, files, program),
         Request::Frames { file } => frames(alloc, files, file),
+        Request::Clauses { file } => clauses(alloc, files, file),
     }
 }
 
@@ -60,9 +66,9 @@ pub fn no_memory<S: Sink>(out: &mut S) -> u8
 ///
 /// | status | meaning |
 /// |---|---|
-/// | 0 | yes |
-/// | 1 | a condition is broken, and the state that is printed shows it |
-/// | 3 | the program was refused |
+/// | 0 | yes, or done |
+/// | 1 | a condition is broken, and the state that is printed shows it; or a block's log isn't accepted |
+/// | 3 | a text was refused |
 /// | 5 | the file is missing, or was not read |
 /// | 6 | the words have no stated form |
 /// | 7 | there was no memory |
@@ -76,12 +82,11 @@ pub fn check_call<F: Files, S: Sink>(
     // what is written, and its status
     ensures output { HasLeft (Output (form_of (map string_bytes words.now)) (inputs_of F.told F.read_faults files.old files.new)) (S.written out.old) (S.written out.new) (S.faults out.old) (S.faults out.new) result }
     // a yes: the program is inductive, and holds its invariants in every network and every run
-    ensures yes { result ≡ 0 → IsVerified (form_of (map string_bytes words.now)) (F.told files.old) }
-    // nothing but want of memory keeps it from deciding what it is told
-    ensures decided { (bytes : List ℕ) → IsUndisturbed (form_of (map string_bytes words.now)) (inputs_of F.told F.read_faults files.old files.new) (S.faults out.old) (S.faults out.new) bytes → IsDecided bytes result ⊎ (result ≡ 7) }
-
-    // nor from listing what it is told
-    ensures listed { (bytes : List ℕ) → IsUndisturbedListing (form_of (map string_bytes words.now)) (inputs_of F.told F.read_faults files.old files.new) (S.faults out.old) (S.faults out.new) bytes → IsListed bytes result ⊎ (result ≡ 7) }
+    ensures yes { (name : List ℕ) → form_of (map string_bytes words.now) ≡ check_form name → result ≡ 0 → IsVerified (F.told files.old name) }
+    // where no fault was counted, want of memory is the only excuse
+    ensures answered { IsUndisturbed (inputs_of F.told F.read_faults files.old files.new) (S.faults out.old) (S.faults out.new) → Answers (form_of (map string_bytes words.now)) (F.told files.old) (S.written out.old) (S.written out.new) result }
+    // so what `check` is told fixes its status
+    ensures decided { (name bytes : List ℕ) → form_of (map string_bytes words.now) ≡ check_form name → F.told files.old name ≡ holds bytes → IsUndisturbed (inputs_of F.told F.read_faults files.old files.new) (S.faults out.old) (S.faults out.new) → IsDecided bytes result ⊎ (result ≡ 7) }
     ensures told { F.told files.new ≡ F.told files.old }
     ensures reads { F.read_faults files.old ≤ F.read_faults files.new }
     ensures writes { F.write_faults files.new ≡ F.write_faults files.old }

@@ -1,5 +1,5 @@
 //! `clauses FILE`: whether the logs of a file are accepted, and answers to clauses without a log.
-ghost use Rattle.std.specs.Prelude.{◌≡◌, ◌≤◌, IfOk};
+ghost use Rattle.std.specs.Prelude.{◌≡◌, ◌≤◌, IfOk, if◌then◌else◌};
 ghost use Rattle.vericon_app.specs.Status.{code_of};
 ghost use Rattle.vericon_app.specs.Inputs.{inputs_of};
 ghost use Rattle.vericon_app.specs.Clauses.{BlocksOutput, ClausesOutput};
@@ -7,27 +7,33 @@ ghost use Rattle.vericon_app.specs.Clauses.{BlocksOutput, ClausesOutput};
 use crate::lines::refused_line;
 use crate::outcome::{Outcome, Status};
 use crate::source::{FileKind, Source, read_file};
-use clause_listing::list;
+use clause_listing::{Listing, list};
 use log_text::LogRefusal;
 use std::alloc::{AllocError, Global};
 use vericon_edge::files::Files;
+
+/// What is said of blocks.
+fn listed(listing: Listing) -> Outcome
+    ensures text { result.text.items ≡ listing.text.items }
+    ensures status { code_of result.status ≡ (if listing.all_accepted then 0 else 1) }
+{
+    let status = if listing.all_accepted {
+        Status::Done
+    } else {
+        Status::NotAccepted
+    };
+    Outcome {
+        text: listing.text,
+        status,
+    }
+}
 
 /// Lists the blocks that bytes are.
 fn list_blocks(alloc: Global, name: &str, bytes: &[u8]) -> Result<Outcome, AllocError>
     ensures { IfOk result (λ outcome. BlocksOutput name.now bytes.now outcome.text.items (code_of outcome.status)) }
 {
     match list(alloc, bytes) {
-        Ok(listing) => {
-            let status = if listing.all_accepted {
-                Status::Done
-            } else {
-                Status::NotAccepted
-            };
-            Ok(Outcome {
-                text: listing.text,
-                status,
-            })
-        }
+        Ok(listing) => Ok(listed(listing)),
         Err(LogRefusal::Line { number }) => refused_line(alloc, name, number),
         Err(LogRefusal::Memory) => Err(AllocError),
     }

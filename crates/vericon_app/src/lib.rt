@@ -7,10 +7,12 @@
 
 pub mod call;
 mod check;
+mod clauses;
 mod frames;
 pub mod laws;
 mod lines;
 mod outcome;
 mod program;
+mod show;
 mod source;
 mod words;

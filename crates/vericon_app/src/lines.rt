@@ -3,7 +3,7 @@ ghost use Rattle.std.specs.Prelude.{◌≡◌, ◌<◌, ◌≤◌, ◌++◌, [],
 ghost use Rattle.std.specs.Fmt.{decimal};
 ghost use Rattle.vericon_app.specs.Status.{code_of};
 ghost use Rattle.vericon_app.specs.declared.source.FileKind.TheVariants.{Frames};
-ghost use Rattle.vericon_app.specs.Lines.{word_of, too_long_text, usage_text, missing_text, read_fault_text, refused_text, yes_text, safety_name, true_lines, case_text, init_text, step_text};
+ghost use Rattle.vericon_app.specs.Lines.{word_of, too_long_text, usage_text, missing_text, read_fault_text, refused_text, refused_line_text, yes_text, safety_name, true_lines, case_text, init_text, step_text};
 
 use crate::outcome::{Outcome, Status};
 use crate::program::Why;
@@ -103,6 +103,22 @@ pub fn too_long(alloc: Global, name: &str) -> Result<Outcome, AllocError>
 {
     let mut text = name.as_bytes().to_vec(alloc)?;
     text.extend_from_slice(b" refused: TooLong\n")?;
+    Ok(Outcome {
+        text,
+        status: Status::Refused,
+    })
+}
+
+/// `NAME refused line LINE`
+pub fn refused_line(alloc: Global, name: &str, line: u64) -> Result<Outcome, AllocError>
+    ensures text { IfOk result (λ outcome. outcome.text.items ≡ refused_line_text name.now line) }
+    ensures status { IfOk result (λ outcome. code_of outcome.status ≡ 3) }
+{
+    let mut text = name.as_bytes().to_vec(alloc)?;
+    text.extend_from_slice(b" refused line ")?;
+    let digits = line.to_string(alloc)?;
+    text.extend_from_slice(digits.as_str().as_bytes())?;
+    text.extend_from_slice(b"\n")?;
     Ok(Outcome {
         text,
         status: Status::Refused,

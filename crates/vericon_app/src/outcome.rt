@@ -9,6 +9,8 @@ pub enum Status {
     Done,
     /// A condition is broken.
     Counterexample,
+    /// A block's log isn't accepted.
+    NotAccepted,
     /// A text was refused.
     Refused,
     /// A file was not read.
@@ -28,7 +30,7 @@ impl Status {
     {
         match self {
             Status::Done => 0,
-            Status::Counterexample => 1,
+            Status::Counterexample | Status::NotAccepted => 1,
             Status::Refused => 3,
             Status::ReadFault => 5,
             Status::Usage => 6,

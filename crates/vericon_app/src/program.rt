@@ -1,10 +1,11 @@
 //! Reading programs: from bytes to a program, or where and why they are none.
 ghost use Rattle.std.specs.Prelude.{◌≡◌, MatchResult};
-ghost use Rattle.vericon_app.specs.Programs.{Spells, IsProgramRefusal};
+ghost use Rattle.vericon_app.specs.Programs.{Keeps, Spells, IsProgramRefusal};
 ghost use Rattle.vericon_app.specs.Refusals.{told_text, told_sorts};
 
 use csdn_core::program::Program;
 use csdn_text::{TextRefusal, parse};
+use csdn_tree::syntax::RawProgram;
 use csdn_types::refusal::SortRefusal;
 use csdn_types::resolve::resolve;
 use std::alloc::Global;
@@ -78,4 +79,13 @@ pub fn read_program(alloc: Global, bytes: &[u8]) -> Result<Program, ProgramRefus
     let raw = parse(alloc, bytes)?;
     let program = resolve(alloc, &raw)?;
     Ok(program)
+}
+
+/// The tree of the program that the bytes spell.
+pub fn read_tree(alloc: Global, bytes: &[u8]) -> Result<RawProgram, ProgramRefusal>
+    ensures { MatchResult result (Keeps bytes.now) (IsProgramRefusal bytes.now) }
+{
+    let raw = parse(alloc, bytes)?;
+    let _program = resolve(alloc, &raw)?;
+    Ok(raw)
 }

@@ -16,6 +16,7 @@ use vericon_edge::files::{FileFault, Files};
 pub enum FileKind {
     Program,
     Frames,
+    Logs,
 }
 
 impl FileKind {
@@ -26,6 +27,7 @@ impl FileKind {
         match self {
             FileKind::Program => 65_536,
             FileKind::Frames => 16_777_216,
+            FileKind::Logs => 268_435_456,
         }
     }
 
@@ -36,7 +38,7 @@ impl FileKind {
     {
         match self {
             FileKind::Program => refused(alloc, name, 65_536, Why::TooLong),
-            FileKind::Frames => too_long(alloc, name),
+            FileKind::Frames | FileKind::Logs => too_long(alloc, name),
         }
     }
 }

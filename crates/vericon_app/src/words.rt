@@ -9,8 +9,12 @@ pub enum Request<'a> {
     Usage,
     /// `check PROGRAM`.
     Check { program: &'a str },
+    /// `show PROGRAM`.
+    Show { program: &'a str },
     /// `frames FILE`.
     Frames { file: &'a str },
+    /// `clauses FILE`.
+    Clauses { file: &'a str },
 }
 
 /// Reads the words.
@@ -23,8 +27,12 @@ pub fn request_of(words: &[String]) -> Request<'_>
             let is_option = file == "--strengthen" || file == "--log";
             if command.as_str() == "check" && !is_option {
                 Request::Check { program: file }
+            } else if command.as_str() == "show" {
+                Request::Show { program: file }
             } else if command.as_str() == "frames" {
                 Request::Frames { file }
+            } else if command.as_str() == "clauses" {
+                Request::Clauses { file }
             } else {
                 Request::Usage
             }

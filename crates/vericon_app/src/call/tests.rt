@@ -80,13 +80,67 @@ fn frames_prints_these_lines_with_these_statuses(rt: HostRuntime) -> Result<(), 
     let cases: [(&[u8], &[u8], u8); 3] = [
         (&[1, 0, 0, 8, 0, 0, 0, 1], b"0 HELLO length 8 xid 1\n", 0),
         (&[], b"", 0),
-        (
-            &[1, 5, 0, 8, 0, 0, 0, 1],
-            b"0 FEATURES_REQUEST length 8 xid 1\n",
-            0,
-        ),
+        (&[1, 0, 0, 7], b"0 cut 4\n", 3),
     ];
     let words = two_words(rt.alloc(), "frames", "p")?;
+    for (bytes, wanted, number) in cases {
+        let (text, status) = answer(rt.alloc(), &words, bytes)?;
+        assert_eq!(rt; text.as_slice(), wanted);
+        assert_eq!(rt; status, number);
+    }
+    Ok(())
+}
+
+#[test]
+fn show_prints_a_program_in_one_form(rt: HostRuntime) -> Result<(), Fail> {
+    let cases: [(&[u8], &[u8], u8); 4] = [
+        (
+            ARMED,
+            b"rel armed();\nsafety A: not armed();\npktIn(s, src->dst, i) {\n  skip;\n}\n",
+            0,
+        ),
+        (b"rel r(HO) = {};", b"rel r(HO);\n", 0),
+        (b"", b"p refused at 0: Unexpected\n", 3),
+        (
+            b"rel r(HO); safety A: forall X:SW. r(X);",
+            b"p refused at 36: WrongSort\n",
+            3,
+        ),
+    ];
+    let words = two_words(rt.alloc(), "show", "p")?;
+    for (bytes, wanted, number) in cases {
+        let (text, status) = answer(rt.alloc(), &words, bytes)?;
+        assert_eq!(rt; text.as_slice(), wanted);
+        assert_eq!(rt; status, number);
+    }
+    Ok(())
+}
+
+#[test]
+fn clauses_prints_these_lines_with_these_statuses(rt: HostRuntime) -> Result<(), Fail> {
+    let cases: [(&[u8], &[u8], u8); 4] = [
+        (
+            b"vericon-log 1\nblock a\natoms 2\nc 1 2 0\nc 1 -2 0\nc -1 2 0\nend\n",
+            b"a: model 1 2\n",
+            0,
+        ),
+        (
+            b"vericon-log 1\nblock a\natoms 2\nc 1 2 0\nc 1 -2 0\nc -1 2 0\nc -1 -2 0\ns 1 0 1 2 0\ns 0 5 3 4 0\nend\n",
+            b"a: accepted\n",
+            0,
+        ),
+        (
+            b"vericon-log 1\nblock a\natoms 2\nc 1 2 0\nc 1 -2 0\nc -1 2 0\nc -1 -2 0\ns 1 0 1 2 0\nend\n",
+            b"a: not accepted\n",
+            1,
+        ),
+        (
+            b"vericon-log 1\nblock a\natoms 0\nc 1 0\nend\n",
+            b"p refused line 4\n",
+            3,
+        ),
+    ];
+    let words = two_words(rt.alloc(), "clauses", "p")?;
     for (bytes, wanted, number) in cases {
         let (text, status) = answer(rt.alloc(), &words, bytes)?;
         assert_eq!(rt; text.as_slice(), wanted);

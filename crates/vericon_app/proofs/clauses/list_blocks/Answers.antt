@@ -1,0 +1,13 @@
+use Rattle.std.proofs.Common.{ℕ, List, sym, subst}
+use Rattle.clause_listing.specs.Listings.{IsListing}
+use Rattle.vericon_app.specs.Clauses.{is_listing, is_refused}
+use Rattle.vericon_app.proofs.Outputs.{if_ok_both}
+use Rattle.vericon_app.proofs.clauses.list_blocks.Goals as goal
+
+pub returns-in-Ok : goal.returns-in-Ok
+returns-in-Ok c =
+    is_listing c.in-Ok.listing.all_accepted (subst (λ (text : List ℕ). IsListing c.args.bytes.now text c.in-Ok.listing.all_accepted) (sym c.listed.ensures.text) c.in-Ok.ensures) c.listed.ensures.status
+
+pub returns-in-Err-Line : goal.returns-in-Err-Line
+returns-in-Err-Line c =
+    if_ok_both c.refused_line.result _ _ _ (λ outcome text_is status_is. is_refused c.in-Err-Line.number (rw c.in-Err-Line.field-0-is at c.in-Err-Line.ensures) text_is status_is) c.refused_line.ensures.text c.refused_line.ensures.status
