@@ -29,4 +29,4 @@ pub use types::{FlowMatch, Header, PhyPort, Ports};
 pub use write::{put_bytes, put_other_u16, put_pad, put_u8, put_u16, put_u32, put_u64};
 
 #[cfg(test)]
-mod tests;
+mod vectors;
