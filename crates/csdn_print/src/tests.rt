@@ -125,3 +125,30 @@ fn prints_one_item_a_line_and_blocks_two_spaces_deeper(rt: HostRuntime) -> Resul
     }
     Ok(())
 }
+
+#[test]
+fn prints_the_examples_as_they_are(rt: HostRuntime) -> Result<(), Fail> {
+    let cases: [&[u8]; 3] = [
+        b"rel armed();\nsafety A: not armed();\npktIn(s, src->dst, i) {\n  skip;\n}\n",
+        b"rel tr(SW, HO);\nsafety guarded: forall S:SW, A:HO, B:HO. S.sent(A->B, prt(2)->prt(1)) -> tr(S, A);\npktIn(s, src->dst, prt(1)) {\n  s.forward(src->dst, prt(1)->prt(2));\n  tr.insert(s, dst);\n  s.install(src->dst, prt(1)->prt(2));\n}\npktIn(s, src->dst, prt(2)) {\n  if tr(s, src) {\n    s.forward(src->dst, prt(2)->prt(1));\n    s.install(src->dst, prt(2)->prt(1));\n  }\n}\n",
+        b"rel conn(SW, PR, HO);\ntopology two: not prt(1) = prt(2);\ntrans no_black_hole: forall S:SW, A:HO, B:HO, I:PR. S.rcv_this(A->B, I) -> (exists O:PR. S.sent(A->B, I->O));\npktIn(s, src->dst, i) {\n  conn.insert(s, i, src);\n  pick o:PR where conn(s, o, dst) {\n    s.install(src->dst, i->o);\n    s.forward(src->dst, i->o);\n  } else {\n    s.flood(src->dst, i);\n  }\n}\n",
+    ];
+    let alloc = rt.alloc();
+    for text in cases {
+        assert_eq!(rt; printed(alloc, text)?.as_slice(), text);
+    }
+    Ok(())
+}
+
+#[test]
+fn prints_the_deepest_formula(rt: HostRuntime) -> Result<(), Fail> {
+    let alloc = rt.alloc();
+    let mut formula = Vec::new(alloc);
+    for _ in 0..63 {
+        formula.extend_from_slice(b"not ")?;
+    }
+    formula.extend_from_slice(b"p()")?;
+    let text = with_formula(alloc, &formula, b";\n")?;
+    assert_eq!(rt; printed(alloc, &text)?.as_slice(), text.as_slice());
+    Ok(())
+}
