@@ -8,14 +8,15 @@ use Rattle.csdn_types.specs.Resolved.{broken_rules, parts_of}
 use Rattle.truth_table.specs.FirstForm.{IsFirstForm}
 use Rattle.vericon_edge.specs.Told.{Told, untold, absent, holds, MayHold, MayBeMissing, MayBeLonger}
 use Rattle.vericon_app.specs.declared.source.FileKind.{FileKind}
-use Rattle.vericon_app.specs.declared.source.FileKind.TheVariants.{Program, Frames, Logs}
+use Rattle.vericon_app.specs.declared.source.FileKind.TheVariants.{Program, Frames, Logs, Network}
 use Rattle.vericon_app.specs.declared.program.Why.{Why}
-use Rattle.vericon_app.specs.Words.{Form, usage, check, show, frames, clauses}
+use Rattle.vericon_app.specs.Words.{Form, usage, check, show, eval, frames, clauses}
 use Rattle.vericon_app.specs.Inputs.{Inputs, WithFile, was_read, was_refused, was_missing, was_longer, had_failed}
 use Rattle.vericon_app.specs.Programs.{Spells, IsNoProgram, has_no_reading, breaks_a_rule}
 use Rattle.vericon_app.specs.Small.{IsSmall}
 use Rattle.vericon_app.specs.Check.{VerdictOutput, is_inductive, is_false_at_start, is_false_after, ProgramOutput, has_the_form, has_not_the_form, TextOutput, is_small, is_large, BytesOutput, is_program, is_no_program, CheckOutput}
 use Rattle.vericon_app.specs.Show.{PrintedOutput}
+use Rattle.vericon_app.specs.Eval.{CaseOutput, EvaluatedOutput, is_evaluated, is_no_program as spells_no_program}
 use Rattle.vericon_app.specs.Frames.{ListingOutput}
 use Rattle.vericon_app.specs.Clauses.{BlocksOutput}
 use Rattle.vericon_app.specs.Output.{Output}
@@ -92,10 +93,18 @@ file_calmed given kind name next next' text status steady counted to (was_refuse
 file_calmed given kind name next next' text status steady counted to (was_refused (was_longer may text_is status_is)) = was_refused (was_longer may text_is status_is)
 file_calmed given kind name next next' text status steady counted to (was_refused (had_failed rose text_is status_is)) = absurd (omega (arith, rose))
 
+evaluated_calmed : (given : Inputs) (name net bytes text : List ℕ) (status : ℕ) → given.after ≡ given.before → given.before < 18446744073709551615
+    → EvaluatedOutput given name net bytes text status → EvaluatedOutput (calm given.told) name net bytes text status
+evaluated_calmed given name net bytes text status steady counted (is_evaluated P spells out) =
+    is_evaluated P spells (file_calmed given Network net (CaseOutput P net) (CaseOutput P net) text status steady counted (λ xs next. next) out)
+evaluated_calmed given name net bytes text status steady counted (spells_no_program at why refusal text_is status_is) = spells_no_program at why refusal text_is status_is
+
 calmed : (form : Form) (given : Inputs) (text : List ℕ) (status : ℕ) → given.after ≡ given.before → given.before < 18446744073709551615 → Output form given text status → Output form (calm given.told) text status
 calmed usage given text status steady counted out = out
 calmed (check name) given text status steady counted out = file_calmed given Program name (BytesOutput name) (BytesOutput name) text status steady counted (λ bytes next. next) out
 calmed (show name) given text status steady counted out = file_calmed given Program name (PrintedOutput name) (PrintedOutput name) text status steady counted (λ bytes next. next) out
+calmed (eval name net) given text status steady counted out =
+    file_calmed given Program name (EvaluatedOutput given name net) (EvaluatedOutput (calm given.told) name net) text status steady counted (λ bytes next. evaluated_calmed given name net bytes text status steady counted next) out
 calmed (frames name) given text status steady counted out = file_calmed given Frames name ListingOutput ListingOutput text status steady counted (λ bytes next. next) out
 calmed (clauses name) given text status steady counted out = file_calmed given Logs name (BlocksOutput name) (BlocksOutput name) text status steady counted (λ bytes next. next) out
 

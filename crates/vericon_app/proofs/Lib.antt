@@ -2,3 +2,4 @@ pub mod Outputs
 pub mod Exact
 pub mod Refused
 mod Small
+pub mod Later

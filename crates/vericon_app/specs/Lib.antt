@@ -8,6 +8,7 @@ pub mod Inputs
 pub mod Small
 pub mod Check
 pub mod Show
+pub mod Eval
 pub mod Frames
 pub mod Clauses
 pub mod Output

@@ -1,10 +1,11 @@
 -- The outputs of all commands.
 use Rattle.std.specs.Prelude.{◌≡◌, ℕ, List}
-use Rattle.vericon_app.specs.Words.{Form, usage, check, show, frames, clauses}
+use Rattle.vericon_app.specs.Words.{Form, usage, check, show, eval, frames, clauses}
 use Rattle.vericon_app.specs.Inputs.{Inputs}
 use Rattle.vericon_app.specs.Lines.{usage_text}
 use Rattle.vericon_app.specs.Check.{CheckOutput}
 use Rattle.vericon_app.specs.Show.{ShowOutput}
+use Rattle.vericon_app.specs.Eval.{EvalOutput}
 use Rattle.vericon_app.specs.Frames.{FramesOutput}
 use Rattle.vericon_app.specs.Clauses.{ClausesOutput}
 
@@ -13,5 +14,6 @@ abbrev pub Output : Form → Inputs → List ℕ → ℕ → Type 0
 Output usage given text status = (text ≡ usage_text) × (status ≡ 6)
 Output (check name) given text status = CheckOutput given name text status
 Output (show name) given text status = ShowOutput given name text status
+Output (eval name net) given text status = EvalOutput given name net text status
 Output (frames name) given text status = FramesOutput given name text status
 Output (clauses name) given text status = ClausesOutput given name text status

@@ -2,7 +2,7 @@
 use Rattle.std.specs.Prelude.{ℕ, Bool, not, ◌&&◌, ◌||◌, List, [], ◌∷◌, codes, if◌then◌else◌}
 use Rattle.std.specs.Str.{bytes_eq}
 use Rattle.vericon_app.specs.declared.words.Request.{Request}
-use Rattle.vericon_app.specs.declared.words.Request.TheVariants.{Usage, Check, Show, Frames, Clauses}
+use Rattle.vericon_app.specs.declared.words.Request.TheVariants.{Usage, Check, Show, Eval, Frames, Clauses}
 
 pub data Form : Type 0 where
   -- no stated form
@@ -11,6 +11,8 @@ pub data Form : Type 0 where
   check : List ℕ → Form
   -- `show PROGRAM`
   show : List ℕ → Form
+  -- `eval PROGRAM NET`
+  eval : List ℕ → List ℕ → Form
   -- `frames FILE`
   frames : List ℕ → Form
   -- `clauses FILE`
@@ -29,12 +31,14 @@ form_of (command ∷ file ∷ []) =
     else if bytes_eq command (codes "frames") then frames file
     else if bytes_eq command (codes "clauses") then clauses file
     else usage
-form_of (command ∷ first ∷ second ∷ more) = usage
+form_of (command ∷ first ∷ second ∷ []) = if bytes_eq command (codes "eval") then eval first second else usage
+form_of (command ∷ first ∷ second ∷ third ∷ more) = usage
 
 -- the form that the code has found
 abbrev pub form_found : Request → Form
 form_found Usage = usage
 form_found (Check program) = check program.now
 form_found (Show program) = show program.now
+form_found (Eval program net) = eval program.now net.now
 form_found (Frames file) = frames file.now
 form_found (Clauses file) = clauses file.now

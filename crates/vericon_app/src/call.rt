@@ -14,6 +14,7 @@ ghost use Rattle.vericon_edge.specs.Told.{holds};
 
 use crate::check::check;
 use crate::clauses::clauses;
+use crate::eval::eval;
 use crate::frames::frames;
 use crate::lines::usage;
 use crate::outcome::{Outcome, Status};
@@ -38,6 +39,7 @@ fn run_command<F: Files>(
         Request::Usage => usage(alloc),
         Request::Check { program } => check(alloc, files, program),
         Request::Show { program } => show(alloc, files, program),
+        Request::Eval { program, net } => eval(alloc, files, program, net),
         Request::Frames { file } => frames(alloc, files, file),
         Request::Clauses { file } => clauses(alloc, files, file),
     }

@@ -17,6 +17,7 @@ pub enum FileKind {
     Program,
     Frames,
     Logs,
+    Network,
 }
 
 impl FileKind {
@@ -28,6 +29,7 @@ impl FileKind {
             FileKind::Program => 65_536,
             FileKind::Frames => 16_777_216,
             FileKind::Logs => 268_435_456,
+            FileKind::Network => 16_777_216,
         }
     }
 
@@ -38,7 +40,7 @@ impl FileKind {
     {
         match self {
             FileKind::Program => refused(alloc, name, 65_536, Why::TooLong),
-            FileKind::Frames | FileKind::Logs => too_long(alloc, name),
+            FileKind::Frames | FileKind::Logs | FileKind::Network => too_long(alloc, name),
         }
     }
 }

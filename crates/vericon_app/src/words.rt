@@ -11,6 +11,8 @@ pub enum Request<'a> {
     Check { program: &'a str },
     /// `show PROGRAM`.
     Show { program: &'a str },
+    /// `eval PROGRAM NET`.
+    Eval { program: &'a str, net: &'a str },
     /// `frames FILE`.
     Frames { file: &'a str },
     /// `clauses FILE`.
@@ -33,6 +35,16 @@ pub fn request_of(words: &[String]) -> Request<'_>
                 Request::Frames { file }
             } else if command.as_str() == "clauses" {
                 Request::Clauses { file }
+            } else {
+                Request::Usage
+            }
+        }
+        [command, program, net] => {
+            if command.as_str() == "eval" {
+                Request::Eval {
+                    program: program.as_str(),
+                    net: net.as_str(),
+                }
             } else {
                 Request::Usage
             }
