@@ -207,7 +207,7 @@ fn description(alloc: Global) -> Result<Vec<u8>, std::alloc::AllocError> {
     let mut frame = Vec::new(alloc);
     frame.extend_from_slice(&[1, 17, 4, 44, 0, 0, 0, 1, 0, 0, 0, 0])?;
     let mut byte: u8 = 0;
-    while frame.len() < 1068 {
+    for _ in 0..1056 {
         frame.push(byte)?;
         byte = byte.wrapping_add(1);
     }

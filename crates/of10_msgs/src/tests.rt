@@ -17,7 +17,7 @@ fn read_and_written(alloc: Global, frame: &[u8]) -> Result<(Message, Vec<u8>), W
 fn zeros(alloc: Global, kind: u8, len: u8) -> Result<Vec<u8>, AllocError> {
     let mut frame = Vec::new(alloc);
     frame.extend_from_slice(&[1, kind, 0, len, 0, 0, 0, 1])?;
-    while frame.len() < len as usize {
+    for _ in 8..len {
         frame.push(0)?;
     }
     Ok(frame)
