@@ -1,0 +1,12 @@
+use Rattle.std.proofs.Common.{◌∙◌, ◌≤◌, ap}
+use Rattle.std.proofs.lemmas.List.Elements.{All-same}
+use Rattle.csdn_core.specs.declared.terms.Place.TheVariants.{Topology}
+use Rattle.csdn_core.specs.WellSorted.{signature}
+use Rattle.net_structs.specs.Depth.{depth}
+use Rattle.net_listing.proofs.Depths.{all_shallow}
+use Rattle.net_listing.proofs.listing.topology_of.Goals as goal
+
+pub returns-clause-shallow : goal.returns-clause-shallow
+returns-clause-shallow c =
+    let P = c.args.program.now in
+    All-same (λ v. depth v.formula ≤ 24) c.as_slice.result.now P.topology (c.as_slice.ensures ∙ ap (λ p. p.topology) c.parts.ensures.value) (all_shallow (signature P) Topology P.topology c.parts.ensures.well_sorted.topology)

@@ -1,0 +1,10 @@
+//! What is said of a network: the truth of a program's invariants in it, and why a network text is refused.
+//!
+//! `specs/Listings.antt` fixes each byte.
+#![tactic(auto)]
+
+mod listing;
+mod refusal_line;
+
+pub use listing::list;
+pub use refusal_line::refused;
