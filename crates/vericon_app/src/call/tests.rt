@@ -150,6 +150,40 @@ fn clauses_prints_these_lines_with_these_statuses(rt: HostRuntime) -> Result<(),
 }
 
 #[test]
+fn eval_prints_which_invariants_are_true(rt: HostRuntime) -> Result<(), Fail> {
+    let alloc = rt.alloc();
+    let cases: [(&[u8], &[u8], u8); 5] = [
+        (
+            b"vericon-net 1\nsw 1\nho 1 2\npr 1\nstate\nt r 1\nend\n",
+            b"safety one true\n",
+            0,
+        ),
+        (
+            b"vericon-net 1\nsw 1\nho 1 2\npr 1\nstate\nt r 1\nt r 2\nend\n",
+            b"safety one false\n",
+            0,
+        ),
+        (b"vericon-net 1\nsw 1\nho 1 2\npr 1\nend\n", b"", 0),
+        (b"vericon-net 1\nsw 1\nho 1 2\npr\nend\n", b"q refused line 4: Empty\n", 3),
+        (b"", b"q refused line 1: Header\n", 3),
+    ];
+    let mut words = two_words(alloc, "eval", "p")?;
+    words.push(String::from_str(alloc, "q")?)?;
+    for (net, wanted, number) in cases {
+        let mut files = files_with(
+            alloc,
+            b"rel r(HO); safety one: forall X:HO, Y:HO. r(X) and r(Y) -> X = Y; pktIn(s, src->dst, i) { r.insert(src); }",
+        )?;
+        files.write_all(alloc, "q", net)?;
+        let mut out = MemSink::new(alloc, 4096, FaultPlan::none(alloc));
+        let status = check_call(alloc, &words, &mut files, &mut out);
+        assert_eq!(rt; out.bytes(), wanted);
+        assert_eq!(rt; status, number);
+    }
+    Ok(())
+}
+
+#[test]
 fn other_words_are_usage_and_a_file_may_be_missing(rt: HostRuntime) -> Result<(), Fail> {
     let alloc = rt.alloc();
     let (text, status) = answer(alloc, &[], ARMED)?;
