@@ -27,17 +27,28 @@ pub enum StatsReply {
         dp_desc: [u8; 256],
     },
     /// The rules that match, each by itself.
-    Flow { entries: FlowEntries },
+    Flow {
+        entries: FlowEntries,
+    },
     /// The rules that match, together.
     Aggregate {
         packet_count: u64,
         byte_count: u64,
         flow_count: u32,
     },
-    Table { entries: Items<Table> },
-    Port { entries: Items<PortCounters> },
-    Queue { entries: Items<QueueCounters> },
-    Vendor { vendor: u32, body: Body },
+    Table {
+        entries: Items<Table>,
+    },
+    Port {
+        entries: Items<PortCounters>,
+    },
+    Queue {
+        entries: Items<QueueCounters>,
+    },
+    Vendor {
+        vendor: u32,
+        body: Body,
+    },
 }
 
 /// Whether the body of a reply of this kind may have so many bytes.

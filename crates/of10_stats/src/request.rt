@@ -30,9 +30,17 @@ pub enum StatsRequest {
         out_port: u16,
     },
     Table,
-    Port { port_no: u16 },
-    Queue { port_no: u16, queue_id: u32 },
-    Vendor { vendor: u32, body: Body },
+    Port {
+        port_no: u16,
+    },
+    Queue {
+        port_no: u16,
+        queue_id: u32,
+    },
+    Vendor {
+        vendor: u32,
+        body: Body,
+    },
 }
 
 /// Whether the body of a request of this kind may have so many bytes.
