@@ -7,3 +7,6 @@ pub mod AtomNodes
 pub mod Replaced
 pub mod Flooded
 pub mod WrittenTruth
+pub mod RenumberTruth
+pub mod Numbered
+pub mod ClosedTruth

@@ -13,3 +13,7 @@ pub mod Replace
 pub mod ReplaceSteps
 pub mod Changes
 pub mod Substitution
+pub mod Renumber
+pub mod RenumberSteps
+pub mod Names
+pub mod Closed

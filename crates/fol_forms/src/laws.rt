@@ -8,6 +8,9 @@ ghost use Rattle.csdn_core.specs.Truth.{Structure, Assignment, truth, values};
 ghost use Rattle.csdn_core.specs.Variables.{vars_of, free_in, BindsOutside};
 ghost use Rattle.decision_laws.specs.Forms.{Form, normal_form, signed};
 ghost use Rattle.decision_laws.specs.Laws.{form_of};
+ghost use Rattle.fol_forms.specs.declared.close.Bind.{Bind as AnyBind};
+ghost use Rattle.fol_forms.specs.Closed.{closed, IsTrueForAll};
+ghost use Rattle.fol_forms.specs.Renumber.{renumber};
 ghost use Rattle.fol_forms.specs.Replace.{add_row, drop_row, add_flood, fix_packet};
 ghost use Rattle.fol_forms.specs.Substitution.{AllFit, Scope, KeepsSorts, SendsToPorts, with_row, without_row, with_flood, with_packet};
 ghost use Rattle.fol_forms.specs.Written.{written};
@@ -39,4 +42,14 @@ pub fn fix_packet_is_exact()
 /// of its sort.
 pub fn add_flood_is_exact()
     ensures { (M : Structure) (s a b i : AnyTerm) (e : Assignment) (F : AnyFormula) (Γ : Scope) → SendsToPorts M Γ F → BindsOutside (vars_of (s ∷ a ∷ b ∷ i ∷ [])) F → KeepsSorts M Γ e → truth M (add_flood F (s ∷ a ∷ b ∷ i ∷ [])) e ≡ truth (with_flood M (values M e (s ∷ a ∷ b ∷ i ∷ []))) F e }
+{}
+
+/// `renumber` keeps truth, where no free variable of the formula has a number from `from` on.
+pub fn renumber_keeps_truth()
+    ensures { (M : Structure) (F : AnyFormula) (from : ℕ) (e : Assignment) → ((v : ℕ) → IsTrue (free_in F v) → v < from) → truth M (renumber F from) e ≡ truth M F e }
+{}
+
+/// `close` is true exactly where the formula is true for all values of its binds.
+pub fn close_is_exact()
+    ensures { (M : Structure) (bs : List AnyBind) (F : AnyFormula) (e : Assignment) → IsTrue (truth M (closed bs F) e) ↔ IsTrueForAll M bs F e }
 {}

@@ -4,10 +4,12 @@
 //! 2^64 - 1 where they are larger. Normal forms, and what they need, are `decision_laws`' own.
 #![tactic(auto)]
 
+pub mod close;
 pub mod count;
 pub mod fragment;
 pub mod instances;
 pub mod laws;
 pub mod normal;
 pub mod refusal;
+pub mod renumber;
 pub mod replace;
