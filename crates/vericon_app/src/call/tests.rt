@@ -164,7 +164,11 @@ fn eval_prints_which_invariants_are_true(rt: HostRuntime) -> Result<(), Fail> {
             0,
         ),
         (b"vericon-net 1\nsw 1\nho 1 2\npr 1\nend\n", b"", 0),
-        (b"vericon-net 1\nsw 1\nho 1 2\npr\nend\n", b"q refused line 4: Empty\n", 3),
+        (
+            b"vericon-net 1\nsw 1\nho 1 2\npr\nend\n",
+            b"q refused line 4: Empty\n",
+            3,
+        ),
         (b"", b"q refused line 1: Header\n", 3),
     ];
     let mut words = two_words(alloc, "eval", "p")?;
