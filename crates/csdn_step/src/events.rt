@@ -93,6 +93,8 @@ pub fn fire_quiet(
     ensures quiet { IfOk result (λ tally. course state.new tally ≡ quieted (held state.old) (fired program.now network.now KeptSending (SpecPktIn s a b i) (from_state (held state.old)))) }
     ensures same { OnErr result (held state.new ≡ held state.old) }
 {
+    // a program's parts are well-sorted
+    let _parts = program.parts();
     let event = Event::PktIn { s, a, b, i };
     if !is_of_network(network, &event) {
         return Err(StepRefusal::Stranger);
