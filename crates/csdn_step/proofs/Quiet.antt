@@ -37,13 +37,13 @@ and_true : (b : Bool) → (b && true) ≡ b
 and_true true = refl
 and_true false = refl
 
-if_quiet : (x : State) (t u : Bool) (a b c d : Course) → t ≡ u → a ≡ quieted x c → b ≡ quieted x d → (if t then a else b) ≡ quieted x (if u then c else d)
-if_quiet x t true a b c d same is_a is_b = ap (λ v. if v then a else b) same ∙ is_a
-if_quiet x t false a b c d same is_a is_b = ap (λ v. if v then a else b) same ∙ is_b
+if_quiet : (x : State) (t u : Bool) (a b k l : Course) → t ≡ u → a ≡ quieted x k → b ≡ quieted x l → (if t then a else b) ≡ quieted x (if u then k else l)
+if_quiet x t true a b k l same is_a is_b = ap (λ (v : Bool). if v then a else b) same ∙ is_a
+if_quiet x t false a b k l same is_a is_b = ap (λ (v : Bool). if v then a else b) same ∙ is_b
 
-chosen_quiet : (x : State) (g h : Option ℕ) (a : ℕ → Course) (b : Course) (c : ℕ → Course) (d : Course) → g ≡ h → ((m : ℕ) → a m ≡ quieted x (c m)) → b ≡ quieted x d → chosen g a b ≡ quieted x (chosen h c d)
-chosen_quiet x g (Some m) a b c d same is_a is_b = ap (λ v. chosen v a b) same ∙ is_a m
-chosen_quiet x g None a b c d same is_a is_b = ap (λ v. chosen v a b) same ∙ is_b
+chosen_quiet : (x : State) (g h : Option ℕ) (a : ℕ → Course) (b : Course) (k : ℕ → Course) (l : Course) → g ≡ h → ((m : ℕ) → a m ≡ quieted x (k m)) → b ≡ quieted x l → chosen g a b ≡ quieted x (chosen h k l)
+chosen_quiet x g (Some m) a b k l same is_a is_b = ap (λ (v : Option ℕ). chosen v a b) same ∙ is_a m
+chosen_quiet x g None a b k l same is_a is_b = ap (λ (v : Option ℕ). chosen v a b) same ∙ is_b
 
 abbrev made : State → Course → Course
 made y w = record { state = y; changed = w.changed; outs = w.outs }

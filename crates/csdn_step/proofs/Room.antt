@@ -6,6 +6,7 @@ use Rattle.std.proofs.lemmas.List.{length-append}
 use Rattle.csdn_core.specs.declared.terms.VarId.{VarId}
 use Rattle.csdn_core.specs.declared.terms.Sort.{Sort}
 use Rattle.csdn_core.specs.declared.terms.Place.{Place}
+use Rattle.csdn_core.specs.declared.terms.Place.TheVariants.{Handler as InHandler}
 use Rattle.csdn_core.specs.declared.program.Handler.{Handler}
 use Rattle.csdn_core.specs.declared.program.Parts.{Parts}
 use Rattle.csdn_core.specs.declared.syntax.Formula.{Formula}
@@ -56,13 +57,13 @@ module _ (S : Signature) where
   command_fits own Γ c.Skip sorted few = omega arith
   command_fits own Γ (sequence a b) sorted few = both (length Γ) (command_depth a) (command_depth b) (command_fits own Γ a sorted.0 few) (command_fits own Γ b sorted.1 few)
   command_fits own Γ (conditional p a b) sorted few =
-      both (length Γ) (depth p) (max (command_depth a) (command_depth b)) (formula_fits _ Γ p sorted.0 few)
+      both (length Γ) (depth p) (max (command_depth a) (command_depth b)) (formula_fits InHandler Γ p sorted.0 few)
       (both (length Γ) (command_depth a) (command_depth b) (command_fits own Γ a sorted.1 few) (command_fits own Γ b sorted.2 few))
   command_fits own Γ (choice v s p a b) sorted few =
       let more : List Bind = Γ ++ record { var = v; sort = s } ∷ [] in
       let is : length more ≡ length Γ + 1 = one_more Γ (record { var = v; sort = s }) in
       let below : length Γ < 24 = sorted.0 in
-      let p_fits : length more + depth p ≤ 24 = formula_fits _ more p sorted.1 (omega arith) in
+      let p_fits : length more + depth p ≤ 24 = formula_fits InHandler more p sorted.1 (omega arith) in
       let a_fits : length more + command_depth a ≤ 24 = command_fits own more a sorted.2 (omega arith) in
       let b_fits : length Γ + command_depth b ≤ 24 = command_fits own Γ b sorted.3 few in
       pick_fits (length Γ) (length more) (depth p) (command_depth a) (command_depth b) is p_fits a_fits b_fits

@@ -129,13 +129,13 @@ module _ (P : Parts) (N : Network) where
   -- where nothing is to be refused, an event is a step to the state that it comes to
   pub steps : (event : Event) (x : State) → is_of_network N event ≡ true → is_enabled x event ≡ true → Step P N x event (fired P N Kept event (from_state x)).state
   steps (PktIn s a b i) x known enabled =
-      let at_s = both (has N.switches s) _ known in
-      let at_a = both (has N.hosts a) _ at_s.1 in
-      let at_b = both (has N.hosts b) _ at_a.1 in
+      let at_s = both (has N.switches s) (has N.hosts a && (has N.hosts b && has N.ports i)) known in
+      let at_a = both (has N.hosts a) (has N.hosts b && has N.ports i) at_s.1 in
+      let at_b = both (has N.hosts b) (has N.ports i) at_a.1 in
       (has_is N.switches s at_s.0, has_is N.hosts a at_a.0, has_is N.hosts b at_b.0, has_is N.ports i at_b.1, handles (first_fit P.handlers i) s a b i (from_state x))
   steps (PktFlow s a b i o) x known enabled =
-      let at_s = both (has N.switches s) _ known in
-      let at_a = both (has N.hosts a) _ at_s.1 in
-      let at_b = both (has N.hosts b) _ at_a.1 in
-      let at_i = both (has N.ports i) _ at_b.1 in
+      let at_s = both (has N.switches s) (has N.hosts a && (has N.hosts b && (has N.ports i && has N.ports o))) known in
+      let at_a = both (has N.hosts a) (has N.hosts b && (has N.ports i && has N.ports o)) at_s.1 in
+      let at_b = both (has N.hosts b) (has N.ports i && has N.ports o) at_a.1 in
+      let at_i = both (has N.ports i) (has N.ports o) at_b.1 in
       (has_is N.switches s at_s.0, has_is N.hosts a at_a.0, has_is N.hosts b at_b.0, has_is N.ports i at_i.0, has_is N.ports o at_i.1, enabled, refl)
