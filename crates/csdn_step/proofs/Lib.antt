@@ -6,5 +6,3 @@ pub mod Starts
 pub mod Room
 pub mod Steps
 pub mod Quiet
-pub mod Refused
-pub mod Runs
