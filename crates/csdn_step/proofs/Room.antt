@@ -1,7 +1,6 @@
 -- Room for the variables in scope: at most 24.
 use Rattle.std.proofs.Common.{◌≡◌, ◌∙◌, sym, ap, refl, subst, ℕ, zero, suc, ◌+◌, ◌<◌, ◌≤◌, max, Bool, true, false, List, [], ◌∷◌, ◌++◌, length, All, arith, if◌then◌else◌}
 use Rattle.std.specs.Prelude.{Option, Some, None}
-use Rattle.std.proofs.Math.Option.{some-injective}
 use Rattle.std.proofs.lemmas.List.{length-append}
 use Rattle.csdn_core.specs.declared.terms.VarId.{VarId}
 use Rattle.csdn_core.specs.declared.terms.Sort.{Sort}
@@ -78,7 +77,7 @@ module _ (S : Signature) where
 
 -- what holds of each handler holds of the one that fits
 fit_here : (Q : Handler → Type 0) (g h : Handler) (rest : Option Handler) (b : Bool) → Q g → (rest ≡ Some h → Q h) → (if b then Some g else rest) ≡ Some h → Q h
-fit_here Q g h rest true mine later found = subst Q (some-injective g h found) mine
+fit_here Q g h rest true mine later found = let same : g ≡ h = cc in subst Q same mine
 fit_here Q g h rest false mine later found = later found
 
 pub of_fit : (Q : Handler → Type 0) (hs : List Handler) (i : ℕ) (h : Handler) → All Q hs → first_fit hs i ≡ Some h → Q h

@@ -1,7 +1,6 @@
 -- What is executed with the least elements is an execution.
 use Rattle.std.proofs.Common.{◌≡◌, ◌∙◌, sym, ap, refl, subst, inl, inr, ◌⊎◌, ℕ, ◌==◌, ◌&&◌, ◌||◌, zero, suc, ◌+◌, ◌<◌, ◌≤◌, min, Bool, true, false, if◌then◌else◌, List, [], ◌∷◌, length, Contains, IsTrue, IsFalse, true≢false, arith}
 use Rattle.std.specs.Prelude.{Option, Some, None}
-use Rattle.std.proofs.Math.Option.{some-injective}
 use Rattle.csdn_core.specs.declared.terms.Pred.TheVariants.{Stored, Ft, Sent}
 use Rattle.csdn_core.specs.declared.program.Parts.{Parts}
 use Rattle.csdn_core.specs.declared.program.Handler.{Handler}
@@ -64,7 +63,7 @@ found_by test n m ms b passes rest found = by_test b passes found
     which is is_m (inl mine) = here is (sym mine ∙ is_m)
     which is is_m (inr other) = later (other ∙ ap (λ (k : ℕ). Some k) is_m)
     by_test : (t : Bool) → test n ≡ t → (if t then Some (lesser n (least test ms)) else least test ms) ≡ Some m → IsFound test (n ∷ ms) m
-    by_test true is it = which is (some-injective (lesser n (least test ms)) m it) (lesser_is n (least test ms))
+    by_test true is it = let same : lesser n (least test ms) ≡ m = cc in which is same (lesser_is n (least test ms))
     by_test false is it = later it
 
 pub least_found : (test : ℕ → Bool) (ms : List ℕ) (m : ℕ) → least test ms ≡ Some m → IsFound test ms m
@@ -78,7 +77,7 @@ none_by test n ms false passes rest found m (suc k, below, same) = rest found m 
 
 pub least_none : (test : ℕ → Bool) (ms : List ℕ) → least test ms ≡ None → (m : ℕ) → Contains ms m → test m ≡ false
 least_none test [] is m place = absurd (let below : place.0 < 0 = place.1 in omega arith)
-least_none test (n ∷ ms) is = none_by test n ms (test n) refl (least_none test ms) is
+least_none test (n ∷ ms) is m place = none_by test n ms (test n) refl (least_none test ms) is m place
 
 if_case : (t q : Bool) → q ≡ t → (x y : Course) (A B : State → Type 0) → A x.state → B y.state → (IsTrue q × A (if t then x else y).state) ⊎ (IsFalse q × B (if t then x else y).state)
 if_case true q is x y A B in_x in_y = inl (is, in_x)
