@@ -1,0 +1,99 @@
+-- Rows put in one after another make the initial state.
+use Rattle.std.proofs.Common.{◌≡◌, ◌∙◌, sym, ap, ap₂, refl, subst, ℕ, ◌==◌, Bool, true, false, ◌&&◌, ◌||◌, List, [], ◌∷◌, ◌-◌, ◌≤◌, ◌<◌, length, take, drop, get_or, arith}
+use Rattle.std.specs.List.{list_any}
+use Rattle.std.proofs.Math.Path.{fun_ext}
+use Rattle.csdn_core.specs.declared.terms.RelId.{RelId}
+use Rattle.csdn_core.specs.declared.terms.Pred.{Pred}
+use Rattle.csdn_core.specs.declared.terms.Pred.TheVariants.{Stored, Ft, Sent, RcvThis}
+use Rattle.csdn_core.specs.declared.event.Packet.TheVariants.{Nothing}
+use Rattle.csdn_core.specs.declared.program.Parts.{Parts}
+use Rattle.csdn_core.specs.declared.program.StartRow.{StartRow}
+use Rattle.csdn_core.specs.Truth.{Assignment, values}
+use Rattle.csdn_core.specs.Network.{Network, State, structure, same_cells, same_pred}
+use Rattle.csdn_core.specs.Execution.{put, tuple}
+use Rattle.csdn_core.specs.Run.{empty_state, no_values, initial}
+use Rattle.net_structs.specs.declared.env.Pair.{Pair}
+use Rattle.net_structs.specs.Binds.{assignment}
+use Rattle.net_structs.specs.declared.row.Row.{Row}
+use Rattle.net_structs.specs.Rows.{held}
+use Rattle.csdn_step.specs.Starting.{started}
+use Rattle.csdn_step.proofs.Floods.{rest_is}
+
+equal : (m n : ℕ) → (m == n) ≡ true → m ≡ n
+equal m n h = grind arith
+
+==-sym : (m n : ℕ) → (m == n) ≡ (n == m)
+==-sym m n = elim (m == n) as (λ b. (m == n) ≡ b → b ≡ (n == m)) [
+  | true ↦ λ h. let is : m ≡ n = equal m n h in let Q : ℕ → Type 0 = λ k. true ≡ (k == m) in subst Q is (subst (λ (k : ℕ). true ≡ (m == k)) (sym is) (sym h))
+  | false ↦ λ h. elim (n == m) as (λ b. (n == m) ≡ b → false ≡ b) [
+    | true ↦ λ back. let is : n ≡ m = equal n m back in absurd (let apart : (m == n) ≡ false = h in let Q : ℕ → Type 0 = λ k. (k == n) ≡ false in let same : (n == n) ≡ false = subst Q (sym is) apart in grind arith)
+    | false ↦ λ back. refl
+  ] refl
+] refl
+
+same_cells-sym : (ms ns : List ℕ) → same_cells ms ns ≡ same_cells ns ms
+same_cells-sym [] [] = refl
+same_cells-sym [] (n ∷ ns) = refl
+same_cells-sym (m ∷ ms) [] = refl
+same_cells-sym (m ∷ ms) (n ∷ ns) = rw (==-sym m n, same_cells-sym ms ns)
+
+grouped : (x a b : Bool) → ((x || a) || b) ≡ (x || (a || b))
+grouped true a b = refl
+grouped false a b = refl
+
+or_false : (x : Bool) → (x || false) ≡ x
+or_false true = refl
+or_false false = refl
+
+module _ (P : Parts) (N : Network) (e : Assignment) where
+  cells_of : StartRow → List ℕ
+  cells_of row = values (structure P N empty_state Nothing) e row.terms
+
+  listed : List StartRow → Pred → List ℕ → Bool
+  listed rows (Stored r) cells = list_any (λ row. (row.rel.0 == r.0) && same_cells (cells_of row) cells) rows
+  listed rows Ft cells = false
+  listed rows Sent cells = false
+  listed rows RcvThis cells = false
+
+  one : (row : StartRow) (rows : List StartRow) (x : State) (q : Pred) (ds : List ℕ) → (put x (Stored row.rel) (cells_of row) q ds || listed rows q ds) ≡ (x q ds || listed (row ∷ rows) q ds)
+  unfolding listed
+  one row rows x (Stored r) ds =
+      grouped (x (Stored r) ds) ((r.0 == row.rel.0) && same_cells ds (cells_of row)) _
+      ∙ ap (λ b. x (Stored r) ds || (b || listed rows (Stored r) ds)) (ap₂ (λ a b. a && b) (==-sym r.0 row.rel.0) (same_cells-sym ds (cells_of row)))
+  one row rows x Ft ds = ap (λ b. b || false) (or_false (x Ft ds))
+  one row rows x Sent ds = ap (λ b. b || false) (or_false (x Sent ds))
+  one row rows x RcvThis ds = ap (λ b. b || false) (or_false (x RcvThis ds))
+
+  started-is : (rows : List StartRow) (x : State) (q : Pred) (ds : List ℕ) → started P N e rows x q ds ≡ (x q ds || listed rows q ds)
+  unfolding listed cells_of
+  started-is [] x (Stored r) ds = sym (or_false (x (Stored r) ds))
+  started-is [] x Ft ds = sym (or_false (x Ft ds))
+  started-is [] x Sent ds = sym (or_false (x Sent ds))
+  started-is [] x RcvThis ds = sym (or_false (x RcvThis ds))
+  started-is (row ∷ rows) x q ds = started-is rows (put x (Stored row.rel) (cells_of row)) q ds ∙ one row rows x q ds
+
+pub started_initial : (P : Parts) (N : Network) → started P N no_values P.start empty_state ≡ initial P N
+unfolding listed cells_of
+started_initial P N = fun_ext (λ q. fun_ext (λ ds. started-is P N no_values P.start empty_state q ds ∙ at q ds))
+  where
+    at : (q : Pred) (ds : List ℕ) → (empty_state q ds || listed P N no_values P.start q ds) ≡ initial P N q ds
+    at (Stored r) ds = refl
+    at Ft ds = refl
+    at Sent ds = refl
+    at RcvThis ds = refl
+
+-- one row more is put in
+pub rows_go : (P : Parts) (N : Network) (e : Assignment) (y z whole : State) (row d : StartRow) (rest : List StartRow) → 1 ≤ length rest → row ≡ get_or rest 0 d → z ≡ put y (Stored row.rel) (tuple P N row.terms e y) → started P N e rest y ≡ whole
+    → started P N e (take (length rest - 1) (drop 1 rest)) z ≡ whole
+rows_go P N e y z whole row d [] some first is goes = absurd (omega arith)
+rows_go P N e y z whole row d (r ∷ rows) some first is goes =
+    ap (λ more. started P N e more z) (rest_is r rows)
+    ∙ ap (started P N e rows) (is ∙ ap (λ (s : StartRow). put y (Stored s.rel) (tuple P N s.terms e y)) first) ∙ goes
+
+pub rows_end : (P : Parts) (N : Network) (e : Assignment) (y whole : State) (rest : List StartRow) → length rest < 1 → started P N e rest y ≡ whole → y ≡ whole
+rows_end P N e y whole [] none goes = goes
+rows_end P N e y whole (r ∷ rows) none goes = absurd (omega arith)
+
+pub starts : (P : Parts) (N : Network) (pairs : List Pair) (rows : List Row) (listed : List StartRow) (y : State) → y ≡ started P N (assignment pairs) listed (held rows) → pairs ≡ [] → rows ≡ [] → listed ≡ P.start → y ≡ initial P N
+starts P N pairs rows listed y is no_pairs no_rows all =
+    is ∙ ap (λ ps. started P N (assignment ps) listed (held rows)) no_pairs ∙ ap (λ rs. started P N no_values listed (held rs)) no_rows ∙ ap (λ ls. started P N no_values ls empty_state) all ∙ started_initial P N

@@ -1,0 +1,239 @@
+//! Events.
+ghost use Rattle.std.specs.Prelude.{◌≡◌, ◌+◌, ◌≤◌, ℕ, [], ◌∷◌, IfOk, OnErr, OnOk, option_copied};
+ghost use Rattle.csdn_core.specs.declared.event.Event.TheVariants.{PktIn as SpecPktIn};
+ghost use Rattle.csdn_core.specs.Run.{Step, first_fit as first_fit_of, fits as fits_in, for_packet};
+ghost use Rattle.net_structs.specs.Rows.{held};
+ghost use Rattle.csdn_step.specs.Answers.{IsAnswer, first_refusal, is_enabled as is_enabled_in, is_of_network as is_of};
+ghost use Rattle.csdn_step.specs.CommandDepth.{command_depth};
+ghost use Rattle.csdn_step.specs.Courses.{course, executed, fired, from_state, handled, quieted};
+ghost use Rattle.csdn_step.specs.declared.setting.Sending.TheVariants.{Kept as KeptSending, Left as LeftSending};
+
+use crate::commands::execute;
+use crate::setting::{Sending, Setting};
+use crate::undo::Undo;
+use csdn_core::event::{Event, Tally};
+use csdn_core::program::{Handler, Program};
+use csdn_core::terms::{Pred, Sort};
+use net_structs::cells::Cells;
+use net_structs::env::Env;
+use net_structs::network::Network;
+use net_structs::state::State;
+use sqlite_items::Items;
+use std::alloc::{AllocError, Global};
+use thiserror::Error;
+
+/// Why an event is not fired.
+#[derive(Debug, Drop, Error)]
+pub enum StepRefusal {
+    /// The network lacks an element of the event.
+    #[error("the network lacks an element of the event")]
+    Stranger,
+    /// No rule sends the packet so.
+    #[error("no flow rule is there for the packet")]
+    NotEnabled,
+    #[error("out of memory")]
+    Memory,
+}
+
+impl From<AllocError> for StepRefusal {
+    ghost use Rattle.csdn_step.specs.declared.events.StepRefusal.TheVariants.{Memory};
+    ghost use Rattle.std.specs.Prelude.{◌≡◌};
+
+    ghost from_gives = { λ e refusal. refusal ≡ Memory };
+
+    fn from(_error: AllocError) -> StepRefusal {
+        StepRefusal::Memory
+    }
+}
+
+/// Lets an event happen, with the least element at each `pick`, and tells what was done. The state is unchanged after a
+/// refusal. Refusals in order: `Stranger` exactly where the network lacks an element of the event; `NotEnabled` exactly
+/// where the tuple of a packet flow isn't in `ft`; `Memory`. It costs what the handler looks at and changes; only where a
+/// handler takes a tuple out, the state is copied.
+pub fn fire(
+    alloc: Global,
+    program: &Program,
+    network: &Network,
+    state: &mut State,
+    event: &Event,
+) -> Result<Tally, StepRefusal>
+    ensures answer { IsAnswer (first_refusal network.now (held state.old) event.now) result }
+    ensures step { OnOk result (Step program.now network.now (held state.old) event.now (held state.new)) }
+    ensures least { IfOk result (λ tally. course state.new tally ≡ fired program.now network.now KeptSending event.now (from_state (held state.old))) }
+    ensures same { OnErr result (held state.new ≡ held state.old) }
+{
+    if !is_of_network(network, event) {
+        return Err(StepRefusal::Stranger);
+    }
+    if !is_enabled(state, event) {
+        return Err(StepRefusal::NotEnabled);
+    }
+    let setting = Setting {
+        program,
+        network,
+        sending: Sending::Kept,
+    };
+    let tally = happen(alloc, &setting, state, event)?;
+    Ok(tally)
+}
+
+/// Lets a packet come in as `fire` does, but leaves `sent` as it is. Refusals in order: `Stranger` exactly where the network
+/// lacks an element of the packet; `Memory`.
+pub fn fire_quiet(
+    alloc: Global,
+    program: &Program,
+    network: &Network,
+    state: &mut State,
+    s: u64,
+    a: u64,
+    b: u64,
+    i: u64,
+) -> Result<Tally, StepRefusal>
+    ensures answer { IsAnswer (first_refusal network.now (held state.old) (SpecPktIn s a b i)) result }
+    ensures quiet { IfOk result (λ tally. course state.new tally ≡ quieted (held state.old) (fired program.now network.now KeptSending (SpecPktIn s a b i) (from_state (held state.old)))) }
+    ensures same { OnErr result (held state.new ≡ held state.old) }
+{
+    // a program's parts are well-sorted
+    let _parts = program.parts();
+    let event = Event::PktIn { s, a, b, i };
+    if !is_of_network(network, &event) {
+        return Err(StepRefusal::Stranger);
+    }
+    let setting = Setting {
+        program,
+        network,
+        sending: Sending::Left,
+    };
+    let tally = handle(alloc, &setting, state, s, a, b, i)?;
+    Ok(tally)
+}
+
+fn is_of_network(network: &Network, event: &Event) -> bool
+    ensures { result ≡ is_of network.now event.now }
+{
+    match event {
+        Event::PktIn { s, a, b, i } => {
+            network.has(Sort::Sw, *s)
+                && (network.has(Sort::Ho, *a)
+                    && (network.has(Sort::Ho, *b) && network.has(Sort::Pr, *i)))
+        }
+        Event::PktFlow { s, a, b, i, o } => {
+            network.has(Sort::Sw, *s)
+                && (network.has(Sort::Ho, *a)
+                    && (network.has(Sort::Ho, *b)
+                        && (network.has(Sort::Pr, *i) && network.has(Sort::Pr, *o))))
+        }
+    }
+}
+
+fn is_enabled(state: &State, event: &Event) -> bool
+    ensures { result ≡ is_enabled_in (held state.now) event.now }
+{
+    match event {
+        Event::PktIn { .. } => true,
+        Event::PktFlow { s, a, b, i, o } => {
+            state.has(Pred::Ft, &Cells::of(&[*s, *a, *b, *i, *o]))
+        }
+    }
+}
+
+fn empty_tally(alloc: Global) -> Tally
+    ensures changed { result.changed ≡ [] }
+    ensures outs { result.outs ≡ [] }
+{
+    Tally {
+        changed: Items::new(alloc),
+        outs: Items::new(alloc),
+    }
+}
+
+fn happen(
+    alloc: Global,
+    setting: &Setting,
+    state: &mut State,
+    event: &Event,
+) -> Result<Tally, AllocError>
+    ensures done { IfOk result (λ tally. course state.new tally ≡ fired setting.now.program.now setting.now.network.now setting.now.sending event.now (from_state (held state.old))) }
+    ensures same { OnErr result (held state.new ≡ held state.old) }
+{
+    match event {
+        Event::PktIn { s, a, b, i } => handle(alloc, setting, state, *s, *a, *b, *i),
+        Event::PktFlow { s, a, b, i, o } => {
+            state.insert(Pred::Sent, &Cells::of(&[*s, *a, *b, *i, *o]))?;
+            Ok(empty_tally(alloc))
+        }
+    }
+}
+
+// The first handler whose port pattern fits.
+fn first_fit(handlers: &[Handler], i: u64) -> Option<&Handler>
+    ensures { option_copied result ≡ first_fit_of handlers.now i }
+{
+    let mut rest = handlers;
+    'handlers: while let [handler, more @ ..] = rest {
+        if fits(handler.port, i) {
+            return Some(handler);
+        }
+        rest = more;
+    }
+    None
+}
+
+fn fits(port: Option<u16>, i: u64) -> bool
+    ensures { result ≡ fits_in port i }
+{
+    match port {
+        None => true,
+        Some(k) => i == u64::from(k),
+    }
+}
+
+// Hands a packet to the handler that fits.
+fn handle(
+    alloc: Global,
+    setting: &Setting,
+    state: &mut State,
+    s: u64,
+    a: u64,
+    b: u64,
+    i: u64,
+) -> Result<Tally, AllocError>
+    ensures done { IfOk result (λ tally. course state.new tally ≡ handled setting.now.program.now setting.now.network.now setting.now.sending (first_fit_of setting.now.program.now.handlers i) s a b i (from_state (held state.old))) }
+    ensures same { OnErr result (held state.new ≡ held state.old) }
+{
+    match first_fit(setting.program.parts().handlers.as_slice(), i) {
+        None => Ok(empty_tally(alloc)),
+        Some(handler) => run(alloc, setting, state, handler, s, a, b, i),
+    }
+}
+
+// Executes a handler's body, its variables standing for the packet.
+fn run(
+    alloc: Global,
+    setting: &Setting,
+    state: &mut State,
+    handler: &Handler,
+    s: u64,
+    a: u64,
+    b: u64,
+    i: u64,
+) -> Result<Tally, AllocError>
+    requires { 4 + command_depth handler.now.body ≤ 24 }
+    ensures done { IfOk result (λ tally. course state.new tally ≡ executed setting.now.program.now setting.now.network.now setting.now.sending handler.now.body (for_packet handler.now s a b i) (from_state (held state.old))) }
+    ensures same { OnErr result (held state.new ≡ held state.old) }
+{
+    let mut env = Env::try_new(alloc, 24)?;
+    env.push(handler.s, s);
+    env.push(handler.a, a);
+    env.push(handler.b, b);
+    env.push(handler.i, i);
+    let mut undo = Undo::new(alloc);
+    let mut tally = empty_tally(alloc);
+    match execute(setting, state, &mut undo, &mut tally, &mut env, &handler.body) {
+        Ok(()) => Ok(tally),
+        Err(error) => {
+            undo.restore(state);
+            Err(error)
+        }
+    }
+}

@@ -1,0 +1,81 @@
+//! Where a command is executed.
+ghost use Rattle.std.specs.Prelude.{◌≡◌, ◌<◌, ◌≤◌, ◌+◌, length};
+ghost use Rattle.csdn_core.specs.Truth.{with_var};
+ghost use Rattle.csdn_core.specs.Execution.{is_true as is_true_in, tuple};
+ghost use Rattle.net_structs.specs.Binds.{assignment};
+ghost use Rattle.net_structs.specs.Depth.{depth};
+ghost use Rattle.net_structs.specs.Rows.{held};
+
+use csdn_core::event::Packet;
+use csdn_core::program::Program;
+use csdn_core::syntax::Formula;
+use csdn_core::terms::{Terms, VarId};
+use net_structs::cells::Cells;
+use net_structs::env::Env;
+use net_structs::network::Network;
+use net_structs::state::State;
+use net_structs::truth::truth;
+use net_structs::view::{View, values};
+
+/// Whether the packets sent are put into the state.
+#[derive(Clone, Copy, Debug, PartialEq, Eq)]
+pub enum Sending {
+    Kept,
+    Left,
+}
+
+/// What doesn't change while a handler is executed.
+#[derive(Drop)]
+pub struct Setting<'a> {
+    pub program: &'a Program,
+    pub network: &'a Network,
+    pub sending: Sending,
+}
+
+/// Whether a formula is true of the element that a variable stands for.
+pub fn is_true_of(
+    setting: &Setting,
+    state: &State,
+    env: &mut Env,
+    var: VarId,
+    element: u64,
+    formula: &Formula,
+) -> bool
+    requires { length env.old.pairs + (depth formula.now + 1) ≤ env.old.room }
+    ensures value { result ≡ is_true_in setting.now.program.now setting.now.network.now formula.now (with_var (assignment env.old.pairs) var element) (held state.now) }
+    ensures same { env.new ≡ env.old }
+{
+    env.push(var, element);
+    let is_true = is_true(setting, state, env, formula);
+    env.pop();
+    is_true
+}
+
+/// Whether a formula is true.
+pub fn is_true(setting: &Setting, state: &State, env: &mut Env, formula: &Formula) -> bool
+    requires { length env.old.pairs + depth formula.now ≤ env.old.room }
+    ensures value { result ≡ is_true_in setting.now.program.now setting.now.network.now formula.now (assignment env.old.pairs) (held state.now) }
+    ensures same { env.new ≡ env.old }
+{
+    truth(
+        setting.program,
+        setting.network,
+        state,
+        &Packet::Nothing,
+        env,
+        formula,
+    )
+}
+
+/// The tuple that a list of terms stands for.
+pub fn cells_of(setting: &Setting, state: &State, env: &Env, terms: &Terms) -> Cells
+    ensures { result ≡ tuple setting.now.program.now setting.now.network.now terms.now (assignment env.now.pairs) (held state.now) }
+{
+    let view = View {
+        program: setting.program,
+        network: setting.network,
+        state,
+        packet: &Packet::Nothing,
+    };
+    values(&view, env, terms.as_slice())
+}
