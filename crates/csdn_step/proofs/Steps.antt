@@ -31,8 +31,10 @@ min_either (suc m) (suc n) = step (min_either m n)
   where
     up_left : min m n ≡ m → min (suc m) (suc n) ≡ suc m
     up_left is = omega arith
+
     up_right : min m n ≡ n → min (suc m) (suc n) ≡ suc n
     up_right is = omega arith
+
     step : (min m n ≡ m) ⊎ (min m n ≡ n) → (min (suc m) (suc n) ≡ suc m) ⊎ (min (suc m) (suc n) ≡ suc n)
     step (inl is) = inl (up_left is)
     step (inr is) = inr (up_right is)
@@ -57,11 +59,14 @@ found_by test n m ms b passes rest found = by_test b passes found
   where
     later : least test ms ≡ Some m → IsFound test (n ∷ ms) m
     later is = let held : IsFound test ms m = rest is in (there ms n m held.0, held.1)
+
     here : test n ≡ true → n ≡ m → IsFound test (n ∷ ms) m
     here is same = subst (λ k. IsFound test (n ∷ ms) k) same ((zero, omega arith, refl), is)
+
     which : test n ≡ true → lesser n (least test ms) ≡ m → (lesser n (least test ms) ≡ n) ⊎ (least test ms ≡ Some (lesser n (least test ms))) → IsFound test (n ∷ ms) m
     which is is_m (inl mine) = here is (sym mine ∙ is_m)
     which is is_m (inr other) = later (other ∙ ap (λ (k : ℕ). Some k) is_m)
+
     by_test : (t : Bool) → test n ≡ t → (if t then Some (lesser n (least test ms)) else least test ms) ≡ Some m → IsFound test (n ∷ ms) m
     by_test true is it = let same : lesser n (least test ms) ≡ m = cc in which is same (lesser_is n (least test ms))
     by_test false is it = later it

@@ -86,6 +86,7 @@ notes-pushed rows new saved r copied cells none copy is x absent =
   where
     start : (y : State) → without rows y ≡ start_of (undo_of rows saved) y
     start y = sym (ap (λ s. without rows (saved_or s y)) none)
+
     pushed : (y : State) → start_of (undo_of new saved) y ≡ without rows (take_out y r cells)
     pushed y = ap (λ s. without new (saved_or s y)) none ∙ ap (λ n. without n y) is ∙ without-push rows (record { pred = r; cells = copied }) y ∙ ap (λ c. without rows (take_out y r c)) copy
 

@@ -229,7 +229,14 @@ fn run(
     env.push(handler.i, i);
     let mut undo = Undo::new(alloc);
     let mut tally = empty_tally(alloc);
-    match execute(setting, state, &mut undo, &mut tally, &mut env, &handler.body) {
+    match execute(
+        setting,
+        state,
+        &mut undo,
+        &mut tally,
+        &mut env,
+        &handler.body,
+    ) {
         Ok(()) => Ok(tally),
         Err(error) => {
             undo.restore(state);

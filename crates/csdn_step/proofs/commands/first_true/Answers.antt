@@ -12,7 +12,8 @@ returns-then-is_true_of-clause-first c =
     (sym (rw c.elements.invariant.0 at c.is_true_of.ensures.value) ∙ c.if-is_true_of.true) c.elements.invariant.1
 
 pub elements-preserved : goal.elements-preserved
-elements-preserved c =
-    (c.is_true_of.ensures.same ∙ c.elements.invariant.0,
-    first_later (λ m. is_true c.args.setting.now.program.now c.args.setting.now.network.now c.args.formula.now (with_var (assignment c.args.env.now.pairs) c.args.var m) (held c.args.state.now)) c.elements.rest.now _ c.in-len1-up.len_at_least
-    (sym (rw c.elements.invariant.0 at c.is_true_of.ensures.value) ∙ c.if-is_true_of.false) c.elements.invariant.1)
+elements-preserved c = (
+  c.is_true_of.ensures.same ∙ c.elements.invariant.0,
+  first_later (λ m. is_true c.args.setting.now.program.now c.args.setting.now.network.now c.args.formula.now (with_var (assignment c.args.env.now.pairs) c.args.var m) (held c.args.state.now)) c.elements.rest.now _ c.in-len1-up.len_at_least
+      (sym (rw c.elements.invariant.0 at c.is_true_of.ensures.value) ∙ c.if-is_true_of.false) c.elements.invariant.1,
+)
