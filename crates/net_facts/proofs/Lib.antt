@@ -4,3 +4,4 @@ pub mod LinesAgain
 pub mod ReadBack
 pub mod GivenLines
 pub mod GivenCases
+pub mod AcceptedOrder

@@ -3,4 +3,4 @@
 
 mod laws;
 
-pub use laws::{cases_read_back, texts_give_cases};
+pub use laws::{accepted_networks_are_in_order, cases_read_back, texts_give_cases};
