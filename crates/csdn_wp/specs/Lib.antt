@@ -1,0 +1,2 @@
+pub mod Preconditions
+pub mod EventPreconditions

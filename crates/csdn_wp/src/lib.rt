@@ -1,0 +1,2 @@
+//! Weakest preconditions of commands and events.
+#![tactic(auto)]
