@@ -2,3 +2,5 @@ pub mod Truths
 pub mod Bounds
 pub mod Sorting
 pub mod Sorted
+pub mod Coincidence
+pub mod Follows
