@@ -4,3 +4,4 @@ pub mod Sorting
 pub mod Sorted
 pub mod Coincidence
 pub mod Follows
+pub mod Exact
