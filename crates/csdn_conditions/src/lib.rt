@@ -4,3 +4,5 @@
 #![tactic(auto)]
 
 pub mod kinds;
+pub mod lists;
+pub mod start;
