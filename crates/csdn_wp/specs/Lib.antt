@@ -1,0 +1,3 @@
+pub mod Preconditions
+pub mod EventPreconditions
+pub mod Makes
