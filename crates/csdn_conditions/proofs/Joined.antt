@@ -1,5 +1,5 @@
 -- Lists of formulas, joined from the end.
-use Rattle.std.proofs.Common.{◌≡◌, ◌∙◌, ap, refl, List, [], ◌∷◌, ◌++◌, append_assoc}
+use Rattle.std.proofs.Common.{◌≡◌, ◌∙◌, sym, ap, subst, refl, List, [], ◌∷◌, ◌++◌, append_assoc}
 use Rattle.csdn_core.specs.declared.syntax.Formula.{Formula}
 use Rattle.csdn_conditions.specs.declared.lists.Join.{Join}
 use Rattle.csdn_conditions.specs.Lists.{joined, two_joined}
@@ -12,4 +12,5 @@ joined-last j (r ∷ s ∷ ps) p q = ap (two_joined j r) (joined-last j (s ∷ p
 -- the last two as one
 pub joined_before : (j : Join) (whole before rest : List Formula) (p q : Formula) → before ≡ rest ++ p ∷ [] → joined j (before ++ q ∷ []) ≡ joined j whole → joined j (rest ++ two_joined j p q ∷ []) ≡ joined j whole
 joined_before j whole before rest p q is so_far =
-    joined-last j rest p q ∙ (rw (← append_assoc rest (p ∷ []) (q ∷ [])) refl) ∙ ap (λ z. joined j (z ++ q ∷ [])) (rw is refl) ∙ so_far
+    joined-last j rest p q ∙ sym (ap (joined j) (append_assoc rest (p ∷ []) (q ∷ [])))
+    ∙ subst (λ (z : List Formula). joined j (z ++ q ∷ []) ≡ joined j whole) is so_far

@@ -44,11 +44,14 @@ holds_rows_under bs rows r = closed bs (equivalence (Atom r (terms_of bs)) (is_o
 abbrev pub holds_rows : List StartRow → Pred → List Sort → Formula
 holds_rows rows r sorts = holds_rows_under (binds_from 0 sorts) rows r
 
--- each `rel` from the k-th relation on
+-- what is said of the k-th relation, if it is a `rel`
+abbrev pub stored_at : List StartRow → ℕ → Relation → List Formula
+stored_at rows k r = if r.fixed then [] else (holds_rows rows (Stored (record { 0 = k })) r.sorts ∷ [])
+
+-- .. of each from the k-th on
 abbrev pub stored_from : List StartRow → ℕ → List Relation → List Formula
 stored_from rows k [] = []
-stored_from rows k (r ∷ rs) =
-    if r.fixed then stored_from rows (k + 1) rs else (holds_rows rows (Stored (record { 0 = k })) r.sorts ∷ stored_from rows (k + 1) rs)
+stored_from rows k (r ∷ rs) = stored_at rows k r ++ stored_from rows (k + 1) rs
 
 -- each `rel`, `ft` and `sent` holds exactly the initial tuples
 abbrev pub start : Parts → Formula

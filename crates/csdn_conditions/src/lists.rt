@@ -49,7 +49,7 @@ pub fn joined(alloc: Global, join: Join, formulas: Formulas) -> Result<Formula, 
         return Ok(join.none());
     };
     let mut made = last;
-    'before: while let Some(formula) = before.pop() {
+    'join: while let Some(formula) = before.pop() {
         made = join.two(alloc, formula, made)?;
     }
     Ok(made)

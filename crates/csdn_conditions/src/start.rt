@@ -1,11 +1,11 @@
 //! What is true in the initial state alone.
 #![tactic(auto)]
 
-ghost use Rattle.std.specs.Prelude.{◌≡◌, ◌≤◌, ◌+◌, IfOk, length, map, All};
+ghost use Rattle.std.specs.Prelude.{◌≡◌, ◌≤◌, ◌++◌, [], ◌∷◌, IfOk, OnOk, length, map, All};
 ghost use Rattle.csdn_core.specs.Network.{same_pred};
 ghost use Rattle.csdn_core.specs.declared.terms.Pred.TheVariants as preds;
 ghost use Rattle.fol_forms.specs.Replace.{same as same_of};
-ghost use Rattle.csdn_conditions.specs.Start.{binds_from, terms_of, rows_among, is_one_of as is_one_of_rows, holds_rows as holds_rows_of, holds_rows_under as holds_rows_under_of, stored_from, start as start_of};
+ghost use Rattle.csdn_conditions.specs.Start.{binds_from, terms_of, rows_among, is_one_of as is_one_of_rows, holds_rows as holds_rows_of, holds_rows_under as holds_rows_under_of, stored_at, stored_from, start as start_of};
 
 use crate::lists::{Formulas, Join, joined};
 use csdn_core::program::{Parts, Program, Relation, StartRow};
@@ -26,8 +26,8 @@ pub fn start(alloc: Global, program: &Program) -> Result<Formula, AllocError>
     let parts = program.parts();
     let rows = parts.start.as_slice();
     let mut members = stored(alloc, rows, parts.relations.as_slice())?;
-    members.push(holds_rows(alloc, rows, Pred::Ft, &FLOW_SORTS)?)?;
-    members.push(holds_rows(alloc, rows, Pred::Sent, &FLOW_SORTS)?)?;
+    push_rows(alloc, &mut members, rows, Pred::Ft, &FLOW_SORTS)?;
+    push_rows(alloc, &mut members, rows, Pred::Sent, &FLOW_SORTS)?;
     joined(alloc, Join::And, members)
 }
 
@@ -41,14 +41,41 @@ fn stored(alloc: Global, rows: &[StartRow], relations: &[Relation]) -> Result<Fo
     let mut place = 0;
     let mut rest = relations;
     'relations: while let [relation, more @ ..] = rest {
-        if !relation.fixed {
-            let pred = Pred::Stored(RelId(place));
-            members.push(holds_rows(alloc, rows, pred, relation.sorts.as_slice())?)?;
-        }
+        push_stored(alloc, &mut members, rows, place, relation)?;
         place += 1;
         rest = more;
     }
     Ok(members)
+}
+
+fn push_stored(
+    alloc: Global,
+    members: &mut Formulas,
+    rows: &[StartRow],
+    place: u32,
+    relation: &Relation,
+) -> Result<(), AllocError>
+    requires { length relation.now.sorts ≤ 5 }
+    ensures { OnOk result (members.new ≡ members.old ++ stored_at rows.now place relation.now) }
+{
+    if relation.fixed {
+        return Ok(());
+    }
+    let pred = Pred::Stored(RelId(place));
+    push_rows(alloc, members, rows, pred, relation.sorts.as_slice())
+}
+
+fn push_rows(
+    alloc: Global,
+    members: &mut Formulas,
+    rows: &[StartRow],
+    pred: Pred,
+    sorts: &[Sort],
+) -> Result<(), AllocError>
+    requires { length sorts.now ≤ 5 }
+    ensures { OnOk result (members.new ≡ members.old ++ holds_rows_of rows.now pred sorts.now ∷ []) }
+{
+    members.push(holds_rows(alloc, rows, pred, sorts)?)
 }
 
 // That a relation holds exactly its rows.
