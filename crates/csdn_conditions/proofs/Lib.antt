@@ -1,0 +1,4 @@
+mod Places
+mod KindLaws
+mod Joined
+mod StartMade

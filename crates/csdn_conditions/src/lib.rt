@@ -1,0 +1,8 @@
+//! The conditions of a program: what has to be valid for the program to be inductive at a level.
+//!
+//! `specs/` says what each condition is; [`condition`](condition::condition) makes one of them.
+#![tactic(auto)]
+
+pub mod kinds;
+pub mod lists;
+pub mod start;
