@@ -109,3 +109,10 @@ module _ (told : List ℕ → Told) (before after before' after' : ℕ) (eases :
   trace_eased name net journal text status out =
       program_eased name (λ P. WithCase old P net (λ kase. WithNotes old journal (NotesOutput P kase))) (λ P. WithCase new P net (λ kase. WithNotes new journal (NotesOutput P kase))) text status
       (λ P said. traced_eased P net journal text status said) out
+
+-- what a file's bytes are hangs on no count
+pub program_kept : (told : List ℕ → Told) (before after before' after' : ℕ) (name : List ℕ) (P : Parts) → IsProgram (counted told before after) name P → IsProgram (counted told before' after') name P
+program_kept told before after before' after' name P is = record { bytes = is.bytes; held = record { may = is.held.may; within = is.held.within }; spells = is.spells }
+
+pub case_kept : (told : List ℕ → Told) (before after before' after' : ℕ) (P : Parts) (name : List ℕ) (kase : Case) → IsCase (counted told before after) P name kase → IsCase (counted told before' after') P name kase
+case_kept told before after before' after' P name kase is = record { bytes = is.bytes; held = record { may = is.held.may; within = is.held.within }; reads = is.reads }

@@ -108,6 +108,5 @@ pub fn check_call<F: Files, S: Sink>(
 
 #[cfg(test)]
 mod tests;
-
 #[cfg(test)]
 mod trace_tests;

@@ -46,12 +46,7 @@ const A_RULE: &[u8] =
     b"vericon-net 1\nsw 1\nho 1 2\npr 1 2\nstate\nft 1 2 1 2 1\npacket 1 1 2 1\nend\n";
 
 /// What `trace` prints of a program, a network and notes, and its status.
-fn traced(
-    alloc: Global,
-    program: &[u8],
-    net: &[u8],
-    notes: &[u8],
-) -> Result<(Vec<u8>, u8), Fail> {
+fn traced(alloc: Global, program: &[u8], net: &[u8], notes: &[u8]) -> Result<(Vec<u8>, u8), Fail> {
     let mut journal = b"vericon-journal 1\n".to_vec(alloc)?;
     journal.extend_from_slice(notes)?;
     journal.extend_from_slice(b"end\n")?;
