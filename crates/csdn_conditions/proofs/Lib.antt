@@ -2,3 +2,4 @@ mod Places
 mod KindLaws
 mod Joined
 mod StartMade
+mod ClassLaws

@@ -1,3 +1,6 @@
 pub mod Kinds
 pub mod Lists
 pub mod Start
+pub mod Conditions
+pub mod Answers
+pub mod Classes
