@@ -1,3 +1,4 @@
 pub mod Preconditions
 pub mod EventPreconditions
 pub mod Makes
+pub mod SortedIn
