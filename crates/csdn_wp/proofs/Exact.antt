@@ -24,16 +24,16 @@ use Rattle.csdn_core.specs.Tree.{negation, conjunction, disjunction, implication
 use Rattle.csdn_core.specs.Truth.{Structure, Assignment, truth, values, with_var}
 use Rattle.csdn_core.specs.Network.{Network, State, IsNetwork, structure, elements, same_pred, same_cells, is_fixed, holds_in, is_static_row}
 use Rattle.csdn_core.specs.Execution.{Executes, put, take_out, flooded, is_flood, tuple}
-use Rattle.csdn_core.specs.Variables.{Variables, vars_of, BindsOutside, free_in}
+use Rattle.csdn_core.specs.Variables.{vars_of, BindsOutside, free_in}
 use Rattle.csdn_core.specs.Sorted.{sorts_of, flow_sorts, packet_sorts, bound_in}
 use Rattle.csdn_core.specs.WellSorted.{signature, command_bound_in}
 use Rattle.fol_forms.specs.Replace.{add_row, drop_row, add_flood}
-use Rattle.fol_forms.specs.Substitution.{Scope, no_scope, with_sort, KeepsSorts, IsPort, HasEgress, SendsToPorts, with_relations, with_row, without_row, with_flood, AllAtoms, AllFit, FitsRow}
+use Rattle.fol_forms.specs.Substitution.{Scope, no_scope, with_sort, KeepsSorts, IsPort, HasEgress, SendsToPorts, with_relations, AllAtoms, FitsRow}
 use Rattle.fol_forms.proofs.Replaced.{truth-add_row, truth-drop_row, KeepsSorts-with}
 use Rattle.fol_forms.proofs.Flooded.{truth-add_flood}
 use Rattle.csdn_wp.specs.Preconditions.{wp}
 use Rattle.csdn_wp.specs.After.{stands_in}
-use Rattle.csdn_wp.specs.SortedIn.{Relations, no_packet, HasSortIn, HaveSortsIn, IsAtomIn, IsSortedIn}
+use Rattle.csdn_wp.specs.SortedIn.{Relations, no_packet, HasSortIn, HaveSortsIn, IsSortedIn}
 use Rattle.csdn_wp.proofs.Truths.{all_at, all_from, none_at, none_from, when_true, when_false, both_ways, implied, implies, both_true, first_true, second_true, unless_any, or_any}
 use Rattle.csdn_wp.proofs.Coincidence.{truth-Agrees}
 use Rattle.csdn_wp.proofs.Sorting.{HaveSortsIn-length, not_free}

@@ -1,5 +1,5 @@
 -- What a command and the formula after it meet, where the precondition is exact.
-use Rattle.std.proofs.Common.{◌≡◌, ◌⊎◌, inl, inr, ℕ, ◌==◌, Bool, true, false, ◌||◌, cond, List, [], ◌∷◌, ◌++◌, Option, Some, None, refl, ap, sym, subst, ◌∙◌, IsTrue, IsFalse, Contains, arith, true≢false}
+use Rattle.std.proofs.Common.{◌≡◌, inl, inr, ℕ, ◌==◌, Bool, true, false, ◌||◌, cond, List, ◌∷◌, ◌++◌, Some, None, refl, ap, sym, subst, ◌∙◌, IsFalse, arith}
 use Rattle.csdn_core.specs.declared.terms.VarId.{VarId}
 use Rattle.csdn_core.specs.declared.terms.Sort.{Sort}
 use Rattle.csdn_core.specs.declared.terms.Term.{Term}
@@ -16,7 +16,7 @@ use Rattle.csdn_core.specs.Sorted.{bound_in, flow_sorts, packet_sorts}
 use Rattle.csdn_core.specs.WellSorted.{signature, command_bound_in}
 use Rattle.decision_laws.specs.Vocabulary.{IsIn}
 use Rattle.decision_laws.specs.Clauses.{AreDistinct}
-use Rattle.decision_laws.proofs.Lists.{in_left, in_right, in_both}
+use Rattle.decision_laws.proofs.Lists.{in_left, in_right}
 use Rattle.fol_forms.specs.Substitution.{Scope, with_sort}
 use Rattle.csdn_wp.specs.After.{stands_in}
 use Rattle.csdn_wp.specs.Preconditions.{wp}

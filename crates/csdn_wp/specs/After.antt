@@ -1,10 +1,13 @@
 -- What a formula meets to stand after a command.
-use Rattle.std.specs.Prelude.{◌≡◌, ◌≢◌, ℕ, ◌||◌, false, List, [], ◌∷◌, ◌++◌, map, AllPairs, IsTrue}
+use Rattle.std.specs.Prelude.{◌≡◌, ◌≢◌, ℕ, ◌||◌, false, List, [], ◌∷◌, ◌++◌, map, AllPairs, IsTrue, Some, Contains}
 use Rattle.csdn_core.specs.declared.program.Parts.{Parts}
 use Rattle.csdn_core.specs.declared.syntax.Formula.{Formula}
 use Rattle.csdn_core.specs.declared.syntax.Command.{Command}
 use Rattle.csdn_core.specs.declared.syntax.Command.TheVariants.{Skip, Insert, Remove, Install, Forward, Flood}
 use Rattle.csdn_core.specs.Tree.{sequence, conditional, choice}
+use Rattle.csdn_core.specs.declared.terms.Sort.{Sort}
+use Rattle.csdn_core.specs.Truth.{Assignment}
+use Rattle.csdn_core.specs.Network.{Network, elements}
 use Rattle.csdn_core.specs.Variables.{Variables, vars_of, free_in}
 use Rattle.csdn_core.specs.Sorted.{Bind, bound_in}
 use Rattle.csdn_core.specs.WellSorted.{OwnPacket, IsCommand, signature, command_bound_in}
@@ -42,3 +45,7 @@ pub record MayPrecede (P : Parts) (Γ : List Bind) (c : Command) (q : Formula) :
   -- no variable of the command is bound in the formula
   pub stands_outside : (n : ℕ) → IsIn n (bound_in q) → IsTrue (stands_in c n) → ⊥
   pub bound_outside : (n : ℕ) → IsIn n (bound_in q) → IsIn n (command_bound_in c) → ⊥
+
+-- each of these variables has an element of its sort
+abbrev pub HaveElements : Network → List Bind → Assignment → Type 0
+HaveElements N bs e = (v : ℕ) (s : Sort) → scope_of bs v ≡ Some s → Contains (elements N s) (e v)
