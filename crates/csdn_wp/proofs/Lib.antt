@@ -5,3 +5,4 @@ pub mod Sorted
 pub mod Coincidence
 pub mod Follows
 pub mod Exact
+pub mod Scopes

@@ -2,3 +2,4 @@ pub mod Preconditions
 pub mod EventPreconditions
 pub mod Makes
 pub mod SortedIn
+pub mod After

@@ -5,3 +5,4 @@
 #![tactic(auto)]
 
 pub mod events;
+pub mod laws;
