@@ -1,5 +1,6 @@
 mod Places
 mod KindLaws
 mod Joined
+mod Growth
 mod StartMade
 mod ClassLaws

@@ -1,5 +1,6 @@
 -- Answers of calls that make conditions.
-use Rattle.std.specs.Prelude.{◌≡◌, ℕ, ◌<◌, ◌≤◌, Result, Ok, Err, Some, slice_get}
+use Rattle.std.specs.Prelude.{◌≡◌, ℕ, ◌+◌, ◌<◌, ◌≤◌, List, Result, Ok, Err, Some, slice_get}
+use Rattle.std.specs.List.{sum_by}
 use Rattle.csdn_core.specs.declared.program.Parts.{Parts}
 use Rattle.csdn_core.specs.declared.syntax.Formula.{Formula}
 use Rattle.csdn_core.specs.Nodes.{nodes}
@@ -21,8 +22,12 @@ pub record OfCondition (P : Parts) (n i : ℕ) (Fact : Condition → Type 0) : T
   pub there : slice_get (conditions P n) i ≡ Some condition
   pub holds : Fact condition
 
--- the formula; or `Large`, and it has more nodes than a sentence may have; or want of memory
-abbrev pub Yields : Formula → Result Formula FormRefusal → Type 0
-Yields p (Ok made) = made ≡ p
-Yields p (Err Large) = most_nodes < nodes p
-Yields p (Err Memory) = Unit {0}
+-- the nodes of formulas, with one for each that joins it to the others
+abbrev pub nodes_of_all : List Formula → ℕ
+nodes_of_all ps = sum_by (λ p. nodes p + 1) ps
+
+-- what of the room the formulas leave, and `Large` where they have more nodes; or want of memory
+abbrev pub Leaves : ℕ → List Formula → Result ℕ FormRefusal → Type 0
+Leaves room ps (Ok left) = left + nodes_of_all ps ≡ room
+Leaves room ps (Err Large) = room < nodes_of_all ps
+Leaves room ps (Err Memory) = Unit {0}

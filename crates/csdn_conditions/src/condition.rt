@@ -2,16 +2,25 @@
 #![tactic(auto)]
 
 ghost use Rattle.std.specs.Prelude.{◌≡◌, ◌<◌, ◌≤◌, length};
-ghost use Rattle.csdn_conditions.specs.Kinds.{kinds};
+ghost use Rattle.fol_forms.specs.Limits.{most_nodes};
+ghost use Rattle.csdn_wp.specs.Makes.{Makes};
+ghost use Rattle.csdn_conditions.specs.Kinds.{kinds, IsWithin};
+ghost use Rattle.csdn_conditions.specs.Start.{start as start_of};
+ghost use Rattle.csdn_conditions.specs.Conditions.{hypothesis as hypothesis_of, conclusion as conclusion_of};
 ghost use Rattle.csdn_conditions.specs.Answers.{Answers, OfCondition};
 
-use crate::kinds::condition_kind;
+use crate::after::{after_event, after_events, all_after, both};
+use crate::kinds::{CondKind, condition_kind};
 use crate::sentence::Condition;
+use crate::start::start;
 use csdn_core::program::Program;
-use fol_forms::refusal::FormRefusal;
+use csdn_core::syntax::Formula;
+use fol_forms::count::{node_count, sum};
+use fol_forms::refusal::{FormRefusal, MOST_NODES};
 use std::alloc::Global;
 
-/// The condition of this number. `Large` exactly where its sentence has more than 1,048,576 nodes.
+/// The condition of this number. `Large` exactly where its sentence has more than 1,048,576 nodes; no part of it that has
+/// more is made.
 pub fn condition(
     alloc: Global,
     program: &Program,
@@ -22,6 +31,80 @@ pub fn condition(
     requires index { index < length (kinds program.now level) }
     ensures { OfCondition program.now level index (λ c. Answers c result) }
 {
-    let _kind = condition_kind(program, level, index);
-    Err(FormRefusal::Memory)
+    let kind = condition_kind(program, level, index);
+    let hypothesis = hypothesis(alloc, program, level, kind)?;
+    let goal = conclusion(alloc, program, level, kind)?;
+    let nodes = sum(node_count(&hypothesis), node_count(&goal));
+    if sum(nodes, 2) > MOST_NODES {
+        return Err(FormRefusal::Large);
+    }
+    Ok(Condition {
+        kind,
+        hypothesis,
+        goal,
+    })
+}
+
+fn hypothesis(
+    alloc: Global,
+    program: &Program,
+    level: u8,
+    kind: CondKind,
+) -> Result<Formula, FormRefusal>
+    requires { level ≤ 9 }
+    ensures { Makes most_nodes (hypothesis_of program.now level kind) result }
+{
+    let parts = program.parts();
+    let topology = all_after(alloc, program, 0, parts.topology.as_slice())?;
+    match kind {
+        CondKind::Network => Ok(topology),
+        CondKind::Init { k: _, v: _ } => {
+            let start = small_start(alloc, program)?;
+            both(alloc, topology, start)
+        }
+        CondKind::Step { v: _, event: _ } | CondKind::Trans { t: _, event: _ } => {
+            let safe = all_after(alloc, program, level, parts.safety.as_slice())?;
+            both(alloc, topology, safe)
+        }
+    }
+}
+
+fn small_start(alloc: Global, program: &Program) -> Result<Formula, FormRefusal>
+    ensures { Makes most_nodes (start_of program.now) result }
+{
+    match start(alloc, program) {
+        Ok(start) => {
+            if node_count(&start) > MOST_NODES {
+                Err(FormRefusal::Large)
+            } else {
+                Ok(start)
+            }
+        }
+        Err(_) => Err(FormRefusal::Memory),
+    }
+}
+
+fn conclusion(
+    alloc: Global,
+    program: &Program,
+    level: u8,
+    kind: CondKind,
+) -> Result<Formula, FormRefusal>
+    requires { IsWithin level (length program.now.safety) (length program.now.trans) kind }
+    ensures { Makes most_nodes (conclusion_of program.now level kind) result }
+{
+    let parts = program.parts();
+    let safety = parts.safety.as_slice();
+    let trans = parts.trans.as_slice();
+    match kind {
+        CondKind::Network => Ok(Formula::False),
+        CondKind::Init { k, v } => after_events(alloc, program, k, &safety[v as usize].formula),
+        CondKind::Step { v, event } => {
+            let formula = after_events(alloc, program, level, &safety[v as usize].formula)?;
+            after_event(alloc, program, event, &formula)
+        }
+        CondKind::Trans { t, event } => {
+            after_event(alloc, program, event, &trans[t as usize].formula)
+        }
+    }
 }

@@ -3,6 +3,7 @@
 //! `specs/` says what each condition is; [`condition`](condition::condition) makes one of them.
 #![tactic(auto)]
 
+pub mod after;
 pub mod class;
 pub mod condition;
 pub mod kinds;

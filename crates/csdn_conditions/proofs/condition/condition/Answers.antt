@@ -11,6 +11,6 @@ returns c =
       condition = condition c.args.program.now c.args.level c.condition_kind-kind.result;
       there =
           slice_get-map (condition c.args.program.now c.args.level) (kinds c.args.program.now c.args.level) c.args.index
-          ∙ ap (option_map (condition c.args.program.now c.args.level)) c.condition_kind-kind.ensures;
+          ∙ ap (option_map (condition c.args.program.now c.args.level)) c.condition_kind-kind.ensures.there;
       holds = tt;
     }

@@ -1,0 +1,107 @@
+-- A precondition has at least as many nodes as the formula.
+use Rattle.std.proofs.Common.{◌≡◌, ◌∙◌, sym, ap, refl, ℕ, zero, suc, ◌+◌, ◌<◌, ◌≤◌, Bool, true, false, List, [], ◌∷◌, ◌++◌, if◌then◌else◌, Option, Some, None, Result, Ok, Err, arith}
+use Rattle.csdn_core.specs.declared.terms.Term.{Term}
+use Rattle.csdn_core.specs.declared.terms.Pred.{Pred}
+use Rattle.csdn_core.specs.declared.terms.Pred.TheVariants.{Stored, Ft, Sent, RcvThis}
+use Rattle.csdn_core.specs.declared.syntax.Formula.{Formula}
+use Rattle.csdn_core.specs.declared.syntax.Formula.TheVariants as f
+use Rattle.csdn_core.specs.declared.syntax.Command.{Command}
+use Rattle.csdn_core.specs.declared.syntax.Command.TheVariants as c
+use Rattle.csdn_core.specs.declared.program.Parts.{Parts}
+use Rattle.csdn_core.specs.declared.program.Handler.{Handler}
+use Rattle.csdn_core.specs.Tree.{negation, conjunction, disjunction, implication, equivalence, universal, existential, sequence, conditional, choice}
+use Rattle.csdn_core.specs.Network.{same_pred}
+use Rattle.csdn_core.specs.Nodes.{nodes}
+use Rattle.csdn_core.specs.Sorted.{most_numbers}
+use Rattle.fol_forms.specs.declared.refusal.FormRefusal.{FormRefusal}
+use Rattle.fol_forms.specs.declared.refusal.FormRefusal.TheVariants.{Large, Memory}
+use Rattle.fol_forms.specs.Replace.{replace, same, or_row, not_row, or_flood, is_row, floods, add_row, drop_row, add_flood, fix_packet}
+use Rattle.fol_forms.specs.Renumber.{renumber}
+use Rattle.fol_forms.proofs.Numbered.{nodes-renumbered}
+use Rattle.csdn_wp.specs.Preconditions.{wp}
+use Rattle.csdn_wp.specs.EventPreconditions.{PacketVars, terms_of, handler_vars, first_vars, for_packets, guard, guarded, member, and_later, members, wp_in, flow_terms, wp_flow}
+use Rattle.csdn_wp.specs.Makes.{Makes}
+
+pub some_nodes : (p : Formula) → 0 < nodes p
+unfolding nodes
+some_nodes f.True = omega arith
+some_nodes f.False = omega arith
+some_nodes (f.Atom r ts) = omega arith
+some_nodes (f.Same t u) = omega arith
+some_nodes (negation p) = omega arith
+some_nodes (conjunction p q) = omega arith
+some_nodes (disjunction p q) = omega arith
+some_nodes (implication p q) = omega arith
+some_nodes (equivalence p q) = omega arith
+some_nodes (universal v s p) = omega arith
+some_nodes (existential v s p) = omega arith
+
+pub grows-replace : (g : Pred → List Term → Formula) (p : Formula) → nodes p ≤ nodes (replace g p)
+unfolding nodes replace
+grows-replace g f.True = omega arith
+grows-replace g f.False = omega arith
+grows-replace g (f.Atom r ts) = let some = some_nodes (g r ts) in omega (arith, some)
+grows-replace g (f.Same t u) = omega arith
+grows-replace g (negation p) = omega (arith, grows-replace g p)
+grows-replace g (conjunction p q) = omega (arith, grows-replace g p, grows-replace g q)
+grows-replace g (disjunction p q) = omega (arith, grows-replace g p, grows-replace g q)
+grows-replace g (implication p q) = omega (arith, grows-replace g p, grows-replace g q)
+grows-replace g (equivalence p q) = omega (arith, grows-replace g p, grows-replace g q)
+grows-replace g (universal v s p) = omega (arith, grows-replace g p)
+grows-replace g (existential v s p) = omega (arith, grows-replace g p)
+
+pub grows-wp : (a : Command) (q : Formula) → nodes q ≤ nodes (wp a q)
+unfolding nodes wp
+grows-wp c.Skip q = omega arith
+grows-wp (sequence a b) q = omega (arith, grows-wp b q, grows-wp a (wp b q))
+grows-wp (conditional p a b) q = omega (arith, grows-wp a q)
+grows-wp (choice v s p a b) q = omega (arith, grows-wp a q)
+grows-wp (c.Insert r ts) q = grows-replace (or_row (Stored r) ts) q
+grows-wp (c.Remove r ts) q = grows-replace (not_row (Stored r) ts) q
+grows-wp (c.Install ts) q = grows-replace (or_row Ft ts) q
+grows-wp (c.Forward ts) q = grows-replace (or_row Sent ts) q
+grows-wp (c.Flood ts) q = grows-replace (or_flood ts) q
+
+grows-guarded : (g : Option Formula) (p : Formula) → nodes p ≤ nodes (guarded g p)
+unfolding nodes
+grows-guarded None p = omega arith
+grows-guarded (Some g) p = omega arith
+
+grows-for_packets : (v : PacketVars) (p : Formula) → nodes p ≤ nodes (for_packets v p)
+unfolding nodes
+grows-for_packets v p = omega arith
+
+grows-member : (earlier : List ℕ) (v : PacketVars) (port : Option ℕ) (body : Command) (q : Formula) → nodes q ≤ nodes (member earlier v port body q)
+grows-member earlier v port body q =
+    let fixed : Formula = fix_packet q (terms_of v) in
+    let inner : Formula = guarded (guard earlier port v.i) (wp body fixed) in
+    omega (arith, grows-replace (is_row (terms_of v)) q, grows-wp body fixed, grows-guarded (guard earlier port v.i) (wp body fixed), grows-for_packets v inner)
+
+grows-and_later : (port : Option ℕ) (earlier : List ℕ) (p : Formula) (later : List ℕ → Formula) → nodes p ≤ nodes (and_later port earlier p later)
+unfolding nodes
+grows-and_later None earlier p later = omega arith
+grows-and_later (Some k) earlier p later = omega arith
+
+grows-members : (hs : List Handler) (earlier : List ℕ) (q : Formula) → nodes q ≤ nodes (members hs earlier q)
+grows-members [] earlier q = grows-member earlier first_vars None c.Skip q
+grows-members (h ∷ hs) earlier q =
+    let own = grows-member earlier (handler_vars h) h.port h.body q in
+    let more = grows-and_later h.port earlier (member earlier (handler_vars h) h.port h.body q) (λ ks. members hs ks q) in
+    omega (arith, own, more)
+
+pub grows-in : (P : Parts) (q : Formula) → nodes q ≤ nodes (wp_in P q)
+grows-in P q =
+    let same : nodes (renumber q most_numbers) ≡ nodes q = nodes-renumbered q (λ v. v) most_numbers in
+    omega (arith, same, grows-members P.handlers [] (renumber q most_numbers))
+
+pub grows-flow : (q : Formula) → nodes q ≤ nodes (wp_flow q)
+unfolding nodes
+grows-flow q =
+    let same : nodes (renumber q 5) ≡ nodes q = nodes-renumbered q (λ v. v) 5 in
+    let fixed : Formula = fix_packet (renumber q 5) (terms_of first_vars) in
+    omega (arith, same, grows-replace (is_row (terms_of first_vars)) (renumber q 5), grows-replace (or_row Sent flow_terms) fixed)
+
+-- what a part is refused for, the whole is
+pub refused_too : (most : ℕ) (p q : Formula) (e : FormRefusal) → nodes p ≤ nodes q → Makes most p (Err e) → Makes most q (Err e)
+refused_too most p q Large fewer more = omega (arith, fewer, more)
+refused_too most p q Memory fewer more = tt
