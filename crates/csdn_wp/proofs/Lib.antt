@@ -6,3 +6,4 @@ pub mod Coincidence
 pub mod Follows
 pub mod Exact
 pub mod Scopes
+pub mod Making

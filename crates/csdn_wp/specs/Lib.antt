@@ -3,3 +3,4 @@ pub mod EventPreconditions
 pub mod Makes
 pub mod SortedIn
 pub mod After
+pub mod CommandSteps
