@@ -26,8 +26,8 @@ pub record OfCondition (P : Parts) (n i : ℕ) (Fact : Condition → Type 0) : T
 abbrev pub nodes_of_all : List Formula → ℕ
 nodes_of_all ps = sum_by (λ p. nodes p + 1) ps
 
--- what of the room the formulas leave, and `Large` where they have more nodes; or want of memory
-abbrev pub Leaves : ℕ → List Formula → Result ℕ FormRefusal → Type 0
-Leaves room ps (Ok left) = left + nodes_of_all ps ≡ room
-Leaves room ps (Err Large) = room < nodes_of_all ps
-Leaves room ps (Err Memory) = Unit {0}
+-- what the formulas leave of the room, and `Large` where they have more nodes; or want of memory
+abbrev pub TakesRoom : ℕ → List Formula → Result ℕ FormRefusal → Type 0
+TakesRoom room ps (Ok left) = left + nodes_of_all ps ≡ room
+TakesRoom room ps (Err Large) = room < nodes_of_all ps
+TakesRoom room ps (Err Memory) = Unit {0}

@@ -1,20 +1,21 @@
 //! What is true where a formula is true after events.
 #![tactic(auto)]
 
-ghost use Rattle.std.specs.Prelude.{◌≡◌, ◌≤◌, ◌++◌, [], ◌∷◌, OnOk, map};
-ghost use Rattle.csdn_core.specs.Tree.{conjunction};
+ghost use Rattle.std.specs.Prelude.{◌≡◌, ◌≤◌, ◌+◌, ◌++◌, [], ◌∷◌, OnOk, map};
+ghost use Rattle.csdn_core.specs.Tree.{conjunction as conjunction_of_two};
 ghost use Rattle.fol_forms.specs.Limits.{most_nodes};
 ghost use Rattle.csdn_wp.specs.Makes.{Makes};
 ghost use Rattle.csdn_conditions.specs.Lists.{conjunction_of};
 ghost use Rattle.csdn_conditions.specs.Conditions.{formulas, after_event as after_event_of, after_events as after_events_of, all_after as all_after_of};
-ghost use Rattle.csdn_conditions.specs.Answers.{Leaves};
+ghost use Rattle.csdn_conditions.specs.Answers.{TakesRoom};
 
 use crate::kinds::EventKind;
 use crate::lists::{Formulas, Join, joined};
 use csdn_core::program::{Invariant, Program};
 use csdn_core::syntax::Formula;
+use csdn_wp::build::{conjunction, copied, fitting};
 use csdn_wp::events::{wp_flow, wp_in};
-use fol_forms::count::{node_count, sum_and_one};
+use fol_forms::count::node_count;
 use fol_forms::refusal::{FormRefusal, MOST_NODES, or_memory};
 use std::alloc::{AllocError, Global};
 
@@ -69,17 +70,15 @@ fn copy_of(alloc: Global, formula: &Formula) -> Result<Formula, FormRefusal>
     if node_count(formula) > MOST_NODES {
         return Err(FormRefusal::Large);
     }
-    or_memory(formula.copy(alloc))
+    copied(alloc, formula)
 }
 
 /// The conjunction of two formulas. `Large` exactly where it has more than 1,048,576 nodes.
+#[tactic(auto, using(csdn_core::specs::Tree::shapes))]
 pub fn both(alloc: Global, p: Formula, q: Formula) -> Result<Formula, FormRefusal>
-    ensures { Makes most_nodes (conjunction p q) result }
+    ensures { Makes most_nodes (conjunction_of_two p q) result }
 {
-    if sum_and_one(node_count(&p), node_count(&q)) > MOST_NODES {
-        return Err(FormRefusal::Large);
-    }
-    or_memory(Join::And.two(alloc, p, q))
+    fitting(conjunction(alloc, p, q)?, MOST_NODES)
 }
 
 /// The conjunction of the invariants' formulas after no event, after one, and so on to so many events.
@@ -109,7 +108,7 @@ fn push_all(
     requires level { level ≤ 9 }
     requires room { room ≤ most_nodes + 1 }
     ensures added { OnOk result (members.new ≡ members.old ++ all_after_of program.now level (formulas invariants.now)) }
-    ensures left { Leaves room (all_after_of program.now level (formulas invariants.now)) result }
+    ensures left { TakesRoom room (all_after_of program.now level (formulas invariants.now)) result }
 {
     let mut left = room;
     let mut count = 0;
@@ -131,7 +130,7 @@ fn push_each(
 ) -> Result<u64, FormRefusal>
     requires { room ≤ most_nodes + 1 }
     ensures added { OnOk result (members.new ≡ members.old ++ map (after_events_of program.now count) (formulas invariants.now)) }
-    ensures left { Leaves room (map (after_events_of program.now count) (formulas invariants.now)) result }
+    ensures left { TakesRoom room (map (after_events_of program.now count) (formulas invariants.now)) result }
 {
     let mut left = room;
     let mut rest = invariants;
@@ -152,7 +151,7 @@ fn push_one(
 ) -> Result<u64, FormRefusal>
     requires { room ≤ most_nodes + 1 }
     ensures added { OnOk result (members.new ≡ members.old ++ after_events_of program.now count formula.now ∷ []) }
-    ensures left { Leaves room (after_events_of program.now count formula.now ∷ []) result }
+    ensures left { TakesRoom room (after_events_of program.now count formula.now ∷ []) result }
 {
     let made = after_events(alloc, program, count, formula)?;
     let nodes = node_count(&made);

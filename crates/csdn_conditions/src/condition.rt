@@ -15,8 +15,9 @@ use crate::sentence::Condition;
 use crate::start::start;
 use csdn_core::program::Program;
 use csdn_core::syntax::Formula;
+use csdn_wp::build::fitting;
 use fol_forms::count::{node_count, sum};
-use fol_forms::refusal::{FormRefusal, MOST_NODES};
+use fol_forms::refusal::{FormRefusal, MOST_NODES, or_memory};
 use std::alloc::Global;
 
 /// The condition of this number. `Large` exactly where its sentence has more than 1,048,576 nodes; no part of it that has
@@ -72,16 +73,7 @@ fn hypothesis(
 fn small_start(alloc: Global, program: &Program) -> Result<Formula, FormRefusal>
     ensures { Makes most_nodes (start_of program.now) result }
 {
-    match start(alloc, program) {
-        Ok(start) => {
-            if node_count(&start) > MOST_NODES {
-                Err(FormRefusal::Large)
-            } else {
-                Ok(start)
-            }
-        }
-        Err(_) => Err(FormRefusal::Memory),
-    }
+    fitting(or_memory(start(alloc, program))?, MOST_NODES)
 }
 
 fn conclusion(

@@ -4,6 +4,6 @@
 //! where the formula is true.
 #![tactic(auto)]
 
-mod build;
+pub mod build;
 pub mod events;
 pub mod laws;
