@@ -1,5 +1,5 @@
 -- A precondition has at least as many nodes as the formula.
-use Rattle.std.proofs.Common.{◌≡◌, ◌∙◌, sym, ap, refl, ℕ, zero, suc, ◌+◌, ◌<◌, ◌≤◌, Bool, true, false, List, [], ◌∷◌, ◌++◌, if◌then◌else◌, Option, Some, None, Result, Ok, Err, arith}
+use Rattle.std.proofs.Common.{◌≡◌, ◌≢◌, ◌∙◌, sym, ap, subst, refl, ℕ, zero, suc, ◌+◌, ◌-◌, ◌<◌, ◌≤◌, Bool, true, false, List, [], ◌∷◌, ◌++◌, if◌then◌else◌, Option, Some, None, Result, Ok, Err, IsErrAnd, arith}
 use Rattle.csdn_core.specs.declared.terms.Term.{Term}
 use Rattle.csdn_core.specs.declared.terms.Pred.{Pred}
 use Rattle.csdn_core.specs.declared.terms.Pred.TheVariants.{Stored, Ft, Sent, RcvThis}
@@ -20,7 +20,8 @@ use Rattle.fol_forms.specs.Renumber.{renumber}
 use Rattle.fol_forms.proofs.Numbered.{nodes-renumbered}
 use Rattle.csdn_wp.specs.Preconditions.{wp}
 use Rattle.csdn_wp.specs.EventPreconditions.{PacketVars, terms_of, handler_vars, first_vars, for_packets, guard, guarded, member, and_later, members, wp_in, flow_terms, wp_flow}
-use Rattle.csdn_wp.specs.Makes.{Makes}
+use Rattle.csdn_wp.specs.Makes.{Makes, Gives}
+use Rattle.csdn_conditions.specs.Conditions.{after_events}
 
 pub some_nodes : (p : Formula) → 0 < nodes p
 unfolding nodes
@@ -102,6 +103,35 @@ grows-flow q =
     omega (arith, same, grows-replace (is_row (terms_of first_vars)) (renumber q 5), grows-replace (or_row Sent flow_terms) fixed)
 
 -- what a part is refused for, the whole is
-pub refused_too : (most : ℕ) (p q : Formula) (e : FormRefusal) → nodes p ≤ nodes q → Makes most p (Err e) → Makes most q (Err e)
+refused_too : (most : ℕ) (p q : Formula) (e : FormRefusal) → nodes p ≤ nodes q → Makes most p (Err e) → Makes most q (Err e)
 refused_too most p q Large fewer more = omega (arith, fewer, more)
 refused_too most p q Memory fewer more = tt
+
+pub refused_by_part : (most : ℕ) (p q : Formula) (e : FormRefusal) (result : Result Formula FormRefusal) → nodes p ≤ nodes q → Makes most p (Err e) → IsErrAnd result (λ d. d ≡ e) → Makes most q result
+refused_by_part most p q e (Ok made) fewer why is = elim is [ ]
+refused_by_part most p q e (Err d) fewer why is = subst (λ (x : FormRefusal). Makes most q (Err x)) (sym is) (refused_too most p q e fewer why)
+
+-- what is given, where it is small enough
+pub small_given : (most : ℕ) (p : Formula) (result : Result Formula FormRefusal) → nodes p ≤ most → Gives p result → Makes most p result
+small_given most p (Ok made) small is = (is, small)
+small_given most p (Err Large) small is = absurd is
+small_given most p (Err Memory) small is = tt
+
+-- after one event more
+
+pub grows-both : (P : Parts) (q : Formula) → nodes q ≤ nodes (conjunction (wp_in P q) (wp_flow q))
+unfolding nodes
+grows-both P q = omega (arith, grows-in P q)
+
+pub fewer_left : (p q : Formula) → nodes p ≤ nodes (conjunction p q)
+unfolding nodes
+fewer_left p q = omega arith
+
+pub fewer_right : (p q : Formula) → nodes q ≤ nodes (conjunction p q)
+unfolding nodes
+fewer_right p q = omega arith
+
+-- the count is one more than another
+pub one_more : (P : Parts) (k : ℕ) (q : Formula) → k ≢ 0 → after_events P k q ≡ conjunction (wp_in P (after_events P (k - 1) q)) (wp_flow (after_events P (k - 1) q))
+one_more P zero q some = absurd (some refl)
+one_more P (suc k) q some = let before : k ≡ suc k - 1 = omega arith in ap (λ j. conjunction (wp_in P (after_events P j q)) (wp_flow (after_events P j q))) before

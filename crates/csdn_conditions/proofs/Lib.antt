@@ -4,3 +4,5 @@ mod Joined
 mod Growth
 mod StartMade
 mod ClassLaws
+mod StartTruth
+mod Rooms
