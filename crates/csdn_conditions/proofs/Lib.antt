@@ -6,3 +6,4 @@ mod StartMade
 mod ClassLaws
 mod StartTruth
 mod Rooms
+mod Conditioned

@@ -52,11 +52,7 @@ pub fn after_events(
 }
 
 // After every event.
-fn after_both(
-    alloc: Global,
-    program: &Program,
-    formula: &Formula,
-) -> Result<Formula, FormRefusal>
+fn after_both(alloc: Global, program: &Program, formula: &Formula) -> Result<Formula, FormRefusal>
     ensures { Makes most_nodes (after_events_of program.now 1 formula.now) result }
 {
     let packet = wp_in(alloc, program, formula)?;
@@ -92,7 +88,14 @@ pub fn all_after(
     ensures { Makes most_nodes (conjunction_of (all_after_of program.now level (formulas invariants.now))) result }
 {
     let mut members = Formulas::new(alloc);
-    let _left = push_all(alloc, program, level, invariants, &mut members, MOST_NODES + 1)?;
+    let _left = push_all(
+        alloc,
+        program,
+        level,
+        invariants,
+        &mut members,
+        MOST_NODES + 1,
+    )?;
     or_memory(joined(alloc, Join::And, members))
 }
 

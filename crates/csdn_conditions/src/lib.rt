@@ -7,6 +7,7 @@ pub mod after;
 pub mod class;
 pub mod condition;
 pub mod kinds;
+pub mod laws;
 pub mod lists;
 pub mod sentence;
 pub mod start;

@@ -13,7 +13,7 @@ pub returns-in_err-before : goal.returns-in_err-before
 returns-in_err-before t c =
     let before : Formula = after_events c.args.program.now (c.args.count - 1) c.args.formula.now in
     let whole : after_events c.args.program.now c.args.count c.args.formula.now ≡ conjunction (wp_in c.args.program.now before) (wp_flow before) =
-        one_more c.args.program.now c.args.count c.args.formula.now c.if-count-eq0.false in
+    one_more c.args.program.now c.args.count c.args.formula.now c.if-count-eq0.false in
     subst (λ (p : Formula). Makes most_nodes p c.from_residual.result) (sym whole)
     (refused_by_part most_nodes before (conjunction (wp_in c.args.program.now before) (wp_flow before)) _ c.from_residual.result (grows-both c.args.program.now before)
     c.in_err-before.ensures c.from_residual.ensures.1)
@@ -23,6 +23,6 @@ returns t c =
     let P = c.args.program.now in
     let before : Formula = after_events P (c.args.count - 1) c.args.formula.now in
     let whole : after_events P c.args.count c.args.formula.now ≡ conjunction (wp_in P before) (wp_flow before) =
-        one_more P c.args.count c.args.formula.now c.if-count-eq0.false in
+    one_more P c.args.count c.args.formula.now c.if-count-eq0.false in
     subst (λ (p : Formula). Makes most_nodes p c.after_both.result) (ap (λ (p : Formula). conjunction (wp_in P p) (wp_flow p)) c.in_ok-before.ensures.0 ∙ sym whole)
     c.after_both.ensures

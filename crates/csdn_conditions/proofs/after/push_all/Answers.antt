@@ -15,10 +15,9 @@ returns-in_err-left-clause-left c =
 pub levels-preserved : goal.levels-preserved
 levels-preserved c =
     let after : ℕ → List Formula = λ k. map (after_events c.args.program.now k) (formulas c.args.invariants.now) in
-    let all : List Formula = all_after c.args.program.now c.args.level (formulas c.args.invariants.now) in
-    (
-    members_next after c.levels.count c.args.level c.levels.members c.push_each.new.members (c.args.members.now ++ all) c.levels-test.true c.in_ok-left.ensures.added c.levels.invariant.0,
-    room_next after c.levels.count c.args.level c.args.room c.levels.left c.in_ok-left.left (nodes_of_all all) c.levels-test.true c.in_ok-left.ensures.left c.levels.invariant.1,
-    omega (arith, c.in_ok-left.ensures.left, c.levels.invariant.2),
-    omega (arith, c.levels-test.true),
+    let all : List Formula = all_after c.args.program.now c.args.level (formulas c.args.invariants.now) in (
+      members_next after c.levels.count c.args.level c.levels.members c.push_each.new.members (c.args.members.now ++ all) c.levels-test.true c.in_ok-left.ensures.added c.levels.invariant.0,
+      room_next after c.levels.count c.args.level c.args.room c.levels.left c.in_ok-left.left (nodes_of_all all) c.levels-test.true c.in_ok-left.ensures.left c.levels.invariant.1,
+      omega (arith, c.in_ok-left.ensures.left, c.levels.invariant.2),
+      omega (arith, c.levels-test.true),
     )
