@@ -5,5 +5,6 @@
 #![tactic(auto)]
 
 mod build;
+pub mod commands;
 pub mod events;
 pub mod laws;
