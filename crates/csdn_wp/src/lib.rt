@@ -8,3 +8,4 @@ mod build;
 pub mod commands;
 pub mod events;
 pub mod laws;
+pub mod vars;
