@@ -21,47 +21,8 @@ use Rattle.fol_forms.proofs.Numbered.{nodes-renumbered}
 use Rattle.csdn_wp.specs.Preconditions.{wp}
 use Rattle.csdn_wp.specs.EventPreconditions.{PacketVars, terms_of, handler_vars, first_vars, for_packets, guard, guarded, member, and_later, members, wp_in, flow_terms, wp_flow}
 use Rattle.csdn_wp.specs.Makes.{Makes, Gives}
+use Rattle.csdn_wp.proofs.Grows.{replace_grows, wp_grows}
 use Rattle.csdn_conditions.specs.Conditions.{after_events}
-
-pub some_nodes : (p : Formula) → 0 < nodes p
-unfolding nodes
-some_nodes f.True = omega arith
-some_nodes f.False = omega arith
-some_nodes (f.Atom r ts) = omega arith
-some_nodes (f.Same t u) = omega arith
-some_nodes (negation p) = omega arith
-some_nodes (conjunction p q) = omega arith
-some_nodes (disjunction p q) = omega arith
-some_nodes (implication p q) = omega arith
-some_nodes (equivalence p q) = omega arith
-some_nodes (universal v s p) = omega arith
-some_nodes (existential v s p) = omega arith
-
-pub grows-replace : (g : Pred → List Term → Formula) (p : Formula) → nodes p ≤ nodes (replace g p)
-unfolding nodes replace
-grows-replace g f.True = omega arith
-grows-replace g f.False = omega arith
-grows-replace g (f.Atom r ts) = let some = some_nodes (g r ts) in omega (arith, some)
-grows-replace g (f.Same t u) = omega arith
-grows-replace g (negation p) = omega (arith, grows-replace g p)
-grows-replace g (conjunction p q) = omega (arith, grows-replace g p, grows-replace g q)
-grows-replace g (disjunction p q) = omega (arith, grows-replace g p, grows-replace g q)
-grows-replace g (implication p q) = omega (arith, grows-replace g p, grows-replace g q)
-grows-replace g (equivalence p q) = omega (arith, grows-replace g p, grows-replace g q)
-grows-replace g (universal v s p) = omega (arith, grows-replace g p)
-grows-replace g (existential v s p) = omega (arith, grows-replace g p)
-
-pub grows-wp : (a : Command) (q : Formula) → nodes q ≤ nodes (wp a q)
-unfolding nodes wp
-grows-wp c.Skip q = omega arith
-grows-wp (sequence a b) q = omega (arith, grows-wp b q, grows-wp a (wp b q))
-grows-wp (conditional p a b) q = omega (arith, grows-wp a q)
-grows-wp (choice v s p a b) q = omega (arith, grows-wp a q)
-grows-wp (c.Insert r ts) q = grows-replace (or_row (Stored r) ts) q
-grows-wp (c.Remove r ts) q = grows-replace (not_row (Stored r) ts) q
-grows-wp (c.Install ts) q = grows-replace (or_row Ft ts) q
-grows-wp (c.Forward ts) q = grows-replace (or_row Sent ts) q
-grows-wp (c.Flood ts) q = grows-replace (or_flood ts) q
 
 grows-guarded : (g : Option Formula) (p : Formula) → nodes p ≤ nodes (guarded g p)
 unfolding nodes
@@ -76,7 +37,7 @@ grows-member : (earlier : List ℕ) (v : PacketVars) (port : Option ℕ) (body :
 grows-member earlier v port body q =
     let fixed : Formula = fix_packet q (terms_of v) in
     let inner : Formula = guarded (guard earlier port v.i) (wp body fixed) in
-    omega (arith, grows-replace (is_row (terms_of v)) q, grows-wp body fixed, grows-guarded (guard earlier port v.i) (wp body fixed), grows-for_packets v inner)
+    omega (arith, replace_grows (is_row (terms_of v)) q, wp_grows body fixed, grows-guarded (guard earlier port v.i) (wp body fixed), grows-for_packets v inner)
 
 grows-and_later : (port : Option ℕ) (earlier : List ℕ) (p : Formula) (later : List ℕ → Formula) → nodes p ≤ nodes (and_later port earlier p later)
 unfolding nodes
@@ -100,7 +61,7 @@ unfolding nodes
 grows-flow q =
     let same : nodes (renumber q 5) ≡ nodes q = nodes-renumbered q (λ v. v) 5 in
     let fixed : Formula = fix_packet (renumber q 5) (terms_of first_vars) in
-    omega (arith, same, grows-replace (is_row (terms_of first_vars)) (renumber q 5), grows-replace (or_row Sent flow_terms) fixed)
+    omega (arith, same, replace_grows (is_row (terms_of first_vars)) (renumber q 5), replace_grows (or_row Sent flow_terms) fixed)
 
 -- what a part is refused for, the whole is
 refused_too : (most : ℕ) (p q : Formula) (e : FormRefusal) → nodes p ≤ nodes q → Makes most p (Err e) → Makes most q (Err e)

@@ -6,4 +6,5 @@ pub mod Coincidence
 pub mod Follows
 pub mod Exact
 pub mod Scopes
+pub mod Grows
 pub mod Making

@@ -1,6 +1,6 @@
 //! Formulas put together, and the room that they take.
 ghost use Rattle.std.specs.Prelude.{◌≡◌, ◌+◌, ◌≤◌};
-ghost use Rattle.csdn_core.specs.declared.syntax.Formula.TheVariants.{Not, And, Implies, Exists, Forall};
+ghost use Rattle.csdn_core.specs.declared.syntax.Formula.TheVariants.{Not, Exists};
 ghost use Rattle.csdn_core.specs.Nodes.{nodes};
 ghost use Rattle.fol_forms.specs.Limits.{most_nodes};
 ghost use Rattle.csdn_wp.specs.Makes.{Gives, Leaves, Makes};
@@ -12,7 +12,7 @@ use fol_forms::refusal::{FormRefusal, or_memory};
 use sqlite_items::Boxed;
 use std::alloc::Global;
 
-fn boxed(alloc: Global, formula: Formula) -> Result<Boxed<Formula>, FormRefusal>
+pub fn boxed(alloc: Global, formula: Formula) -> Result<Boxed<Formula>, FormRefusal>
     ensures { Gives formula result }
 {
     match Boxed::new(alloc, formula) {
@@ -22,46 +22,31 @@ fn boxed(alloc: Global, formula: Formula) -> Result<Boxed<Formula>, FormRefusal>
 }
 
 /// An equal formula.
-pub fn copied(alloc: Global, formula: &Formula) -> Result<Formula, FormRefusal>
+pub fn copied(alloc: Global, formula: &Formula) -> Result<Boxed<Formula>, FormRefusal>
     ensures { Gives formula.now result }
 {
-    or_memory(formula.copy(alloc))
+    boxed(alloc, or_memory(formula.copy(alloc))?)
 }
 
-pub fn negation(alloc: Global, p: Formula) -> Result<Formula, FormRefusal>
-    ensures { Gives (Not p) result }
+/// The formula is false.
+pub fn negated(alloc: Global, formula: &Formula) -> Result<Boxed<Formula>, FormRefusal>
+    ensures { Gives (Not formula.now) result }
 {
-    Ok(Formula::Not(boxed(alloc, p)?))
-}
-
-pub fn conjunction(alloc: Global, p: Formula, q: Formula) -> Result<Formula, FormRefusal>
-    ensures { Gives (And p q) result }
-{
-    let p = boxed(alloc, p)?;
-    let q = boxed(alloc, q)?;
-    Ok(Formula::And(p, q))
-}
-
-pub fn implication(alloc: Global, p: Formula, q: Formula) -> Result<Formula, FormRefusal>
-    ensures { Gives (Implies p q) result }
-{
-    let p = boxed(alloc, p)?;
-    let q = boxed(alloc, q)?;
-    Ok(Formula::Implies(p, q))
-}
-
-pub fn universal(alloc: Global, bind: Bind, p: Formula) -> Result<Formula, FormRefusal>
-    ensures { Gives (Forall bind.var bind.sort p) result }
-{
-    Ok(Formula::Forall(bind.var, bind.sort, boxed(alloc, p)?))
+    let formula = copied(alloc, formula)?;
+    boxed(alloc, Formula::Not(formula))
 }
 
 /// No element of the sort makes the formula true.
-pub fn no_element(alloc: Global, bind: Bind, p: Formula) -> Result<Formula, FormRefusal>
-    ensures { Gives (Not (Exists bind.var bind.sort p)) result }
+pub fn no_element(
+    alloc: Global,
+    bind: Bind,
+    formula: &Formula,
+) -> Result<Boxed<Formula>, FormRefusal>
+    ensures { Gives (Not (Exists bind.var bind.sort formula.now)) result }
 {
-    let p = boxed(alloc, p)?;
-    negation(alloc, Formula::Exists(bind.var, bind.sort, p))
+    let formula = copied(alloc, formula)?;
+    let some = boxed(alloc, Formula::Exists(bind.var, bind.sort, formula))?;
+    boxed(alloc, Formula::Not(some))
 }
 
 /// What is left of the room beside one node.

@@ -5,5 +5,7 @@
 #![tactic(auto)]
 
 pub mod build;
+pub mod commands;
 pub mod events;
 pub mod laws;
+pub mod vars;
