@@ -1,5 +1,5 @@
 //! Laws of network texts.
-ghost use Rattle.std.specs.Prelude.{◌≡◌, ℕ, List, Result, Ok, IfOk};
+ghost use Rattle.std.specs.Prelude.{◌≡◌, ℕ, List, Result, Ok, IfOk, MatchResult};
 ghost use Rattle.std.specs.List.Sorted.{IsStrictlySortedBy};
 ghost use Rattle.std.specs.Ordering.{nat_cmp};
 ghost use Rattle.text_lines.specs.Machine.{reading};
@@ -12,14 +12,16 @@ ghost use Rattle.net_structs.specs.declared.read.NetParts.{NetParts as AnyNetPar
 ghost use Rattle.net_structs.specs.Networks.{static_cmp};
 ghost use Rattle.net_structs.specs.Refusals.{IsAnswer};
 ghost use Rattle.net_text.specs.declared.refusal.NetTextRefusal.{NetTextRefusal as AnyRefusal};
+ghost use Rattle.net_text.specs.declared.refusal.NetTextRefusal.TheVariants.{Memory};
 ghost use Rattle.net_text.specs.NetText.{net_format, net_text};
 ghost use Rattle.net_text.specs.Gives.{Gives};
 ghost use Rattle.net_facts.specs.Cases.{IsCase, IsInOrder};
 ghost use Rattle.net_facts.specs.Listed.{HasTruthOfList};
 
-/// What is printed of a case reads as that case.
+/// What is printed of a case reads as that case; so the reader answers it, or that there is no memory.
 pub fn cases_read_back()
-    ensures { (P : AnyParts) (case : AnyCase) → IsWellSorted P → IsCase P case → IsInOrder case → reading (net_format P) (net_text P case) ≡ Ok case }
+    ensures reading { (P : AnyParts) (case : AnyCase) → IsWellSorted P → IsCase P case → IsInOrder case → reading (net_format P) (net_text P case) ≡ Ok case }
+    ensures answer { (P : AnyParts) (case : AnyCase) → IsWellSorted P → IsCase P case → IsInOrder case → (answer : Result AnyCase AnyRefusal) → Gives answer (reading (net_format P) (net_text P case)) → MatchResult answer (λ again. again ≡ case) (λ why. why ≡ Memory) }
 {}
 
 /// What a text reads as is a case of the program, in order; so it is printed and read again.
