@@ -5,3 +5,6 @@ pub mod Sorted
 pub mod Coincidence
 pub mod Follows
 pub mod Exact
+pub mod Scopes
+pub mod Grows
+pub mod Making

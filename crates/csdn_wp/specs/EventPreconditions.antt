@@ -11,23 +11,20 @@ use Rattle.csdn_core.specs.declared.syntax.Formula.{Formula}
 use Rattle.csdn_core.specs.declared.syntax.Formula.TheVariants.{Atom, Same}
 use Rattle.csdn_core.specs.declared.syntax.Command.{Command}
 use Rattle.csdn_core.specs.declared.syntax.Command.TheVariants.{Skip}
-use Rattle.csdn_core.specs.Tree.{negation, conjunction, implication, universal}
+use Rattle.csdn_core.specs.Tree.{negation, conjunction, implication}
 use Rattle.csdn_core.specs.Sorted.{most_numbers}
+use Rattle.fol_forms.specs.declared.close.Bind.{Bind}
+use Rattle.fol_forms.specs.Closed.{closed}
 use Rattle.fol_forms.specs.Replace.{add_row, fix_packet}
 use Rattle.fol_forms.specs.Renumber.{renumber}
+use Rattle.csdn_wp.specs.declared.vars.PacketVars.{PacketVars}
 use Rattle.csdn_wp.specs.Preconditions.{wp}
 
 -- the variable with this number
 abbrev pub numbered : ℕ → VarId
 numbered k = record { 0 = k }
 
--- the variables that stand for a packet
-pub record PacketVars : Type 0 where
-  pub s : VarId
-  pub a : VarId
-  pub b : VarId
-  pub i : VarId
-
+-- the variables of a packet, as terms
 abbrev pub terms_of : PacketVars → List Term
 terms_of v = Var v.s ∷ Var v.a ∷ Var v.b ∷ Var v.i ∷ []
 
@@ -39,9 +36,14 @@ handler_vars h = record { s = h.s; a = h.a; b = h.b; i = h.i }
 abbrev pub first_vars : PacketVars
 first_vars = record { s = numbered 0; a = numbered 1; b = numbered 2; i = numbered 3 }
 
+-- .. with their sorts
+abbrev pub binds_of : PacketVars → List Bind
+binds_of v =
+    record { var = v.s; sort = Sw } ∷ record { var = v.a; sort = Ho } ∷ record { var = v.b; sort = Ho } ∷ record { var = v.i; sort = Pr } ∷ []
+
 -- for every packet
 abbrev pub for_packets : PacketVars → Formula → Formula
-for_packets v p = universal v.s Sw (universal v.a Ho (universal v.b Ho (universal v.i Pr p)))
+for_packets v p = closed (binds_of v) p
 
 abbrev pub is_port : VarId → ℕ → Formula
 is_port i k = Same (Var i) (Port k)
@@ -81,8 +83,11 @@ wp_in P q = members P.handlers [] (renumber q most_numbers)
 abbrev pub flow_terms : List Term
 flow_terms = Var (numbered 0) ∷ Var (numbered 1) ∷ Var (numbered 2) ∷ Var (numbered 3) ∷ Var (numbered 4) ∷ []
 
+abbrev pub flow_binds : List Bind
+flow_binds =
+    record { var = numbered 0; sort = Sw } ∷ record { var = numbered 1; sort = Ho } ∷ record { var = numbered 2; sort = Ho } ∷ record { var = numbered 3; sort = Pr } ∷ record { var = numbered 4; sort = Pr } ∷ []
+
 -- for every tuple of `ft`, the formula holds after the tuple was put into `sent`
 abbrev pub wp_flow : Formula → Formula
 wp_flow q =
-    for_packets first_vars (universal (numbered 4) Pr
-    (implication (Atom Ft flow_terms) (add_row (fix_packet (renumber q 5) (terms_of first_vars)) Sent flow_terms)))
+    closed flow_binds (implication (Atom Ft flow_terms) (add_row (fix_packet (renumber q 5) (terms_of first_vars)) Sent flow_terms))

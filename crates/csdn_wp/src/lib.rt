@@ -4,4 +4,8 @@
 //! where the formula is true.
 #![tactic(auto)]
 
+mod build;
+pub mod commands;
 pub mod events;
+pub mod laws;
+pub mod vars;
