@@ -118,3 +118,17 @@ module _ (n s t : ℕ) where
       let place : i ≡ suc ((n + 1) * s + (2 * s + (i - 1 - (n + 1) * s - 2 * s))) = omega (arith, some, past, further) in
       let within : i - 1 - (n + 1) * s - 2 * s < 2 * t = omega (arith, there, length-kinds, some) in
       ap (slice_get (kinds_of n s t)) place ∙ trans_last (i - 1 - (n + 1) * s - 2 * s) event within is
+
+  pub trans_within : (i : ℕ) → i < length (kinds_of n s t) → i ≢ 0 → (n + 1) * s ≤ i - 1 → 2 * s ≤ i - 1 - (n + 1) * s → (i - 1 - (n + 1) * s - 2 * s) / 2 < t
+  trans_within i there some past further =
+      let within : i - 1 - (n + 1) * s - 2 * s < t * 2 = omega (arith, there, length-kinds, some) in
+      quotient (i - 1 - (n + 1) * s - 2 * s) t 2 (omega arith) within
+
+pub init_within : (n s p : ℕ) → p < (n + 1) * s → (p / s ≤ n) × (p % s < s)
+init_within n s p within =
+    let some = some_of p (n + 1) s within in
+    let few : p / s < n + 1 = quotient p (n + 1) s some within in
+    (omega (arith, few), mod-lt p some)
+
+pub step_within : (s p : ℕ) → p < 2 * s → p / 2 < s
+step_within s p within = quotient p s 2 (omega arith) (omega arith)
