@@ -1,4 +1,5 @@
 pub mod Tuples
+pub mod Begun
 pub mod Leasts
 pub mod Floods
 pub mod Parts

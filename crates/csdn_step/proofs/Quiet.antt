@@ -1,5 +1,5 @@
 -- A well-sorted handler does the same, whether the packets that it sends are kept in the state or not.
-use Rattle.std.proofs.Common.{◌≡◌, ◌∙◌, sym, ap, ap₂, refl, subst, ℕ, Bool, true, false, not, ◌&&◌, ◌||◌, if◌then◌else◌, List, [], ◌∷◌, ◌++◌, All}
+use Rattle.std.proofs.Common.{◌≡◌, ◌∙◌, sym, ap, ap₂, refl, ℕ, Bool, true, false, not, ◌&&◌, ◌||◌, if◌then◌else◌, List, [], ◌∷◌, ◌++◌}
 use Rattle.std.specs.Prelude.{Option, Some, None}
 use Rattle.std.specs.List.{list_all, list_any}
 use Rattle.std.proofs.Math.Path.{fun_ext}
@@ -19,14 +19,14 @@ use Rattle.csdn_core.specs.declared.syntax.Command.{Command}
 use Rattle.csdn_core.specs.declared.syntax.Command.TheVariants as c
 use Rattle.csdn_core.specs.Tree.{negation, conjunction, disjunction, implication, equivalence, universal, existential, sequence, conditional, choice}
 use Rattle.csdn_core.specs.Truth.{Assignment, with_var, truth, value, values}
-use Rattle.csdn_core.specs.Network.{Network, State, elements, structure, holds_in, same_pred, same_cells}
-use Rattle.csdn_core.specs.Execution.{put, take_out, flooded, is_flood, is_true, tuple}
+use Rattle.csdn_core.specs.Network.{Network, State, elements, structure, holds_in}
+use Rattle.csdn_core.specs.Execution.{put, take_out, flooded, is_true, tuple}
 use Rattle.csdn_core.specs.Run.{first_fit, for_packet}
-use Rattle.csdn_core.specs.Sorted.{Signature, Bind, IsSorted, IsAllowed}
+use Rattle.csdn_core.specs.Sorted.{Bind, IsSorted, IsAllowed}
 use Rattle.csdn_core.specs.WellSorted.{OwnPacket, IsCommand, IsWellSorted, signature, own_packet, handler_binds}
 use Rattle.csdn_step.specs.declared.setting.Sending.TheVariants.{Kept, Left}
 use Rattle.csdn_step.specs.Least.{least}
-use Rattle.csdn_step.specs.Courses.{Course, executed, chosen, handled, from_state, quieted, with_sent_of, with_state, with_match, with_port, with_one, same_out, installed, forwarded, flooded_on}
+use Rattle.csdn_step.specs.Courses.{Course, executed, chosen, handled, from_state, quieted, with_sent_of, installed, forwarded, flooded_on}
 use Rattle.csdn_step.proofs.Room.{of_fit}
 
 or_false : (b : Bool) → (b || false) ≡ b

@@ -2,14 +2,13 @@
 use Rattle.std.proofs.Common.{◌≡◌, ◌∙◌, sym, ap, ap₂, refl, subst, ℕ, ◌==◌, Bool, true, false, ◌&&◌, ◌||◌, List, [], ◌∷◌, ◌-◌, ◌≤◌, ◌<◌, length, take, drop, get_or, arith}
 use Rattle.std.specs.List.{list_any}
 use Rattle.std.proofs.Math.Path.{fun_ext}
-use Rattle.csdn_core.specs.declared.terms.RelId.{RelId}
 use Rattle.csdn_core.specs.declared.terms.Pred.{Pred}
 use Rattle.csdn_core.specs.declared.terms.Pred.TheVariants.{Stored, Ft, Sent, RcvThis}
 use Rattle.csdn_core.specs.declared.event.Packet.TheVariants.{Nothing}
 use Rattle.csdn_core.specs.declared.program.Parts.{Parts}
 use Rattle.csdn_core.specs.declared.program.StartRow.{StartRow}
 use Rattle.csdn_core.specs.Truth.{Assignment, values}
-use Rattle.csdn_core.specs.Network.{Network, State, structure, same_cells, same_pred}
+use Rattle.csdn_core.specs.Network.{Network, State, structure, same_cells}
 use Rattle.csdn_core.specs.Execution.{put, tuple}
 use Rattle.csdn_core.specs.Run.{empty_state, no_values, initial}
 use Rattle.net_structs.specs.declared.env.Pair.{Pair}

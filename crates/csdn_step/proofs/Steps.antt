@@ -1,7 +1,6 @@
 -- What is executed with the least elements is an execution.
-use Rattle.std.proofs.Common.{◌≡◌, ◌∙◌, sym, ap, refl, subst, inl, inr, ◌⊎◌, ℕ, ◌==◌, ◌&&◌, ◌||◌, zero, suc, ◌+◌, ◌<◌, ◌≤◌, min, Bool, true, false, if◌then◌else◌, List, [], ◌∷◌, length, Contains, IsTrue, IsFalse, true≢false, arith}
+use Rattle.std.proofs.Common.{◌≡◌, ◌∙◌, sym, ap, refl, subst, inl, inr, ◌⊎◌, ℕ, ◌==◌, ◌&&◌, ◌||◌, zero, suc, ◌<◌, min, Bool, true, false, if◌then◌else◌, List, [], ◌∷◌, Contains, IsTrue, IsFalse, arith}
 use Rattle.std.specs.Prelude.{Option, Some, None}
-use Rattle.csdn_core.specs.declared.terms.Pred.TheVariants.{Stored, Ft, Sent}
 use Rattle.csdn_core.specs.declared.program.Parts.{Parts}
 use Rattle.csdn_core.specs.declared.program.Handler.{Handler}
 use Rattle.csdn_core.specs.declared.event.Event.{Event}
@@ -11,7 +10,7 @@ use Rattle.csdn_core.specs.declared.syntax.Command.TheVariants as c
 use Rattle.csdn_core.specs.Tree.{sequence, conditional, choice}
 use Rattle.csdn_core.specs.Truth.{Assignment, with_var}
 use Rattle.csdn_core.specs.Network.{Network, State, elements}
-use Rattle.csdn_core.specs.Execution.{is_true, Executes, put}
+use Rattle.csdn_core.specs.Execution.{is_true, Executes}
 use Rattle.csdn_core.specs.Run.{Handles, Step, first_fit, for_packet}
 use Rattle.net_structs.specs.Networks.{has}
 use Rattle.csdn_step.specs.declared.setting.Sending.TheVariants.{Kept}

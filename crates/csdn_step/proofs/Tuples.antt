@@ -1,17 +1,19 @@
--- A tuple put in that is there, taken out that isn't, and both one after the other.
-use Rattle.std.proofs.Common.{◌≡◌, ◌∙◌, sym, ap, ap₂, refl, subst, ℕ, ◌==◌, Bool, true, false, not, ◌&&◌, ◌||◌, List, [], ◌∷◌, ◌++◌, true≢false, arith}
+-- A draft with a tuple put in or taken out, and what leads back from it.
+use Rattle.std.proofs.Common.{◌≡◌, ◌∙◌, sym, ap, ap₂, refl, ℕ, Bool, true, false, not, ◌&&◌, ◌||◌, List, [], ◌∷◌, ◌++◌, true≢false, arith}
 use Rattle.std.proofs.Math.Path.{fun_ext}
-use Rattle.csdn_core.specs.declared.terms.RelId.{RelId}
 use Rattle.csdn_core.specs.declared.terms.Pred.{Pred}
 use Rattle.csdn_core.specs.declared.terms.Pred.TheVariants.{Stored, Ft, Sent, RcvThis}
 use Rattle.csdn_core.specs.Network.{State, same_pred, same_cells}
-use Rattle.csdn_core.specs.Execution.{put, take_out, flooded, is_flood}
+use Rattle.csdn_core.specs.Execution.{put, take_out}
 use Rattle.net_structs.specs.declared.row.Row.{Row}
-use Rattle.net_structs.specs.Rows.{held}
-use Rattle.csdn_step.specs.declared.undo.Undo.{Undo}
-use Rattle.csdn_step.specs.Undoing.{without, start_of, Notes, Saves, saved_or}
-use Rattle.std.specs.Prelude.{Option, Some, None, Result, Ok, Err, OnOk}
-use Rattle.std.specs.List.{list_any}
+use Rattle.net_structs.specs.Rows.{held, row_cmp}
+use Rattle.std.specs.BTreeSet.{insert_key}
+use Rattle.std.specs.BTreeMap.{is_at}
+use Rattle.std.specs.Set.{remove_key}
+use Rattle.net_structs.specs.Views.{but}
+use Rattle.net_structs.proofs.Taken.{taken_absent, taken_put}
+use Rattle.csdn_step.specs.Drafts.{without}
+use Rattle.std.specs.Prelude.{Result, Ok, Err, OnOk, OnErr, IfOk}
 
 same_pred_is : (q r : Pred) → same_pred q r ≡ true → q ≡ r
 same_pred_is (Stored a) (Stored b) at = let e : a.0 ≡ b.0 = grind arith in ap (λ n. Stored (record { 0 = n })) e
@@ -38,65 +40,95 @@ there x r cells b is q ds it =
     let parts = both_same (same_pred q r) (same_cells ds cells) it in
     ap₂ (λ a c. x a c) (same_pred_is q r parts.0) (same_cells_is ds cells parts.1) ∙ is
 
-absorbed : (a b : Bool) → (b ≡ true → a ≡ true) → a ≡ (a || b)
-absorbed true b to = refl
-absorbed false true to = to refl
-absorbed false false to = refl
+back_by : (x g t : Bool) → (t ≡ true → x ≡ true) → (x && not (g && not t)) ≡ ((x && not g) || t)
+back_by true true true to = refl
+back_by true true false to = refl
+back_by true false true to = refl
+back_by true false false to = refl
+back_by false true true to = to refl
+back_by false false true to = to refl
+back_by false true false to = refl
+back_by false false false to = refl
 
-kept_out : (a b : Bool) → (b ≡ true → a ≡ false) → (a && not b) ≡ a
-kept_out true true to = sym (to refl)
+new_by : (x g t : Bool) → ((x || t) && not (g && not t)) ≡ ((x && not g) || t)
+new_by true true true = refl
+new_by true true false = refl
+new_by true false true = refl
+new_by true false false = refl
+new_by false true true = refl
+new_by false true false = refl
+new_by false false true = refl
+new_by false false false = refl
+
+out_by : (x g t : Bool) → (x && not (g || t)) ≡ ((x && not g) && not t)
+out_by true true t = refl
+out_by true false t = refl
+out_by false g t = refl
+
+kept_out : (a b : Bool) → (b ≡ true → a ≡ false) → a ≡ (a && not b)
+kept_out true true to = to refl
 kept_out true false to = refl
 kept_out false b to = refl
 
-taken_again : (a b : Bool) → (b ≡ true → a ≡ false) → ((a || b) && not b) ≡ a
-taken_again true true to = sym (to refl)
-taken_again true false to = refl
-taken_again false true to = refl
-taken_again false false to = refl
+module _ (x g : State) (r : Pred) (cells : List ℕ) where
+  -- what is there and gone comes back
+  pub put_back : x r cells ≡ true → but x (take_out g r cells) ≡ put (but x g) r cells
+  put_back is = fun_ext (λ q. fun_ext (λ ds. back_by (x q ds) (g q ds) (same_pred q r && same_cells ds cells) (there x r cells true is q ds)))
 
-pub put_again : (x : State) (r : Pred) (cells : List ℕ) → x r cells ≡ true → x ≡ put x r cells
-put_again x r cells is = fun_ext (λ q. fun_ext (λ ds. absorbed (x q ds) (same_pred q r && same_cells ds cells) (there x r cells true is q ds)))
+  pub put_new : but (put x r cells) (take_out g r cells) ≡ put (but x g) r cells
+  put_new = fun_ext (λ q. fun_ext (λ ds. new_by (x q ds) (g q ds) (same_pred q r && same_cells ds cells)))
 
-pub take_absent : (x : State) (r : Pred) (cells : List ℕ) → x r cells ≡ false → take_out x r cells ≡ x
-take_absent x r cells is = fun_ext (λ q. fun_ext (λ ds. kept_out (x q ds) (same_pred q r && same_cells ds cells) (there x r cells false is q ds)))
+  pub goes_out : but x (put g r cells) ≡ take_out (but x g) r cells
+  goes_out = fun_ext (λ q. fun_ext (λ ds. out_by (x q ds) (g q ds) (same_pred q r && same_cells ds cells)))
 
-pub take_put : (x : State) (r : Pred) (cells : List ℕ) → x r cells ≡ false → take_out (put x r cells) r cells ≡ x
-take_put x r cells is = fun_ext (λ q. fun_ext (λ ds. taken_again (x q ds) (same_pred q r && same_cells ds cells) (there x r cells false is q ds)))
+  absent : x r cells ≡ false → but x g r cells ≡ false
+  absent is = ap (λ b. b && not (g r cells)) is
+
+  pub stays_out : x r cells ≡ false → but x g ≡ take_out (but x g) r cells
+  stays_out is = fun_ext (λ q. fun_ext (λ ds. kept_out (but x g q ds) (same_pred q r && same_cells ds cells) (there (but x g) r cells false (absent is) q ds)))
+
+-- whether a tuple is new
+
+pub new_if_gone : (x g : Bool) → x ≡ true → g ≡ not (x && not g)
+new_if_gone true true is = refl
+new_if_gone true false is = refl
+new_if_gone false g is = absurd (true≢false (sym is))
+
+pub new_if_absent : (x g : Bool) → x ≡ false → not x ≡ not (x && not g)
+new_if_absent true g is = absurd (true≢false is)
+new_if_absent false g is = refl
 
 -- rows taken out again
 
-pub without-push : (rows : List Row) (row : Row) (x : State) → without (rows ++ row ∷ []) x ≡ without rows (take_out x row.pred row.cells)
-without-push [] row x = refl
-without-push (r ∷ rows) row x = ap (λ y. take_out y r.pred r.cells) (without-push rows row x)
+without-push : (added : List Row) (row : Row) (rows : List Row) → without (added ++ row ∷ []) rows ≡ without added (remove_key (is_at (row_cmp row)) rows)
+without-push [] row rows = refl
+without-push (r ∷ added) row rows = ap (remove_key (is_at (row_cmp r))) (without-push added row rows)
 
 -- the last is taken out
-pub popped : (left new : List Row) (row : Row) (y z whole : State) → left ≡ new ++ row ∷ [] → z ≡ take_out y row.pred row.cells → without left y ≡ whole → without new z ≡ whole
-popped left new row y z whole is taken goes = ap (without new) taken ∙ sym (without-push new row y) ∙ ap (λ r. without r y) (sym is) ∙ goes
+pub popped : (left new : List Row) (row : Row) (rows after whole : List Row) → left ≡ new ++ row ∷ [] → after ≡ remove_key (is_at (row_cmp row)) rows → without left rows ≡ whole → without new after ≡ whole
+popped left new row rows after whole is taken goes = ap (without new) taken ∙ sym (without-push new row rows) ∙ ap (λ l. without l rows) (sym is) ∙ goes
 
-abbrev undo_of : List Row → Option (List Row) → Undo
-undo_of rows saved = record { inserted = rows; saved = saved }
+abbrev row_of : Pred → List ℕ → Row
+row_of r cells = record { pred = r; cells = cells }
 
--- with a copy nothing needs to be noted
-pub notes-saved : (rows : List Row) (saved : Option (List Row)) (copy : List Row) → saved ≡ Some copy → (r : Pred) (cells : List ℕ) → Notes (undo_of rows saved) (undo_of rows saved) r cells
-notes-saved rows saved copy is r cells x absent = (refl, ap (λ s. without rows (saved_or s (put x r cells))) is ∙ sym (ap (λ s. without rows (saved_or s x)) is))
-
-pub notes-pushed : (rows new : List Row) (saved : Option (List Row)) (r : Pred) (copied cells : List ℕ) → saved ≡ None → copied ≡ cells → new ≡ rows ++ record { pred = r; cells = copied } ∷ [] → Notes (undo_of rows saved) (undo_of new saved) r cells
-notes-pushed rows new saved r copied cells none copy is x absent =
-    (pushed x ∙ ap (without rows) (take_absent x r cells absent) ∙ start x, pushed (put x r cells) ∙ ap (without rows) (take_put x r cells absent) ∙ start x)
+-- a row that isn't there is noted and then put in, or isn't for want of memory
+pub noted : {E : Type 0} (result : Result Bool E) (added new rows after : List Row) (r : Pred) (copied cells : List ℕ) → new ≡ added ++ record { pred = r; cells = copied } ∷ [] → copied ≡ cells → held rows r cells ≡ false
+    → IfOk result (λ is_new. after ≡ insert_key row_cmp rows (record { pred = r; cells = cells })) → OnErr result (after ≡ rows) → without new after ≡ without added rows
+noted result added new rows after r copied cells is copy lacks put failed = pushed ∙ ap (without added) (taken result put failed)
   where
-    start : (y : State) → without rows y ≡ start_of (undo_of rows saved) y
-    start y = sym (ap (λ s. without rows (saved_or s y)) none)
+    pushed : without new after ≡ without added (remove_key (is_at (row_cmp (row_of r cells))) after)
+    pushed = ap (λ l. without l after) (is ∙ ap (λ c. added ++ row_of r c ∷ []) copy) ∙ without-push added (row_of r cells) after
 
-    pushed : (y : State) → start_of (undo_of new saved) y ≡ without rows (take_out y r cells)
-    pushed y = ap (λ s. without new (saved_or s y)) none ∙ ap (λ n. without n y) is ∙ without-push rows (record { pred = r; cells = copied }) y ∙ ap (λ c. without rows (take_out y r c)) copy
-
-pub saves-saved : (rows : List Row) (saved : Option (List Row)) (copy : List Row) → saved ≡ Some copy → (x : State) → Saves (undo_of rows saved) (undo_of rows saved) x
-saves-saved rows saved copy is x y = ap (λ s. without rows (saved_or s y)) is ∙ sym (ap (λ s. without rows (saved_or s x)) is)
-
-pub saves-copied : (rows : List Row) (saved : Option (List Row)) (state copy : List Row) → saved ≡ None → copy ≡ state → Saves (undo_of rows saved) (undo_of rows (Some copy)) (held state)
-saves-copied rows saved state copy none is y = ap (λ c. without rows (held c)) is ∙ sym (ap (λ s. without rows (saved_or s (held state))) none)
+    taken : {E : Type 0} (result : Result Bool E) → IfOk result (λ is_new. after ≡ insert_key row_cmp rows (row_of r cells)) → OnErr result (after ≡ rows) → remove_key (is_at (row_cmp (row_of r cells))) after ≡ rows
+    taken (Ok is_new) put failed = ap (remove_key (is_at (row_cmp (row_of r cells)))) put ∙ taken_put (row_of r cells) rows lacks
+    taken (Err e) put failed = ap (remove_key (is_at (row_cmp (row_of r cells)))) failed ∙ taken_absent (row_of r cells) rows lacks
 
 -- what follows from what an `Ok` tells
 pub on_ok : {A E : Type 0} (r : Result A E) (P Q : Type 0) → (P → Q) → OnOk r P → OnOk r Q
 on_ok (Ok v) P Q to told = to told
 on_ok (Err e) P Q to told = tt
+
+-- what follows from what an `Ok` tells, whatever its value is
+pub if_ok : {A E : Type 0} (r : Result A E) (P Q : Type 0) → (P → Q) → IfOk r (λ v. P) → OnOk r Q
+if_ok (Ok v) P Q to told = to told
+if_ok (Err e) P Q to told = tt

@@ -1,5 +1,5 @@
 -- What a command comes to, at what the code writes.
-use Rattle.std.specs.Prelude.{◌≡◌, ℕ, List, if◌then◌else◌, refl}
+use Rattle.std.specs.Prelude.{◌≡◌, List, if◌then◌else◌, refl}
 use Rattle.csdn_core.specs.declared.terms.VarId.{VarId}
 use Rattle.csdn_core.specs.declared.terms.RelId.{RelId}
 use Rattle.csdn_core.specs.declared.terms.Sort.{Sort}

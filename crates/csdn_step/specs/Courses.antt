@@ -20,8 +20,10 @@ use Rattle.csdn_core.specs.Execution.{put, take_out, flooded, is_true, tuple}
 use Rattle.csdn_core.specs.Run.{first_fit, for_packet}
 use Rattle.net_structs.specs.declared.row.Row.{Row}
 use Rattle.net_structs.specs.Rows.{held}
+use Rattle.csdn_step.specs.declared.draft.Draft.{Draft}
 use Rattle.csdn_step.specs.declared.setting.Sending.{Sending}
 use Rattle.csdn_step.specs.declared.setting.Sending.TheVariants.{Kept, Left}
+use Rattle.csdn_step.specs.Drafts.{standing}
 use Rattle.csdn_step.specs.Least.{least}
 
 -- a state, and what was done on the way to it
@@ -119,6 +121,10 @@ from_state x = record { state = x; changed = []; outs = [] }
 -- what a state and a tally say
 abbrev pub course : List Row → Tally → Course
 course rows tally = record { state = held rows; changed = tally.changed; outs = tally.outs }
+
+-- what a draft and a tally say
+abbrev pub drafted : Draft → Tally → Course
+drafted draft tally = record { state = standing draft; changed = tally.changed; outs = tally.outs }
 
 -- the second state, but with what is in `sent` in the first
 abbrev pub with_sent_of : State → State → State

@@ -2,6 +2,6 @@ pub mod Least
 pub mod Courses
 pub mod CourseSteps
 pub mod CommandDepth
-pub mod Undoing
+pub mod Drafts
 pub mod Answers
 pub mod Starting

@@ -9,8 +9,8 @@ ghost use Rattle.csdn_step.specs.Courses.{course, executed, fired, from_state, h
 ghost use Rattle.csdn_step.specs.declared.setting.Sending.TheVariants.{Kept as KeptSending, Left as LeftSending};
 
 use crate::commands::execute;
+use crate::draft::Draft;
 use crate::setting::{Sending, Setting};
-use crate::undo::Undo;
 use csdn_core::event::{Event, Tally};
 use csdn_core::program::{Handler, Program};
 use csdn_core::terms::{Pred, Sort};
@@ -48,8 +48,7 @@ impl From<AllocError> for StepRefusal {
 
 /// Lets an event happen, with the least element at each `pick`, and tells what was done. The state is unchanged after a
 /// refusal. Refusals in order: `Stranger` exactly where the network lacks an element of the event; `NotEnabled` exactly
-/// where the tuple of a packet flow isn't in `ft`; `Memory`. It costs what the handler looks at and changes; only where a
-/// handler takes a tuple out, the state is copied.
+/// where the tuple of a packet flow isn't in `ft`; `Memory`. It costs what the handler looks at and changes.
 pub fn fire(
     alloc: Global,
     program: &Program,
@@ -60,7 +59,7 @@ pub fn fire(
     ensures answer { IsAnswer (first_refusal network.now (held state.old) event.now) result }
     ensures step { OnOk result (Step program.now network.now (held state.old) event.now (held state.new)) }
     ensures least { IfOk result (λ tally. course state.new tally ≡ fired program.now network.now KeptSending event.now (from_state (held state.old))) }
-    ensures same { OnErr result (held state.new ≡ held state.old) }
+    ensures same { OnErr result (state.new ≡ state.old) }
 {
     if !is_of_network(network, event) {
         return Err(StepRefusal::Stranger);
@@ -91,7 +90,7 @@ pub fn fire_quiet(
 ) -> Result<Tally, StepRefusal>
     ensures answer { IsAnswer (first_refusal network.now (held state.old) (SpecPktIn s a b i)) result }
     ensures quiet { IfOk result (λ tally. course state.new tally ≡ quieted (held state.old) (fired program.now network.now KeptSending (SpecPktIn s a b i) (from_state (held state.old)))) }
-    ensures same { OnErr result (held state.new ≡ held state.old) }
+    ensures same { OnErr result (state.new ≡ state.old) }
 {
     // a program's parts are well-sorted
     let _parts = program.parts();
@@ -154,7 +153,7 @@ fn happen(
     event: &Event,
 ) -> Result<Tally, AllocError>
     ensures done { IfOk result (λ tally. course state.new tally ≡ fired setting.now.program.now setting.now.network.now setting.now.sending event.now (from_state (held state.old))) }
-    ensures same { OnErr result (held state.new ≡ held state.old) }
+    ensures same { OnErr result (state.new ≡ state.old) }
 {
     match event {
         Event::PktIn { s, a, b, i } => handle(alloc, setting, state, *s, *a, *b, *i),
@@ -199,7 +198,7 @@ fn handle(
     i: u64,
 ) -> Result<Tally, AllocError>
     ensures done { IfOk result (λ tally. course state.new tally ≡ handled setting.now.program.now setting.now.network.now setting.now.sending (first_fit_of setting.now.program.now.handlers i) s a b i (from_state (held state.old))) }
-    ensures same { OnErr result (held state.new ≡ held state.old) }
+    ensures same { OnErr result (state.new ≡ state.old) }
 {
     match first_fit(setting.program.parts().handlers.as_slice(), i) {
         None => Ok(empty_tally(alloc)),
@@ -220,26 +219,22 @@ fn run(
 ) -> Result<Tally, AllocError>
     requires { 4 + command_depth handler.now.body ≤ 24 }
     ensures done { IfOk result (λ tally. course state.new tally ≡ executed setting.now.program.now setting.now.network.now setting.now.sending handler.now.body (for_packet handler.now s a b i) (from_state (held state.old))) }
-    ensures same { OnErr result (held state.new ≡ held state.old) }
+    ensures same { OnErr result (state.new ≡ state.old) }
 {
     let mut env = Env::try_new(alloc, 24)?;
     env.push(handler.s, s);
     env.push(handler.a, a);
     env.push(handler.b, b);
     env.push(handler.i, i);
-    let mut undo = Undo::new(alloc);
     let mut tally = empty_tally(alloc);
-    match execute(
-        setting,
-        state,
-        &mut undo,
-        &mut tally,
-        &mut env,
-        &handler.body,
-    ) {
-        Ok(()) => Ok(tally),
+    let mut draft = Draft::begin(alloc, setting.program, state)?;
+    match execute(setting, &mut draft, &mut tally, &mut env, &handler.body) {
+        Ok(()) => {
+            *state = draft.kept();
+            Ok(tally)
+        }
         Err(error) => {
-            undo.restore(state);
+            *state = draft.undone();
             Err(error)
         }
     }

@@ -1,16 +1,17 @@
 //! The one place where a program's handlers are executed.
 //!
 //! `specs/Courses.antt` says what an execution comes to that takes the least element at each `pick`, with what it is counted
-//! to have done; `specs/Answers.antt` which events are refused. What a step is stands in `csdn_core`.
+//! to have done, `specs/Answers.antt` which events are refused, and `specs/Drafts.antt` what a state is that is being changed.
+//! What a step is stands in `csdn_core`.
 #![tactic(auto)]
 
-mod acts;
 mod commands;
+mod draft;
 mod events;
+mod sends;
 mod setting;
 mod start;
 mod tallies;
-mod undo;
 
 pub use events::{StepRefusal, fire, fire_quiet};
 pub use start::initial;

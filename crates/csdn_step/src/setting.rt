@@ -4,8 +4,9 @@ ghost use Rattle.csdn_core.specs.Truth.{with_var};
 ghost use Rattle.csdn_core.specs.Execution.{is_true as is_true_in, tuple};
 ghost use Rattle.net_structs.specs.Binds.{assignment};
 ghost use Rattle.net_structs.specs.Depth.{depth};
-ghost use Rattle.net_structs.specs.Rows.{held};
+ghost use Rattle.csdn_step.specs.Drafts.{standing};
 
+use crate::draft::Draft;
 use csdn_core::event::Packet;
 use csdn_core::program::Program;
 use csdn_core::syntax::Formula;
@@ -13,8 +14,7 @@ use csdn_core::terms::{Terms, VarId};
 use net_structs::cells::Cells;
 use net_structs::env::Env;
 use net_structs::network::Network;
-use net_structs::state::State;
-use net_structs::truth::truth;
+use net_structs::truth::truth_without;
 use net_structs::view::{View, values};
 
 /// Whether the packets sent are put into the state.
@@ -35,32 +35,33 @@ pub struct Setting<'a> {
 /// Whether a formula is true of the element that a variable stands for.
 pub fn is_true_of(
     setting: &Setting,
-    state: &State,
+    draft: &Draft,
     env: &mut Env,
     var: VarId,
     element: u64,
     formula: &Formula,
 ) -> bool
     requires { length env.old.pairs + (depth formula.now + 1) ≤ env.old.room }
-    ensures value { result ≡ is_true_in setting.now.program.now setting.now.network.now formula.now (with_var (assignment env.old.pairs) var element) (held state.now) }
+    ensures value { result ≡ is_true_in setting.now.program.now setting.now.network.now formula.now (with_var (assignment env.old.pairs) var element) (standing draft.now) }
     ensures same { env.new ≡ env.old }
 {
     env.push(var, element);
-    let is_true = is_true(setting, state, env, formula);
+    let is_true = is_true(setting, draft, env, formula);
     env.pop();
     is_true
 }
 
 /// Whether a formula is true.
-pub fn is_true(setting: &Setting, state: &State, env: &mut Env, formula: &Formula) -> bool
+pub fn is_true(setting: &Setting, draft: &Draft, env: &mut Env, formula: &Formula) -> bool
     requires { length env.old.pairs + depth formula.now ≤ env.old.room }
-    ensures value { result ≡ is_true_in setting.now.program.now setting.now.network.now formula.now (assignment env.old.pairs) (held state.now) }
+    ensures value { result ≡ is_true_in setting.now.program.now setting.now.network.now formula.now (assignment env.old.pairs) (standing draft.now) }
     ensures same { env.new ≡ env.old }
 {
-    truth(
+    truth_without(
         setting.program,
         setting.network,
-        state,
+        &draft.state,
+        &draft.gone,
         &Packet::Nothing,
         env,
         formula,
@@ -68,13 +69,14 @@ pub fn is_true(setting: &Setting, state: &State, env: &mut Env, formula: &Formul
 }
 
 /// The tuple that a list of terms stands for.
-pub fn cells_of(setting: &Setting, state: &State, env: &Env, terms: &Terms) -> Cells
-    ensures { result ≡ tuple setting.now.program.now setting.now.network.now terms.now (assignment env.now.pairs) (held state.now) }
+pub fn cells_of(setting: &Setting, draft: &Draft, env: &Env, terms: &Terms) -> Cells
+    ensures { result ≡ tuple setting.now.program.now setting.now.network.now terms.now (assignment env.now.pairs) (standing draft.now) }
 {
     let view = View {
         program: setting.program,
         network: setting.network,
-        state,
+        state: &draft.state,
+        gone: Some(&draft.gone),
         packet: &Packet::Nothing,
     };
     values(&view, env, terms.as_slice())

@@ -4,7 +4,7 @@
 //! where the formula is true.
 #![tactic(auto)]
 
-mod build;
+pub mod build;
 pub mod commands;
 pub mod events;
 mod guards;

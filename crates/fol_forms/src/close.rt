@@ -44,8 +44,9 @@ fn count_of(formula: &Formula, binds: &Binds) -> u64
     sum(count, more)
 }
 
+/// The same, however many nodes it has.
 #[tactic(auto, using(crate::proofs::ClosedTruth::closed_before))]
-fn closed_by(alloc: Global, formula: Formula, binds: &[Bind]) -> Result<Formula, AllocError>
+pub fn closed_by(alloc: Global, formula: Formula, binds: &[Bind]) -> Result<Formula, AllocError>
     ensures { IfOk result (λ p. p ≡ closed binds.now formula) }
 {
     let mut closed = formula;

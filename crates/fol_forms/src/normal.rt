@@ -37,8 +37,9 @@ struct Sizes {
     negated: u64,
 }
 
-// How many nodes the normal form has; for the sign `false` that of the negation.
-fn count_of(formula: &Formula, sign: bool) -> u64
+/// How many nodes the normal form of a formula has, or for the sign `false` that of its negation. 2^64 - 1 where it has more.
+/// It takes no memory.
+pub fn count_of(formula: &Formula, sign: bool) -> u64
     ensures { result ≡ capped (normal_nodes sign formula.now) }
 {
     let sizes = count(formula);

@@ -302,9 +302,9 @@ fn floods(alloc: Global, ts: &[Term], us: &[Term]) -> Result<Formula, AllocError
     }
 }
 
-// The equations of terms, one after another.
+/// The equations of two lists of terms, one after another, which have as many.
 #[tactic(auto, using(crate::proofs::Equations::same_steps))]
-fn same(alloc: Global, us: &[Term], ts: &[Term]) -> Result<Formula, AllocError>
+pub fn same(alloc: Global, us: &[Term], ts: &[Term]) -> Result<Formula, AllocError>
     ensures { IfOk result (λ f. f ≡ same_of us.now ts.now) }
 {
     if us.is_empty() || ts.is_empty() {

@@ -1,5 +1,5 @@
 -- The queries of an ordered set of rows, and what the rows hold.
-use Rattle.std.proofs.Common.{◌≡◌, ◌∙◌, ap, ap₂, sym, refl, ℕ, ◌==◌, Bool, true, false, not, cond, ◌&&◌, ◌||◌, List, [], ◌∷◌, ◌++◌, map, arith}
+use Rattle.std.proofs.Common.{◌≡◌, ◌∙◌, ap, ap₂, sym, refl, ℕ, ◌==◌, Bool, true, false, not, cond, ◌&&◌, ◌||◌, List, [], ◌∷◌, ◌++◌, map}
 use Rattle.std.proofs.Math.Path.{fun_ext}
 use Rattle.std.specs.List.{list_any, filter}
 use Rattle.std.specs.Ordering.{is_eq, nat_cmp, ordering_then}
@@ -13,11 +13,11 @@ use Rattle.std.proofs.lemmas.List.{append_assoc}
 use Rattle.csdn_core.specs.declared.terms.RelId.{RelId}
 use Rattle.csdn_core.specs.declared.terms.Pred.{Pred}
 use Rattle.csdn_core.specs.declared.terms.Pred.TheVariants.{Stored, Ft, Sent, RcvThis}
-use Rattle.csdn_core.specs.Network.{State, StaticRow, same_pred, same_cells}
+use Rattle.csdn_core.specs.Network.{StaticRow, same_pred, same_cells}
 use Rattle.csdn_core.specs.Execution.{put, take_out}
 use Rattle.net_structs.specs.declared.row.Row.{Row}
 use Rattle.net_structs.specs.declared.network.FixedRow.{FixedRow}
-use Rattle.net_structs.specs.Rows.{kind_of, number_of, row_cmp, row_total, held, tuple_of, rows_of}
+use Rattle.net_structs.specs.Rows.{kind_of, number_of, row_cmp, row_total, held}
 use Rattle.net_structs.specs.Networks.{fixed_cmp, fixed_total, static_of}
 
 is_eq-then : (a b : Ordering) → is_eq (ordering_then a b) ≡ (is_eq a && is_eq b)
@@ -70,7 +70,7 @@ row_flip : (q row : Row) → is_eq (row_cmp q row) ≡ is_eq (row_cmp row q)
 row_flip q row = (eq_by_cmp_equiv row_total).symm q row
 
 -- what the set answers is what its rows hold
-held_tied : (q : Row) (rows : List Row) → list_any (is_at (row_cmp q)) rows ≡ held rows q.pred q.cells
+pub held_tied : (q : Row) (rows : List Row) → list_any (is_at (row_cmp q)) rows ≡ held rows q.pred q.cells
 held_tied q [] = refl
 held_tied q (row ∷ rows) = ap₂ (λ a b. a || b) (row_is q row) (held_tied q rows)
 

@@ -2,6 +2,9 @@
 ghost use Rattle.std.specs.Prelude.{◌≡◌, [], not, IfOk, OnErr};
 ghost use Rattle.csdn_core.specs.Execution.{put, take_out};
 ghost use Rattle.net_structs.specs.Rows.{held, row_cmp, rows_of};
+ghost use Rattle.net_structs.specs.Views.{but};
+ghost use Rattle.std.specs.BTreeMap.{is_at};
+ghost use Rattle.std.specs.Set.{remove_key};
 ghost use Rattle.std.specs.BTreeSet.{insert_key};
 ghost use Rattle.std.specs.List.Sorted.{IsStrictlySortedBy};
 
@@ -72,12 +75,22 @@ impl State {
     pub fn remove(&mut self, pred: Pred, cells: &Cells) -> bool
         ensures was_there { result ≡ held self.old pred cells.now }
         ensures taken { held self.new ≡ take_out (held self.old) pred cells.now }
+        ensures rows { self.new ≡ remove_key (is_at (row_cmp (record { pred = pred; cells = cells.now }))) self.old }
     {
         let row = Row {
             pred,
             cells: cells.copy(),
         };
         self.rows.remove(&row)
+    }
+
+    /// Takes out the tuples of another state. It takes no memory.
+    pub fn remove_all(&mut self, gone: &State)
+        ensures { held self.new ≡ but (held self.old) (held gone.now) }
+    {
+        'rows: for row in &gone.rows {
+            self.remove(row.pred, &row.cells);
+        }
     }
 
     /// The tuples of a relation, rising.

@@ -8,7 +8,7 @@ ghost use Rattle.csdn_core.specs.Network.{elements as elements_of, structure};
 ghost use Rattle.net_structs.specs.Binds.{assignment};
 ghost use Rattle.net_structs.specs.Depth.{depth};
 ghost use Rattle.net_structs.specs.Rows.{held};
-ghost use Rattle.net_structs.specs.Views.{world};
+ghost use Rattle.net_structs.specs.Views.{but, world};
 
 use crate::env::Env;
 use crate::network::Network;
@@ -34,10 +34,29 @@ pub fn truth(
     ensures value { result ≡ truth_of (structure program.now network.now (held state.now) packet.now) formula.now (assignment env.old.pairs) }
     ensures same { env.new ≡ env.old }
 {
+    let view = View::whole(program, network, state, packet);
+    is_true(&view, env, formula)
+}
+
+/// Whether a formula is true in a state without the tuples of `gone`. For the rest it is `truth`.
+pub fn truth_without(
+    program: &Program,
+    network: &Network,
+    state: &State,
+    gone: &State,
+    packet: &Packet,
+    env: &mut Env,
+    formula: &Formula,
+) -> bool
+    requires { length env.old.pairs + depth formula.now ≤ env.old.room }
+    ensures value { result ≡ truth_of (structure program.now network.now (but (held state.now) (held gone.now)) packet.now) formula.now (assignment env.old.pairs) }
+    ensures same { env.new ≡ env.old }
+{
     let view = View {
         program,
         network,
         state,
+        gone: Some(gone),
         packet,
     };
     is_true(&view, env, formula)

@@ -1,10 +1,10 @@
 //! What formulas speak of.
 ghost use Rattle.std.specs.Prelude.{◌≡◌, ◌≤◌, length};
 ghost use Rattle.csdn_core.specs.Truth.{value as value_of, values as values_of};
-ghost use Rattle.csdn_core.specs.Network.{holds_in, is_fixed as is_fixed_in, is_packet, same_cells};
+ghost use Rattle.csdn_core.specs.Network.{holds_in, is_fixed as is_fixed_in, is_packet, same_cells, structure};
 ghost use Rattle.net_structs.specs.Binds.{assignment};
 ghost use Rattle.net_structs.specs.Rows.{held};
-ghost use Rattle.net_structs.specs.Views.{world};
+ghost use Rattle.net_structs.specs.Views.{shown, world};
 
 use crate::cells::Cells;
 use crate::env::Env;
@@ -14,13 +14,35 @@ use csdn_core::event::Packet;
 use csdn_core::program::Program;
 use csdn_core::terms::{Pred, RelId, Term};
 
-/// A program, one of its networks, a state of it, and the packet at hand.
+/// A program, one of its networks, a state of it, and the packet at hand. Where `gone` is there, its tuples count as taken out
+/// of the state.
 #[derive(Drop)]
 pub struct View<'a> {
     pub program: &'a Program,
     pub network: &'a Network,
     pub state: &'a State,
+    pub gone: Option<&'a State>,
     pub packet: &'a Packet,
+}
+
+impl<'a> View<'a> {
+    /// The view of a whole state.
+    pub fn whole(
+        program: &'a Program,
+        network: &'a Network,
+        state: &'a State,
+        packet: &'a Packet,
+    ) -> View<'a>
+        ensures { world result ≡ structure program.now network.now (held state.now) packet.now }
+    {
+        View {
+            program,
+            network,
+            state,
+            gone: None,
+            packet,
+        }
+    }
 }
 
 fn is_same(a: &[u64], b: &[u64]) -> bool
@@ -49,19 +71,29 @@ fn is_of_packet(packet: &Packet, cells: &[u64]) -> bool
     }
 }
 
+// Whether a tuple is in the state that is shown.
+fn is_shown(view: &View, pred: Pred, cells: &Cells) -> bool
+    ensures { result ≡ shown view.now pred cells.now }
+{
+    match view.gone {
+        None => view.state.has(pred, cells),
+        Some(gone) => view.state.has(pred, cells) && !gone.has(pred, cells),
+    }
+}
+
 /// Whether a tuple is in a relation. It takes log n steps.
 pub fn holds(view: &View, pred: Pred, cells: &Cells) -> bool
-    ensures { result ≡ holds_in view.now.program.now view.now.network.now (held view.now.state.now) view.now.packet.now pred cells.now }
+    ensures { result ≡ holds_in view.now.program.now view.now.network.now (shown view.now) view.now.packet.now pred cells.now }
 {
     match pred {
         Pred::Stored(rel) => {
             if is_fixed(view.program, rel) {
                 view.network.holds(rel, cells)
             } else {
-                view.state.has(pred, cells)
+                is_shown(view, pred, cells)
             }
         }
-        Pred::Ft | Pred::Sent => view.state.has(pred, cells),
+        Pred::Ft | Pred::Sent => is_shown(view, pred, cells),
         Pred::RcvThis => is_of_packet(view.packet, cells.as_slice()),
     }
 }

@@ -1,4 +1,4 @@
-use Rattle.std.proofs.Common.{◌≡◌, ◌∙◌, sym, ap, subst}
+use Rattle.std.proofs.Common.{◌∙◌, sym, ap, subst}
 use Rattle.csdn_core.specs.Network.{State}
 use Rattle.csdn_core.specs.Run.{Step}
 use Rattle.net_structs.specs.Rows.{held}

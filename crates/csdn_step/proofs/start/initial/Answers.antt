@@ -1,4 +1,4 @@
-use Rattle.std.proofs.Common.{◌≡◌, ◌∙◌, ap}
+use Rattle.std.proofs.Common.{◌∙◌, ap}
 use Rattle.csdn_core.specs.declared.program.Parts.{Parts}
 use Rattle.net_structs.specs.Rows.{held}
 use Rattle.csdn_step.proofs.Starts.{starts}

@@ -6,8 +6,8 @@ use Rattle.csdn_step.proofs.start.put_rows.Given as goal
 
 abbrev pub invariant-rows : goal.invariant-rows
 invariant-rows l =
-    started l.setting.program.now l.setting.network.now (assignment l.env.pairs) l.rest (held l.state)
-    ≡ started l.setting.program.now l.setting.network.now (assignment l.env.pairs) l.fn.rows (held l.fn.state)
+    started l.program l.network (assignment l.env.pairs) l.rest (held l.state)
+    ≡ started l.program l.network (assignment l.env.pairs) l.fn.rows (held l.fn.state)
 
 abbrev pub decreases-rows : goal.decreases-rows
 decreases-rows l = length l.rest

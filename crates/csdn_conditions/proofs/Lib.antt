@@ -1,0 +1,9 @@
+mod Places
+mod KindLaws
+mod Joined
+mod Growth
+mod StartMade
+mod ClassLaws
+mod StartTruth
+mod Rooms
+mod Conditioned

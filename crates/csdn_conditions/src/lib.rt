@@ -1,0 +1,13 @@
+//! The conditions of a program: what has to be valid for the program to be inductive at a level.
+//!
+//! `specs/` says what each condition is; [`condition`](condition::condition) makes one of them.
+#![tactic(auto)]
+
+pub mod after;
+pub mod class;
+pub mod condition;
+pub mod kinds;
+pub mod laws;
+pub mod lists;
+pub mod sentence;
+pub mod start;

@@ -1,0 +1,22 @@
+-- A state that is being changed.
+use Rattle.std.specs.Prelude.{List, [], ◌∷◌}
+use Rattle.std.specs.BTreeMap.{is_at}
+use Rattle.std.specs.Set.{remove_key}
+use Rattle.csdn_core.specs.Network.{State}
+use Rattle.net_structs.specs.declared.row.Row.{Row}
+use Rattle.net_structs.specs.Rows.{held, row_cmp}
+use Rattle.net_structs.specs.Views.{but}
+use Rattle.csdn_step.specs.declared.draft.Draft.{Draft}
+
+-- the state as it stands: what is gone counts as taken out
+abbrev pub standing : Draft → State
+standing draft = but (held draft.state) (held draft.gone)
+
+-- rows taken out of others, the last first
+abbrev pub without : List Row → List Row → List Row
+without [] rows = rows
+without (row ∷ added) rows = remove_key (is_at (row_cmp row)) (without added rows)
+
+-- the rows from which the changes began
+abbrev pub start_of : Draft → List Row
+start_of draft = without draft.added draft.state

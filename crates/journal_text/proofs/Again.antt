@@ -1,0 +1,190 @@
+-- What is printed of notes reads as these notes.
+use Rattle.std.proofs.Common.{◌≡◌, ℕ, ◌+◌, ◌≤◌, ◌<◌, ◌^◌, true, leb, ◌&&◌, List, [], ◌∷◌, ◌++◌, map, Some, Ok, refl, sym, ap, subst, ◌∙◌, arith, append_assoc, append-nil}
+use Rattle.std.specs.Prelude.{decimal}
+use Rattle.std.specs.List.{list_all}
+use Rattle.std.proofs.lemmas.Bool.{and_parts, and_from, leb-true}
+use Rattle.text_lines.specs.Text.{lines_left}
+use Rattle.text_lines.specs.Machine.{run, after_step, reading}
+use Rattle.text_lines.specs.Printed.{is_word, is_line, are_lines, numbered}
+use Rattle.text_lines.proofs.PrintedLaws.{words_joined, lines_printed, word_decimal, number_again}
+use Rattle.csdn_core.specs.declared.event.Entry.{Entry}
+use Rattle.csdn_core.specs.declared.event.Entry.TheVariants.{Join, Packet}
+use Rattle.journal_text.specs.declared.note.Note.{Note}
+use Rattle.journal_text.specs.declared.note.Note.TheVariants.{Kept, Flow}
+use Rattle.journal_text.specs.declared.read.Place.TheVariants as place
+use Rattle.journal_text.specs.Notes.{most, most_seat, header_of, join_of, packet_of, flow_of, note_of}
+use Rattle.journal_text.specs.JournalText.{State, journal_format, step, goes_to, note_words, entry_words, header, end, journal_lines, journal_text, are_elements, is_entry, is_note, are_notes}
+
+element : (n : ℕ) → leb n most ≡ true → n ≤ most
+element n h = leb-true n most h
+
+seat_is : (n : ℕ) → leb n most_seat ≡ true → n ≤ most_seat
+seat_is n h = leb-true n most_seat h
+
+word_of : (n : ℕ) → n ≤ most → is_word (decimal n) ≡ true
+word_of n h = word_decimal n (omega (arith, h))
+
+small_word : (n : ℕ) → n ≤ most_seat → is_word (decimal n) ≡ true
+small_word n h = word_decimal n (omega (arith, h))
+
+wide : most < 2 ^ 64
+wide = omega arith
+
+narrow : most_seat < 2 ^ 64
+narrow = omega arith
+
+-- elements have words
+all_words : (es : List ℕ) → are_elements es ≡ true → list_all is_word (map decimal es) ≡ true
+all_words [] h = refl
+all_words (e ∷ es) h =
+    let p = and_parts (leb e most) (are_elements es) h in
+    and_from (is_word (decimal e)) (list_all is_word (map decimal es)) (word_of e (element e p.0)) (all_words es p.1)
+
+seat_words : (seat session : ℕ) (es : List ℕ) → (leb seat most_seat && (leb session most_seat && are_elements es)) ≡ true → list_all is_word (map decimal (seat ∷ session ∷ es)) ≡ true
+seat_words seat session es h =
+    let p = and_parts (leb seat most_seat) (leb session most_seat && are_elements es) h in
+    let q = and_parts (leb session most_seat) (are_elements es) p.1 in
+    and_from (is_word (decimal seat)) (list_all is_word (map decimal (session ∷ es))) (small_word seat (seat_is seat p.0))
+    (and_from (is_word (decimal session)) (list_all is_word (map decimal es)) (small_word session (seat_is session q.0)) (all_words es q.1))
+
+-- one element is a list of elements
+alone : (s : ℕ) → leb s most ≡ true → are_elements (s ∷ []) ≡ true
+alone s h = and_from (leb s most) true h refl
+
+join_parts : (seat session s : ℕ) → is_entry (Join seat session s) ≡ true → (leb seat most_seat && (leb session most_seat && are_elements (s ∷ []))) ≡ true
+join_parts seat session s h =
+    let p = and_parts (leb seat most_seat) (leb session most_seat && leb s most) h in
+    let q = and_parts (leb session most_seat) (leb s most) p.1 in
+    and_from (leb seat most_seat) (leb session most_seat && are_elements (s ∷ [])) p.0 (and_from (leb session most_seat) (are_elements (s ∷ [])) q.0 (alone s q.1))
+
+entry_line : (entry : Entry) → is_entry entry ≡ true → is_line (entry_words entry) ≡ true
+entry_line (Join seat session s) h = seat_words seat session (s ∷ []) (join_parts seat session s h)
+entry_line (Packet seat session s a b i) h = seat_words seat session (s ∷ a ∷ b ∷ i ∷ []) h
+
+note_line : (note : Note) → is_note note ≡ true → is_line (note_words note) ≡ true
+note_line (Kept entry) h = entry_line entry h
+note_line (Flow s a b i o) h = all_words (s ∷ a ∷ b ∷ i ∷ o ∷ []) h
+
+-- ---- each line is read again
+
+pub record Five (s a b i o : ℕ) : Type 0 where
+  pub s_is : s ≤ most
+  pub a_is : a ≤ most
+  pub b_is : b ≤ most
+  pub i_is : i ≤ most
+  pub o_is : o ≤ most
+
+pub record Four (s a b i : ℕ) : Type 0 where
+  pub s_is : s ≤ most
+  pub a_is : a ≤ most
+  pub b_is : b ≤ most
+  pub i_is : i ≤ most
+
+four_of : (s a b i : ℕ) → are_elements (s ∷ a ∷ b ∷ i ∷ []) ≡ true → Four s a b i
+four_of s a b i h =
+    let p = and_parts (leb s most) (are_elements (a ∷ b ∷ i ∷ [])) h in
+    let q = and_parts (leb a most) (are_elements (b ∷ i ∷ [])) p.1 in
+    let r = and_parts (leb b most) (are_elements (i ∷ [])) q.1 in
+    let t = and_parts (leb i most) (are_elements []) r.1 in
+    record { s_is = element s p.0; a_is = element a q.0; b_is = element b r.0; i_is = element i t.0 }
+
+five_of : (s a b i o : ℕ) → are_elements (s ∷ a ∷ b ∷ i ∷ o ∷ []) ≡ true → Five s a b i o
+five_of s a b i o h =
+    let p = and_parts (leb s most) (are_elements (a ∷ b ∷ i ∷ o ∷ [])) h in
+    let f = four_of a b i o p.1 in
+    record { s_is = element s p.0; a_is = f.s_is; b_is = f.a_is; i_is = f.b_is; o_is = f.i_is }
+
+flow_again : (s a b i o : ℕ) → Five s a b i o → flow_of (map decimal (s ∷ a ∷ b ∷ i ∷ o ∷ [])) ≡ Some (Flow s a b i o)
+unfolding flow_of
+flow_again s a b i o h =
+    rw (
+      number_again most s (map decimal (a ∷ b ∷ i ∷ o ∷ [])) wide h.s_is,
+      number_again most a (map decimal (b ∷ i ∷ o ∷ [])) wide h.a_is,
+      number_again most b (map decimal (i ∷ o ∷ [])) wide h.b_is,
+      number_again most i (map decimal (o ∷ [])) wide h.i_is,
+      number_again most o [] wide h.o_is,
+    ) refl
+
+packet_again : (seat session s a b i : ℕ) → seat ≤ most_seat → session ≤ most_seat → Four s a b i → packet_of (map decimal (seat ∷ session ∷ s ∷ a ∷ b ∷ i ∷ [])) ≡ Some (Kept (Packet seat session s a b i))
+unfolding packet_of
+packet_again seat session s a b i first second h =
+    rw (
+      number_again most_seat seat (map decimal (session ∷ s ∷ a ∷ b ∷ i ∷ [])) narrow first,
+      number_again most_seat session (map decimal (s ∷ a ∷ b ∷ i ∷ [])) narrow second,
+      number_again most s (map decimal (a ∷ b ∷ i ∷ [])) wide h.s_is,
+      number_again most a (map decimal (b ∷ i ∷ [])) wide h.a_is,
+      number_again most b (map decimal (i ∷ [])) wide h.b_is,
+      number_again most i [] wide h.i_is,
+    ) refl
+
+join_again : (seat session s : ℕ) → seat ≤ most_seat → session ≤ most_seat → s ≤ most → join_of (map decimal (seat ∷ session ∷ s ∷ [])) ≡ Some (Kept (Join seat session s))
+unfolding join_of
+join_again seat session s first second third =
+    rw (number_again most_seat seat (map decimal (session ∷ s ∷ [])) narrow first, number_again most_seat session (map decimal (s ∷ [])) narrow second, number_again most s [] wide third) refl
+
+entry_again : (entry : Entry) → is_entry entry ≡ true → note_of (entry_words entry) ≡ Some (Kept entry)
+unfolding note_of
+entry_again (Join seat session s) h =
+    let p = and_parts (leb seat most_seat) (leb session most_seat && leb s most) h in
+    let q = and_parts (leb session most_seat) (leb s most) p.1 in
+    join_again seat session s (seat_is seat p.0) (seat_is session q.0) (element s q.1)
+entry_again (Packet seat session s a b i) h =
+    let p = and_parts (leb seat most_seat) (leb session most_seat && are_elements (s ∷ a ∷ b ∷ i ∷ [])) h in
+    let q = and_parts (leb session most_seat) (are_elements (s ∷ a ∷ b ∷ i ∷ [])) p.1 in
+    packet_again seat session s a b i (seat_is seat p.0) (seat_is session q.0) (four_of s a b i q.1)
+
+note_again : (note : Note) → is_note note ≡ true → note_of (note_words note) ≡ Some note
+unfolding note_of
+note_again (Kept entry) h = entry_again entry h
+note_again (Flow s a b i o) h = flow_again s a b i o (five_of s a b i o h)
+
+header_again : header_of header ≡ Some tt
+unfolding header_of
+header_again = refl
+
+-- ---- and all of them
+
+-- reading the lines from a state gives v, whatever their numbers
+abbrev Ends : ℕ → List Note → List (List (List ℕ)) → State → Type 0
+Ends past v ls s = (at : ℕ) → run journal_format past (numbered at ls) s ≡ Ok v
+
+abbrev inside : List Note → State
+inside notes = record { place = place.Inside; notes = notes }
+
+abbrev ended : List Note → State
+ended notes = record { place = place.Ended; notes = notes }
+
+-- one line of which the step is known
+line_ends : (past : ℕ) (v : List Note) (ws : List (List ℕ)) (ls : List (List (List ℕ))) (s t : State) → is_line ws ≡ true → step s.place s.notes ws ≡ Ok t → Ends past v ls t → Ends past v (ws ∷ ls) s
+line_ends past v ws ls s t line e k at =
+    ap (λ xs. after_step at (step s.place s.notes xs) (run journal_format past (numbered (at + 1) ls))) (words_joined ws line)
+    ∙ ap (λ r. after_step at r (run journal_format past (numbered (at + 1) ls))) e ∙ k (at + 1)
+
+entry_step : (done : List Note) (entry : Entry) → step place.Inside done (entry_words entry) ≡ goes_to (note_of (entry_words entry)) (λ note. inside (done ++ note ∷ []))
+entry_step done (Join seat session s) = refl
+entry_step done (Packet seat session s a b i) = refl
+
+note_step : (done : List Note) (note : Note) → step place.Inside done (note_words note) ≡ goes_to (note_of (note_words note)) (λ x. inside (done ++ x ∷ []))
+note_step done (Kept entry) = entry_step done entry
+note_step done (Flow s a b i o) = refl
+
+notes_end : (past : ℕ) (done notes : List Note) → are_notes notes ≡ true → Ends past (done ++ notes) (map note_words notes ++ end ∷ []) (inside done)
+notes_end past done [] h = line_ends past (done ++ []) end [] (inside done) (ended done) refl refl (λ at. ap Ok (sym (append-nil done)))
+notes_end past done (note ∷ notes) h =
+    let p = and_parts (is_note note) (are_notes notes) h in
+    line_ends past (done ++ note ∷ notes) (note_words note) (map note_words notes ++ end ∷ []) (inside done) (inside (done ++ note ∷ [])) (note_line note p.0)
+    (note_step done note ∙ ap (λ o. goes_to o (λ x. inside (done ++ x ∷ []))) (note_again note p.0))
+    (subst (λ v. Ends past v (map note_words notes ++ end ∷ []) (inside (done ++ note ∷ []))) (append_assoc done (note ∷ []) notes) (notes_end past (done ++ note ∷ []) notes p.1))
+
+all_lines : (notes : List Note) → are_notes notes ≡ true → are_lines (map note_words notes ++ end ∷ []) ≡ true
+all_lines [] h = refl
+all_lines (note ∷ notes) h =
+    let p = and_parts (is_note note) (are_notes notes) h in
+    and_from (is_line (note_words note)) (are_lines (map note_words notes ++ end ∷ [])) (note_line note p.0) (all_lines notes p.1)
+
+pub journal_again : (notes : List Note) → are_notes notes ≡ true → reading journal_format (journal_text notes) ≡ Ok notes
+journal_again notes h =
+    let past = (lines_left 1 (journal_text notes)).past in
+    let first : step place.Header [] header ≡ Ok (inside []) = rw header_again refl in
+    ap (λ ls. run journal_format past ls journal_format.start) (lines_printed 1 (journal_lines notes) (all_lines notes h))
+    ∙ line_ends past notes header (map note_words notes ++ end ∷ []) journal_format.start (inside []) refl first (notes_end past [] notes h) 1

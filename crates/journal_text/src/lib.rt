@@ -1,0 +1,19 @@
+//! Texts of journals: what a controller's history records, and packets that rules sent.
+//!
+//! docs/FORMATS.md gives the format. `specs/Notes.antt` says what a line's words mean, and `specs/JournalText.antt` the
+//! order of lines and how notes are spelled.
+#![tactic(auto)]
+
+mod laws;
+mod line;
+mod note;
+mod print;
+mod read;
+
+pub use laws::journals_read_back;
+pub use note::{Note, Notes};
+pub use print::print_journal;
+pub use read::{JournalRefusal, read_journal};
+
+#[cfg(test)]
+mod tests;

@@ -1,0 +1,20 @@
+use csdn_core::event::Entry;
+use sqlite_items::Items;
+
+/// The notes of a journal, in order.
+pub type Notes = Items<Note>;
+
+/// A note of a journal.
+#[derive(Clone, Copy, Debug, PartialEq, Eq)]
+pub enum Note {
+    /// What a controller's history records.
+    Kept(Entry),
+    /// A switch sent a packet by one of its flow rules.
+    Flow {
+        s: u64,
+        a: u64,
+        b: u64,
+        i: u64,
+        o: u64,
+    },
+}
