@@ -159,6 +159,11 @@ module _ (P : Parts) (from : ℕ) (v : PacketVars) (body : Command) (fine : IsFi
       let M = in_state P N x in
       KeepsSorts-with M _ _ v.i Pr i (KeepsSorts-with M _ _ v.b Ho b (KeepsSorts-with M _ _ v.a Ho a (KeepsSorts-with M no_scope no_values v.s Sw s (KeepsSorts-none M no_values) in_s) in_a) in_b) in_i
 
+-- each handler is fine
+abbrev pub AllFine : Parts → ℕ → List Handler → Type 0
+AllFine P from [] = Unit {0}
+AllFine P from (h ∷ hs) = IsFine P from (handler_vars h) h.body × AllFine P from hs
+
 -- the packet, and the formula after an event
 
 module _ (P : Parts) (N : Network) where
@@ -256,11 +261,6 @@ module _ (P : Parts) (N : Network) where
 
     -- all members
 
-    -- each handler is fine
-    abbrev pub AllFine : ℕ → List Handler → Type 0
-    AllFine from [] = Unit {0}
-    AllFine from (h ∷ hs) = IsFine P from (handler_vars h) h.body × AllFine from hs
-
     module _ (network : IsNetwork P N) (from : ℕ) (four : 4 ≤ from) (x : State) where
       last_fine : IsFine P from first_vars Skip
       unfolding IsCommandIn command_bound_in
@@ -284,7 +284,7 @@ module _ (P : Parts) (N : Network) where
       unfoldable pub say : List Handler → List ℕ → Bool
       say hs earlier = truth (structure P N x Nothing) (members hs earlier (renumber q from)) no_values
 
-      pub members_exact : (hs : List Handler) → AllFine from hs → (earlier : List ℕ) → IsTrue (say hs earlier) ↔ Fits hs earlier
+      pub members_exact : (hs : List Handler) → AllFine P from hs → (earlier : List ℕ) → IsTrue (say hs earlier) ↔ Fits hs earlier
       unfolding say Fits Arrives Executes truth members
       members_exact [] fine earlier =
           let last = member_exact network from first_vars Skip last_fine x earlier None in (

@@ -13,3 +13,4 @@ pub mod Membering
 pub mod Eventing
 pub mod Arrival
 pub mod Flow
+pub mod Programs
