@@ -3,6 +3,7 @@ use Rattle.csdn_core.specs.WellSorted.{signature}
 use Rattle.fol_forms.specs.Substitution.{no_scope}
 use Rattle.csdn_wp.specs.SortedIn.{any_relation}
 use Rattle.csdn_wp.proofs.Sorting.{not_free}
+use Rattle.csdn_wp.proofs.Fitting.{sentence_fits}
 use Rattle.csdn_wp.proofs.Sentences.{truth-packet}
 use Rattle.csdn_wp.proofs.laws.sentences_stand_alone.Goals as goal
 
@@ -11,3 +12,6 @@ returns-clause-closed c P F sorted v = not_free (signature P) any_relation no_sc
 
 pub returns-clause-packet : goal.returns-clause-packet
 returns-clause-packet c P N x packet F e sorted = truth-packet P N x packet no_scope F e sorted
+
+pub returns-clause-fits : goal.returns-clause-fits
+returns-clause-fits c = sentence_fits
