@@ -1,5 +1,5 @@
 -- Sentences that don't speak of the packet are sentences of the vocabulary in which they are decided.
-use Rattle.std.proofs.Common.{◌≡◌, ℕ, ◌+◌, ◌<◌, ◌==◌, Bool, true, false, ◌&&◌, ◌||◌, cond, List, [], ◌∷◌, ◌++◌, map, length, filter, Option, Some, None, slice_get, refl, ap, sym, subst, ◌∙◌, inl, inr, IsTrue, true≢false, arith}
+use Rattle.std.proofs.Common.{◌≡◌, ℕ, ◌+◌, ◌==◌, Bool, true, false, ◌&&◌, ◌||◌, cond, List, [], ◌∷◌, map, length, Option, Some, None, slice_get, refl, ap, sym, subst, ◌∙◌, inl, inr, IsTrue, true≢false, arith}
 use Rattle.std.specs.Prelude.{is_some, option_map}
 use Rattle.std.specs.List.{list_any}
 use Rattle.std.proofs.lemmas.Bool.{and_from}
@@ -21,7 +21,7 @@ use Rattle.csdn_core.specs.Tree.{negation, conjunction, disjunction, implication
 use Rattle.csdn_core.specs.Network.{same_pred}
 use Rattle.csdn_core.specs.Sorted.{sorts_of}
 use Rattle.csdn_core.specs.WellSorted.{signature}
-use Rattle.decision_laws.specs.Forms.{Form, And, Or, Atom, Same, normal_form, same_sort}
+use Rattle.decision_laws.specs.Forms.{Form, And, Atom, Same, normal_form, same_sort}
 use Rattle.decision_laws.specs.Laws.{form_of, words}
 use Rattle.decision_laws.specs.Vocabulary.{IsIn, all_relations, constants_from, find_or, fits, has_term, is_bound, names_of, numerals_of, places_from, sort_of_constant, sort_or, sorts_or, term_fits, term_sort, terms_fit, uses, vocabulary}
 use Rattle.decision_laws.proofs.Basics.{any_from, or_from_left, or_from_right, place_in, same_pred-refl, same_sort-refl}
@@ -30,7 +30,6 @@ use Rattle.decision_laws.proofs.Networks.{constant_has}
 use Rattle.decision_laws.proofs.Words.{is_vocabulary}
 use Rattle.fol_forms.specs.Substitution.{Scope, no_scope, with_sort}
 use Rattle.csdn_wp.specs.SortedIn.{no_packet, HasSortIn, HaveSortsIn, IsAtomIn, IsSortedIn}
-use Rattle.csdn_wp.proofs.Sorting.{Extends-none}
 
 -- each variable in scope is bound with its sort
 record IsBound (Γ : Scope) (bound : List (ℕ × Sort)) : Type 0 where

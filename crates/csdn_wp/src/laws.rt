@@ -50,10 +50,12 @@ pub fn invariants_are_sentences()
     ensures quiet { (P : AnyParts) (F : AnyFormula) (place : AnyPlace) → IsSorted (signature P) place [] F → AllPairs (λ m n. m ≢ n) (bound_in F) → place ≢ Trans → IsSortedIn (signature P) no_packet no_scope F }
 {}
 
-/// No variable is free in a well-sorted sentence. One that doesn't speak of the packet has the same truth with every packet,
-/// and is well-sorted in the vocabulary in which it is decided.
+/// No variable is free in a well-sorted sentence. One that doesn't speak of the packet is one of any kind, so that its own
+/// preconditions are sentences too; it has the same truth with every packet, and is well-sorted in the vocabulary in which it
+/// is decided.
 pub fn sentences_stand_alone()
     ensures closed { (P : AnyParts) (F : AnyFormula) → IsSortedIn (signature P) any_relation no_scope F → (v : ℕ) → IsFalse (free_in F v) }
+    ensures any { (P : AnyParts) (F : AnyFormula) → IsSortedIn (signature P) no_packet no_scope F → IsSortedIn (signature P) any_relation no_scope F }
     ensures packet { (P : AnyParts) (N : Network) (x : State) (packet : AnyPacket) (F : AnyFormula) (e : Assignment) → IsSortedIn (signature P) no_packet no_scope F → truth (structure P N x packet) F e ≡ truth (structure P N x Nothing) F e }
     ensures fits { (P : AnyParts) (F : AnyFormula) → IsSortedIn (signature P) no_packet no_scope F → IsTrue (fits (words P F) [] (form_of F)) }
 {}
