@@ -116,7 +116,7 @@ module _ (P : Parts) (from : ℕ) (v : PacketVars) (body : Command) (fine : IsFi
   body_new : AreNew (packet_scope v) (command_bound_in body)
   body_new = AreNew-binds (scope_binds v) no_scope (command_bound_in body) (AreNew-none (numbers v body) fine.distinct)
 
-  vars_in_scope : AreInScope (scope_binds v) (packet_scope v)
+  pub vars_in_scope : AreInScope (scope_binds v) (packet_scope v)
   vars_in_scope = AreInScope-binds [] (scope_binds v) no_scope (command_bound_in body) (AreNew-none (numbers v body) fine.distinct) (AreInScope-none no_scope)
 
   have_packet_sorts : HaveSortsIn (signature P) (packet_scope v) packet_sorts (terms_of v)
@@ -164,6 +164,45 @@ abbrev pub AllFine : Parts → ℕ → List Handler → Type 0
 AllFine P from [] = Unit {0}
 AllFine P from (h ∷ hs) = IsFine P from (handler_vars h) h.body × AllFine P from hs
 
+-- the last member's variables
+pub last_fine : (P : Parts) (from : ℕ) → 4 ≤ from → IsFine P from first_vars Skip
+unfolding IsCommandIn command_bound_in
+last_fine P from four = record {
+  distinct = (
+    (λ i. elim i [ inl is ↦ (let e : 0 ≡ 1 = is in omega (arith, e)) | inr more ↦ (elim more [ inl is ↦ (let e : 0 ≡ 2 = is in omega (arith, e)) | inr rest ↦ (elim rest [ inl is ↦ (let e : 0 ≡ 3 = is in omega (arith, e)) | inr none ↦ absurd none ]) ]) ]),
+    (
+      (λ i. elim i [ inl is ↦ (let e : 1 ≡ 2 = is in omega (arith, e)) | inr more ↦ (elim more [ inl is ↦ (let e : 1 ≡ 3 = is in omega (arith, e)) | inr none ↦ absurd none ]) ]),
+      ((λ i. elim i [ inl is ↦ (let e : 2 ≡ 3 = is in omega (arith, e)) | inr none ↦ absurd none ]), ((λ none. absurd none), tt)),
+    ),
+  );
+  below = λ n i. elim i [ inl is ↦ omega (arith, is, four) | inr more ↦ (elim more [ inl is ↦ omega (arith, is, four) | inr rest ↦ (elim rest [ inl is ↦ omega (arith, is, four) | inr end ↦ (elim end [ inl is ↦ omega (arith, is, four) | inr none ↦ absurd none ]) ]) ]) ];
+  command = tt;
+}
+
+-- the formula once the packet is fixed, and the precondition of the body
+
+module _ (P : Parts) (from : ℕ) (v : PacketVars) (body : Command) (fine : IsFine P from v body) (q : Formula) (sorted : IsSortedIn (signature P) any_relation no_scope q) where
+  out_of_it : BindsOutside (vars_of (terms_of v)) (renumber q from)
+  out_of_it = binds_outside (vars_of (terms_of v)) (renumber q from)
+      (λ n i. terms_not (signature P) (packet_scope v) n (far_none P from v body fine n (bound_in-renumbered q (λ w. w) from n i)) packet_sorts (terms_of v) (have_packet_sorts P from v body fine))
+
+  fixed_sorted : IsSortedIn (signature P) no_packet (packet_scope v) (fix_packet (renumber q from) (terms_of v))
+  fixed_sorted = IsSortedIn-fix_packet (signature P) any_relation (terms_of v) (packet_scope v) (renumber q from) (have_packet_sorts P from v body fine) out_of_it
+      (IsSortedIn-more (signature P) any_relation any_relation (λ r named. tt) no_scope (packet_scope v) (Extends-none (packet_scope v)) (renumber q from) (IsSortedIn-renumber (signature P) any_relation q from sorted))
+
+  fixed_far : (n : ℕ) → IsIn n (bound_in (fix_packet (renumber q from) (terms_of v))) → from ≤ n
+  fixed_far n i = bound_in-renumbered q (λ w. w) from n (subst (λ ns. IsIn n ns) (bound_in-replace (is_row (terms_of v)) (bound_in-is_row (terms_of v)) (renumber q from)) i)
+
+  fixed_follows : MayFollow P no_packet (packet_scope v) body (fix_packet (renumber q from) (terms_of v))
+  fixed_follows = record {
+    sorted = fixed_sorted;
+    outside = λ n i. not_standing P body (packet_scope v) n fine.command (far_none P from v body fine n (fixed_far n i)) (far_not_bound P from v body fine n (fixed_far n i));
+    apart = λ n i j. far_not_bound P from v body fine n (fixed_far n i) j;
+  }
+
+  pub before_sorted : IsSortedIn (signature P) no_packet (packet_scope v) (wp body (fix_packet (renumber q from) (terms_of v)))
+  before_sorted = IsSortedIn-wp P no_packet (λ r named. named) body (fix_packet (renumber q from) (terms_of v)) (packet_scope v) fine.command (body_new P from v body fine) fixed_follows
+
 -- the packet, and the formula after an event
 
 module _ (P : Parts) (N : Network) where
@@ -206,37 +245,16 @@ module _ (P : Parts) (N : Network) where
       abbrev Γ : Scope
       Γ = packet_scope v
 
-      out_of_it : BindsOutside (vars_of (terms_of v)) (renumber q from)
-      out_of_it = binds_outside (vars_of (terms_of v)) (renumber q from)
-          (λ n i. terms_not (signature P) Γ n (far_none P from v body fine n (bound_in-renumbered q (λ w. w) from n i)) packet_sorts (terms_of v) (have_packet_sorts P from v body fine))
-
-      fixed_sorted : IsSortedIn (signature P) no_packet Γ fixed
-      fixed_sorted = IsSortedIn-fix_packet (signature P) any_relation (terms_of v) Γ (renumber q from) (have_packet_sorts P from v body fine) out_of_it
-          (IsSortedIn-more (signature P) any_relation any_relation (λ r named. tt) no_scope Γ (Extends-none Γ) (renumber q from) (IsSortedIn-renumber (signature P) any_relation q from sorted))
-
-      fixed_far : (n : ℕ) → IsIn n (bound_in fixed) → from ≤ n
-      fixed_far n i = bound_in-renumbered q (λ w. w) from n (subst (λ ns. IsIn n ns) (bound_in-replace (is_row (terms_of v)) (bound_in-is_row (terms_of v)) (renumber q from)) i)
-
-      fixed_follows : MayFollow P no_packet Γ body fixed
-      fixed_follows = record {
-        sorted = fixed_sorted;
-        outside = λ n i. not_standing P body Γ n fine.command (far_none P from v body fine n (fixed_far n i)) (far_not_bound P from v body fine n (fixed_far n i));
-        apart = λ n i j. far_not_bound P from v body fine n (fixed_far n i) j;
-      }
-
-      pub before_sorted : IsSortedIn (signature P) no_packet Γ (wp body fixed)
-      before_sorted = IsSortedIn-wp P no_packet (λ r named. named) body fixed Γ fine.command (body_new P from v body fine) fixed_follows
-
       module _ (x : State) where
         abbrev M : Structure
         M = structure P N x Nothing
 
         runs : (s a b i : ℕ) → Contains N.switches s → Contains N.hosts a → Contains N.hosts b → Contains N.ports i → IsExact P N body fixed (for_vars v s a b i) x
         runs s a b i in_s in_a in_b in_i =
-            exact P N network no_packet (λ r named. named) body fixed Γ fine.command (body_new P from v body fine) fixed_follows (for_vars v s a b i) x (keeps_sorts P from v body fine N x s a b i in_s in_a in_b in_i)
+            exact P N network no_packet (λ r named. named) body fixed Γ fine.command (body_new P from v body fine) (fixed_follows P from v body fine q sorted) (for_vars v s a b i) x (keeps_sorts P from v body fine N x s a b i in_s in_a in_b in_i)
 
         ends : (y : State) (s a b i : ℕ) → truth (structure P N y Nothing) fixed (for_vars v s a b i) ≡ after y s a b i
-        ends y s a b i = fixed_is from y (terms_of v) (for_vars v s a b i) s a b i Γ (have_packet_sorts P from v body fine) out_of_it (reads_packet P from v body fine (structure P N y Nothing) s a b i)
+        ends y s a b i = fixed_is from y (terms_of v) (for_vars v s a b i) s a b i Γ (have_packet_sorts P from v body fine) (out_of_it P from v body fine q sorted) (reads_packet P from v body fine (structure P N y Nothing) s a b i)
 
         -- what the member says
         unfoldable pub Arrives : List ℕ → Option ℕ → Type 0
@@ -262,20 +280,6 @@ module _ (P : Parts) (N : Network) where
     -- all members
 
     module _ (network : IsNetwork P N) (from : ℕ) (four : 4 ≤ from) (x : State) where
-      last_fine : IsFine P from first_vars Skip
-      unfolding IsCommandIn command_bound_in
-      last_fine = record {
-        distinct = (
-          (λ i. elim i [ inl is ↦ (let e : 0 ≡ 1 = is in omega (arith, e)) | inr more ↦ (elim more [ inl is ↦ (let e : 0 ≡ 2 = is in omega (arith, e)) | inr rest ↦ (elim rest [ inl is ↦ (let e : 0 ≡ 3 = is in omega (arith, e)) | inr none ↦ absurd none ]) ]) ]),
-          (
-            (λ i. elim i [ inl is ↦ (let e : 1 ≡ 2 = is in omega (arith, e)) | inr more ↦ (elim more [ inl is ↦ (let e : 1 ≡ 3 = is in omega (arith, e)) | inr none ↦ absurd none ]) ]),
-            ((λ i. elim i [ inl is ↦ (let e : 2 ≡ 3 = is in omega (arith, e)) | inr none ↦ absurd none ]), ((λ none. absurd none), tt)),
-          ),
-        );
-        below = λ n i. elim i [ inl is ↦ omega (arith, is, four) | inr more ↦ (elim more [ inl is ↦ omega (arith, is, four) | inr rest ↦ (elim rest [ inl is ↦ omega (arith, is, four) | inr end ↦ (elim end [ inl is ↦ omega (arith, is, four) | inr none ↦ absurd none ]) ]) ]) ];
-        command = tt;
-      }
-
       -- what the members say together
       unfoldable pub Fits : List Handler → List ℕ → Type 0
       Fits hs earlier = (s a b i : ℕ) → Contains N.switches s → Contains N.hosts a → Contains N.hosts b → Contains N.ports i → IsTrue (not_among earlier i) →
@@ -287,7 +291,7 @@ module _ (P : Parts) (N : Network) where
       pub members_exact : (hs : List Handler) → AllFine P from hs → (earlier : List ℕ) → IsTrue (say hs earlier) ↔ Fits hs earlier
       unfolding say Fits Arrives Executes truth members
       members_exact [] fine earlier =
-          let last = member_exact network from first_vars Skip last_fine x earlier None in (
+          let last = member_exact network from first_vars Skip (last_fine P from four) x earlier None in (
             λ h s a b i in_s in_a in_b in_i left y run. last.0 h s a b i in_s in_a in_b in_i (both_true (not_among earlier i) true left refl) y run,
             λ each. last.1 (λ s a b i in_s in_a in_b in_i passed y run. each s a b i in_s in_a in_b in_i (first_true (not_among earlier i) true passed) y run),
           )

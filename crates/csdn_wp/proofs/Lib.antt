@@ -11,6 +11,9 @@ pub mod Making
 pub mod Slices
 pub mod Membering
 pub mod Eventing
+pub mod Preceding
 pub mod Arrival
 pub mod Flow
 pub mod Programs
+pub mod Sentences
+pub mod Fitting
