@@ -58,18 +58,17 @@ module _ (P : Parts) (R : Relations) where
       → All (λ v. IsSorted (signature P) place [] v.formula) vs → AreSortedIn no_scope (formulas vs)
   invariants_sorted place names [] distinct all = tt
   invariants_sorted place names (v ∷ vs) distinct all =
-      let Q : Invariant → Type 0 = λ z. IsSorted (signature P) place [] z.formula in
-      (
-      sorted_in (signature P) place R names v.formula [] no_scope (AreInScope-none no_scope) (AreNew-none (bound_in v.formula) (distinct_left (bound_in v.formula) (flat_map invariant_bound_in vs) distinct))
-      (All-contains Q (v ∷ vs) v all (0, omega arith, refl)),
-      invariants_sorted place names vs (distinct_right (bound_in v.formula) (flat_map invariant_bound_in vs) distinct) (All-tail Q v vs all),
+      let Q : Invariant → Type 0 = λ z. IsSorted (signature P) place [] z.formula in (
+        sorted_in (signature P) place R names v.formula [] no_scope (AreInScope-none no_scope) (AreNew-none (bound_in v.formula) (distinct_left (bound_in v.formula) (flat_map invariant_bound_in vs) distinct))
+            (All-contains Q (v ∷ vs) v all (0, omega arith, refl)),
+        invariants_sorted place names vs (distinct_right (bound_in v.formula) (flat_map invariant_bound_in vs) distinct) (All-tail Q v vs all),
       )
 
 module _ (P : Parts) (sorted : IsWellSorted P) where
   all_distinct : AreDistinct (flat_map invariant_bound_in P.topology ++ (flat_map invariant_bound_in P.safety ++ (flat_map invariant_bound_in P.trans ++ flat_map handler_bound_in P.handlers)))
   all_distinct = distinct_pairs _ sorted.apart
 
-  distinct_topology : AreDistinct (flat_map invariant_bound_in P.topology)
+  pub distinct_topology : AreDistinct (flat_map invariant_bound_in P.topology)
   distinct_topology = distinct_left _ _ all_distinct
 
   distinct_safety : AreDistinct (flat_map invariant_bound_in P.safety)
@@ -126,10 +125,9 @@ module _ (P : Parts) where
   unfolding HaveSortsIn
   vars_sorted k [] Γ = tt
   vars_sorted k (s ∷ ss) Γ =
-      let Δ : Scope = with_sort Γ (record { 0 = k }) s in
-      (
-      scope-below (k + 1) ss Δ k (omega arith) ∙ ap (λ b. if b then Some s else Γ k) (own_number k),
-      vars_sorted (k + 1) ss Δ,
+      let Δ : Scope = with_sort Γ (record { 0 = k }) s in (
+        scope-below (k + 1) ss Δ k (omega arith) ∙ ap (λ b. if b then Some s else Γ k) (own_number k),
+        vars_sorted (k + 1) ss Δ,
       )
 
   -- the terms are one of these rows
@@ -151,10 +149,9 @@ module _ (P : Parts) where
       let xs : List Term = terms_of (binds_from 0 ss) in
       let Γ : Scope = scope_from 0 ss no_scope in
       let have : HaveSortsIn (signature P) Γ ss xs = vars_sorted 0 ss no_scope in
-      closed_sorted 0 ss no_scope (equivalence (Atom r xs) (is_one_of xs (rows_among rows r)))
-      (
-      (record { sorts = ss; declared = declared; terms = have }, named),
-      joined_sorted P no_packet Γ Or (map (same xs) (rows_among rows r)) (each Γ xs have),
+      closed_sorted 0 ss no_scope (equivalence (Atom r xs) (is_one_of xs (rows_among rows r))) (
+        (record { sorts = ss; declared = declared; terms = have }, named),
+        joined_sorted P no_packet Γ Or (map (same xs) (rows_among rows r)) (each Γ xs have),
       )
 
   some_relation : (a b : Relation) → Some a ≡ Some b → a ≡ b

@@ -8,3 +8,5 @@ mod StartTruth
 mod Rooms
 mod Conditioned
 mod ClosedParts
+mod ClosedConditions
+mod Inductive

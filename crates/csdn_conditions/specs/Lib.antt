@@ -3,6 +3,7 @@ pub mod Lists
 pub mod Start
 pub mod Initial
 pub mod Closed
+pub mod Valid
 pub mod Conditions
 pub mod Answers
 pub mod Classes
