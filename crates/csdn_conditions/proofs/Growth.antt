@@ -1,5 +1,6 @@
 -- A precondition has at least as many nodes as the formula.
-use Rattle.std.proofs.Common.{◌≡◌, ◌≢◌, ◌∙◌, sym, ap, subst, refl, ℕ, zero, suc, ◌+◌, ◌-◌, ◌<◌, ◌≤◌, Bool, true, false, List, [], ◌∷◌, ◌++◌, if◌then◌else◌, Option, Some, None, Result, Ok, Err, IsErrAnd, arith}
+use Rattle.std.proofs.Common.{◌≡◌, ◌≢◌, ◌∙◌, sym, ap, subst, refl, ℕ, zero, suc, ◌+◌, ◌-◌, ◌<◌, ◌≤◌, Bool, true, false, List, [], ◌∷◌, ◌++◌, if◌then◌else◌, Option, Some, None, Result, Ok, Err, IfOk, IsErrAnd, arith}
+use Rattle.std.specs.declared.alloc.AllocError.{AllocError}
 use Rattle.csdn_core.specs.declared.terms.Term.{Term}
 use Rattle.csdn_core.specs.declared.terms.Pred.{Pred}
 use Rattle.csdn_core.specs.declared.terms.Pred.TheVariants.{Stored, Ft, Sent, RcvThis}
@@ -17,10 +18,12 @@ use Rattle.fol_forms.specs.declared.refusal.FormRefusal.{FormRefusal}
 use Rattle.fol_forms.specs.declared.refusal.FormRefusal.TheVariants.{Large, Memory}
 use Rattle.fol_forms.specs.Replace.{replace, same, or_row, not_row, or_flood, is_row, floods, add_row, drop_row, add_flood, fix_packet}
 use Rattle.fol_forms.specs.Renumber.{renumber}
+use Rattle.fol_forms.specs.Answers.{widened}
 use Rattle.fol_forms.proofs.Numbered.{nodes-renumbered}
+use Rattle.csdn_wp.specs.declared.vars.PacketVars.{PacketVars}
 use Rattle.csdn_wp.specs.Preconditions.{wp}
-use Rattle.csdn_wp.specs.EventPreconditions.{PacketVars, terms_of, handler_vars, first_vars, for_packets, guard, guarded, member, and_later, members, wp_in, flow_terms, wp_flow}
-use Rattle.csdn_wp.specs.Makes.{Makes, Gives}
+use Rattle.csdn_wp.specs.EventPreconditions.{terms_of, handler_vars, first_vars, for_packets, guard, guarded, member, and_later, members, wp_in, flow_terms, wp_flow}
+use Rattle.csdn_wp.specs.Makes.{Makes}
 use Rattle.csdn_wp.proofs.Grows.{replace_grows, wp_grows}
 use Rattle.csdn_conditions.specs.Conditions.{after_events}
 
@@ -72,11 +75,14 @@ pub refused_by_part : (most : ℕ) (p q : Formula) (e : FormRefusal) (result : R
 refused_by_part most p q e (Ok made) fewer why is = elim is [ ]
 refused_by_part most p q e (Err d) fewer why is = subst (λ (x : FormRefusal). Makes most q (Err x)) (sym is) (refused_too most p q e fewer why)
 
--- what is given, where it is small enough
-pub small_given : (most : ℕ) (p : Formula) (result : Result Formula FormRefusal) → nodes p ≤ most → Gives p result → Makes most p result
-small_given most p (Ok made) small is = (is, small)
-small_given most p (Err Large) small is = absurd is
-small_given most p (Err Memory) small is = tt
+-- what is made, where it is small enough
+pub small_made : (most : ℕ) (p : Formula) (made : Result Formula AllocError) (result : Result Formula FormRefusal) → nodes p ≤ most → IfOk made (λ q. q ≡ p) → result ≡ widened made → Makes most p result
+small_made most p (Ok q) result small is widens = subst (Makes most p) (sym widens) (is, small)
+small_made most p (Err e) result small is widens = subst (Makes most p) (sym widens) tt
+
+pub nodes-two : (p q : Formula) → nodes (conjunction p q) ≡ nodes p + nodes q + 1
+unfolding nodes
+nodes-two p q = refl
 
 -- after one event more
 

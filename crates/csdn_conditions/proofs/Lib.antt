@@ -7,3 +7,4 @@ mod ClassLaws
 mod StartTruth
 mod Rooms
 mod Conditioned
+mod ClosedParts

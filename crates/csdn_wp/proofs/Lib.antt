@@ -8,3 +8,9 @@ pub mod Exact
 pub mod Scopes
 pub mod Grows
 pub mod Making
+pub mod Slices
+pub mod Membering
+pub mod Eventing
+pub mod Arrival
+pub mod Flow
+pub mod Programs

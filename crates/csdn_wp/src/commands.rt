@@ -67,9 +67,9 @@ fn of_sequence(
     precondition(alloc, a, after.get(), room)
 }
 
-// Where the condition is true, the precondition.
+/// Where the condition is true, the precondition.
 #[cycle(preconditions)]
-fn under(
+pub fn under(
     alloc: Global,
     condition: Boxed<Formula>,
     command: &Command,
