@@ -16,3 +16,4 @@ pub mod Arrival
 pub mod Flow
 pub mod Programs
 pub mod Sentences
+pub mod Fitting

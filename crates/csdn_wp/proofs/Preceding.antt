@@ -1,5 +1,5 @@
 -- A command's precondition, by the rules of programs.
-use Rattle.std.proofs.Common.{◌≡◌, List, Result, Ok, Err, IfOk, subst, sym}
+use Rattle.std.proofs.Common.{List, Result, Ok, Err, IfOk, subst, sym}
 use Rattle.csdn_core.specs.declared.program.Parts.{Parts}
 use Rattle.csdn_core.specs.declared.syntax.Formula.{Formula}
 use Rattle.csdn_core.specs.declared.syntax.Command.{Command}

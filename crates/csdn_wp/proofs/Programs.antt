@@ -1,7 +1,6 @@
 -- The preconditions of events in well-sorted programs.
-use Rattle.std.proofs.Common.{◌≡◌, ◌⊎◌, inl, inr, ℕ, ◌<◌, ◌≤◌, ◌^◌, ◌↔◌, Bool, true, false, List, [], ◌∷◌, ◌++◌, Option, Some, None, refl, ap, sym, subst, ◌∙◌, IsTrue, Contains, arith, lit≤}
+use Rattle.std.proofs.Common.{inl, inr, ℕ, ◌<◌, ◌↔◌, List, [], ◌∷◌, ◌++◌, refl, IsTrue, arith}
 use Rattle.std.specs.List.{flat_map}
-use Rattle.std.specs.Prelude.{All}
 use Rattle.std.proofs.lemmas.List.Elements.{All-contains}
 use Rattle.csdn_core.specs.declared.event.Event.TheVariants.{PktIn}
 use Rattle.csdn_core.specs.declared.event.Packet.TheVariants.{Nothing, At}
@@ -16,14 +15,13 @@ use Rattle.csdn_core.specs.WellSorted.{IsWellSorted, IsCommand, signature, own_p
 use Rattle.decision_laws.specs.Vocabulary.{IsIn}
 use Rattle.decision_laws.specs.Clauses.{AreDistinct}
 use Rattle.decision_laws.proofs.Lists.{in_left, in_right, in_contains}
-use Rattle.fol_forms.specs.Renumber.{renumber}
 use Rattle.fol_forms.specs.Substitution.{no_scope}
 use Rattle.csdn_wp.specs.SortedIn.{any_relation, IsSortedIn}
 use Rattle.csdn_wp.specs.EventPreconditions.{handler_vars, wp_in}
 use Rattle.csdn_wp.proofs.Bounds.{distinct_left, distinct_right, distinct_pairs}
 use Rattle.csdn_wp.proofs.Follows.{AreNew}
 use Rattle.csdn_wp.proofs.Scopes.{command_in, AreInScope-none, AreInScope-binds, AreNew-binds, AreNew-none}
-use Rattle.csdn_wp.proofs.Arrival.{IsFine, AllFine, scope_binds, packet_scope, members_exact, Fits, say, after}
+use Rattle.csdn_wp.proofs.Arrival.{AllFine, scope_binds, packet_scope, members_exact, Fits, say, after}
 
 -- handlers whose commands are well-sorted and whose variables have numbers of their own below the bound
 pub all_fine : (P : Parts) (from : ℕ) (hs : List Handler) → ((h : Handler) → IsIn h hs → IsCommand (signature P) (own_packet h) (handler_binds h) h.body) →

@@ -1,5 +1,5 @@
 -- The preconditions of sentences are sentences.
-use Rattle.std.proofs.Common.{◌≡◌, ◌≢◌, ◌⊎◌, inl, inr, ℕ, ◌==◌, ◌≤◌, Bool, true, false, not, ◌&&◌, ◌||◌, List, [], ◌∷◌, ◌++◌, Option, Some, None, refl, ap, ap₂, sym, subst, ◌∙◌, IsTrue, IsFalse, Contains, AllPairs, arith, true≢false}
+use Rattle.std.proofs.Common.{◌≡◌, ◌≢◌, inl, inr, ℕ, ◌==◌, ◌≤◌, Bool, true, false, not, ◌&&◌, ◌||◌, List, [], ◌∷◌, ◌++◌, Option, Some, None, refl, ap, ap₂, sym, subst, ◌∙◌, Contains, AllPairs, arith, true≢false}
 use Rattle.std.proofs.Math.Path.{fun_ext}
 use Rattle.std.specs.List.{flat_map, list_all, list_any}
 use Rattle.csdn_core.specs.declared.terms.VarId.{VarId}
@@ -19,8 +19,8 @@ use Rattle.csdn_core.specs.declared.syntax.Formula.TheVariants as f
 use Rattle.csdn_core.specs.declared.syntax.Command.{Command}
 use Rattle.csdn_core.specs.declared.syntax.Command.TheVariants.{Skip}
 use Rattle.csdn_core.specs.Tree.{negation, conjunction, disjunction, implication, equivalence, universal, existential}
-use Rattle.csdn_core.specs.Truth.{Structure, Assignment, truth, value, values, with_var, same_truth}
-use Rattle.csdn_core.specs.Network.{Network, State, IsNetwork, structure, holds_in}
+use Rattle.csdn_core.specs.Truth.{Assignment, truth, value, values, with_var, same_truth}
+use Rattle.csdn_core.specs.Network.{Network, State, structure, holds_in}
 use Rattle.csdn_core.specs.Numerals.{numerals_in, row_numerals, invariant_numerals, handler_numerals, port_numerals, command_numerals}
 use Rattle.csdn_core.specs.Sorted.{IsAllowed, IsSorted, most_numbers, bound_in}
 use Rattle.csdn_core.specs.WellSorted.{IsWellSorted, signature}
@@ -29,7 +29,7 @@ use Rattle.decision_laws.proofs.Lists.{in_left, in_right, in_both, in_flat, in_c
 use Rattle.fol_forms.specs.Renumber.{renumber}
 use Rattle.fol_forms.specs.Substitution.{Scope, no_scope, with_sort}
 use Rattle.csdn_wp.specs.declared.vars.PacketVars.{PacketVars}
-use Rattle.csdn_wp.specs.SortedIn.{Relations, any_relation, no_packet, HasSortIn, IsSortedIn}
+use Rattle.csdn_wp.specs.SortedIn.{any_relation, no_packet, IsSortedIn}
 use Rattle.csdn_wp.specs.EventPreconditions.{handler_vars, first_vars, is_port, and_also, guard, guarded, and_later, member, members, wp_in}
 use Rattle.csdn_wp.proofs.Bounds.{distinct_pairs}
 use Rattle.csdn_wp.proofs.Scopes.{AreInScope-none, AreNew-none, sorted_in, bind}
