@@ -34,13 +34,13 @@ use Rattle.csdn_conditions.specs.Initial.{is_of_states, IsInitial}
 
 -- truth values
 
-both_true : (a b : Bool) → a ≡ true → b ≡ true → (a && b) ≡ true
+pub both_true : (a b : Bool) → a ≡ true → b ≡ true → (a && b) ≡ true
 both_true a b h k = grind arith
 
-first_true : (a b : Bool) → (a && b) ≡ true → a ≡ true
+pub first_true : (a b : Bool) → (a && b) ≡ true → a ≡ true
 first_true a b h = grind arith
 
-second_true : (a b : Bool) → (a && b) ≡ true → b ≡ true
+pub second_true : (a b : Bool) → (a && b) ≡ true → b ≡ true
 second_true a b h = grind arith
 
 alone_and : (a : Bool) → a ≡ (a && true)
@@ -63,7 +63,7 @@ same_itself false b h = subst (λ c. not c ≡ true) h refl
 -- conjunctions and disjunctions of lists
 
 module _ (M : Structure) (e : Assignment) where
-  truth-all : (ps : List Formula) → truth M (conjunction_of ps) e ≡ list_all (λ p. truth M p e) ps
+  pub truth-all : (ps : List Formula) → truth M (conjunction_of ps) e ≡ list_all (λ p. truth M p e) ps
   unfolding truth
   truth-all [] = refl
   truth-all (p ∷ []) = alone_and (truth M p e)
@@ -75,7 +75,7 @@ module _ (M : Structure) (e : Assignment) where
   truth-any (p ∷ []) = alone_or (truth M p e)
   truth-any (p ∷ q ∷ ps) = ap (λ b. truth M p e || b) (truth-any (q ∷ ps))
 
-list_all-append : (f : Formula → Bool) (ps qs : List Formula) → list_all f (ps ++ qs) ≡ (list_all f ps && list_all f qs)
+pub list_all-append : (f : Formula → Bool) (ps qs : List Formula) → list_all f (ps ++ qs) ≡ (list_all f ps && list_all f qs)
 list_all-append f [] qs = refl
 list_all-append f (p ∷ ps) qs = ap (λ b. f p && b) (list_all-append f ps qs) ∙ grind arith
 
