@@ -1,7 +1,8 @@
 -- One line more of a listing.
-use Rattle.std.proofs.Common.{◌≡◌, ◌∙◌, sym, ap, subst, refl, ℕ, suc, ◌+◌, ◌<◌, List, [], ◌∷◌, ◌++◌, drop, length, map, Some, append_assoc, append-nil, add-one}
+use Rattle.std.proofs.Common.{◌≡◌, ◌∙◌, sym, ap, subst, refl, ℕ, suc, ◌+◌, List, [], ◌∷◌, ◌++◌, drop, length, Some, append_assoc, append-nil, add-one}
 use Rattle.std.specs.Prelude.{slice_get, option_map}
 use Rattle.std.proofs.Math.Seq.{drop-cons}
+use Rattle.std.proofs.lemmas.List.{length-map}
 use Rattle.std.proofs.lemmas.Option.{same_Some, slice_get-map, slice_get_within, get_or_from_slice_get}
 use Rattle.csdn_core.specs.declared.program.Parts.{Parts}
 use Rattle.csdn_conditions.specs.declared.kinds.CondKind.{CondKind}
@@ -19,7 +20,7 @@ drop_is : (cs : List Condition) (i : ℕ) (c : Condition) → slice_get cs i ≡
 drop_is cs i c there =
     drop-cons cs i c (slice_get_within cs i c there)
     ∙ ap (λ x. x ∷ drop (suc i) cs) (get_or_from_slice_get cs i c c there)
-    ∙ ap (λ k. c ∷ drop k cs) (sym add-one)
+    ∙ ap (λ k. c ∷ drop k cs) (sym (add-one i))
 
 -- what was printed, and then the listing of the rest, is the listing of all
 abbrev pub GoesOn : Parts → List Condition → ℕ → List ℕ → Type 0
@@ -35,3 +36,7 @@ goes_on P cs i c out new there (line, is_line, new_is) before = λ rest listed.
 
 pub ends : (P : Parts) (cs : List Condition) (i : ℕ) (out : List ℕ) → drop i cs ≡ [] → GoesOn P cs i out → IsListed P 0 cs out
 ends P cs i out none before = subst (λ t. IsListed P 0 cs t) (append-nil out) (before [] (subst (λ ds. IsListed P i ds []) (sym none) refl))
+
+-- there are as many conditions as kinds
+pub as_many : (P : Parts) (n : ℕ) → length (conditions P n) ≡ length (kinds P n)
+as_many P n = length-map (kinds P n) (condition P n)

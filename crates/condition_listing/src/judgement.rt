@@ -94,14 +94,7 @@ fn is_true(
     ensures { IfOk result (λ is_true. is_true ≡ is_true_in program.now network.now (held state.now) formula.now) }
 {
     let mut env = Env::try_new(alloc, node_count(formula) as usize)?;
-    let is_true = truth(
-        program,
-        network,
-        state,
-        &Packet::Nothing,
-        &mut env,
-        formula,
-    );
+    let is_true = truth(program, network, state, &Packet::Nothing, &mut env, formula);
     Ok(is_true)
 }
 

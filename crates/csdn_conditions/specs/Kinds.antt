@@ -1,5 +1,5 @@
 -- The kinds of the conditions of a level, in their order.
-use Rattle.std.specs.Prelude.{ℕ, ◌+◌, List, [], ◌∷◌, ◌++◌, map, length}
+use Rattle.std.specs.Prelude.{ℕ, ◌+◌, ◌<◌, ◌≤◌, List, [], ◌∷◌, ◌++◌, map, length}
 use Rattle.std.specs.List.{flat_map, range_with_len}
 use Rattle.csdn_core.specs.declared.program.Parts.{Parts}
 use Rattle.csdn_conditions.specs.declared.kinds.EventKind.{EventKind}
@@ -33,3 +33,10 @@ kinds_of n s t =
 
 abbrev pub kinds : Parts → ℕ → List CondKind
 kinds P n = kinds_of n (length P.safety) (length P.trans)
+
+-- the numbers of a kind are those of invariants, of which there are so many, and k is at most n
+abbrev pub IsWithin : ℕ → ℕ → ℕ → CondKind → Type 0
+IsWithin n s t Network = Unit {0}
+IsWithin n s t (Init k v) = (k ≤ n) × (v < s)
+IsWithin n s t (Step v event) = v < s
+IsWithin n s t (Trans u event) = u < t

@@ -1,6 +1,6 @@
 //! How many conditions a level has, and of which kinds.
 ghost use Rattle.std.specs.Prelude.{◌≡◌, ◌<◌, ◌≤◌, ◌+◌, ◌*◌, length, slice_get, Some};
-ghost use Rattle.csdn_conditions.specs.Kinds.{kinds, kinds_of, events};
+ghost use Rattle.csdn_conditions.specs.Kinds.{kinds, kinds_of, events, IsWithin};
 
 use csdn_core::program::Program;
 
@@ -40,7 +40,8 @@ pub fn condition_count(program: &Program, level: u8) -> u32
 pub fn condition_kind(program: &Program, level: u8, index: u32) -> CondKind
     requires level { level ≤ 9 }
     requires index { index < length (kinds program.now level) }
-    ensures { slice_get (kinds program.now level) index ≡ Some result }
+    ensures there { slice_get (kinds program.now level) index ≡ Some result }
+    ensures within { IsWithin level (length program.now.safety) (length program.now.trans) result }
 {
     let parts = program.parts();
     let safety = parts.safety.len();
@@ -62,7 +63,8 @@ fn kind_at(level: u8, safety: u32, trans: u32, index: u32) -> CondKind
     requires level { level ≤ 9 }
     requires few { safety + trans ≤ 64 }
     requires index { index < length (kinds_of level safety trans) }
-    ensures { slice_get (kinds_of level safety trans) index ≡ Some result }
+    ensures there { slice_get (kinds_of level safety trans) index ≡ Some result }
+    ensures within { IsWithin level safety trans result }
 {
     if index == 0 {
         return CondKind::Network;

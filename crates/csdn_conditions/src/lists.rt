@@ -27,7 +27,8 @@ impl Join {
         }
     }
 
-    fn two(self, alloc: Global, p: Formula, q: Formula) -> Result<Formula, AllocError>
+    /// Two formulas, joined.
+    pub fn two(self, alloc: Global, p: Formula, q: Formula) -> Result<Formula, AllocError>
         ensures { IfOk result (λ f. f ≡ two_joined self p q) }
     {
         let p = Boxed::new(alloc, p)?;

@@ -71,8 +71,11 @@ impl Draft {
     pub fn kept(self) -> State
         ensures { held result ≡ standing self }
     {
-        let Draft { state, gone, .. } = self;
-        let mut state = state;
+        let Draft {
+            mut state,
+            gone,
+            ..
+        } = self;
         state.remove_all(&gone);
         state
     }
@@ -81,8 +84,11 @@ impl Draft {
     pub fn undone(self) -> State
         ensures { result ≡ start_of self }
     {
-        let Draft { state, added, .. } = self;
-        let mut state = state;
+        let Draft {
+            mut state,
+            added,
+            ..
+        } = self;
         take_all(&mut state, added);
         state
     }

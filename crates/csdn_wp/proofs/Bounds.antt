@@ -1,6 +1,5 @@
 -- The variables that preconditions bind.
-use Rattle.std.proofs.Common.{◌≡◌, ◌⊎◌, inl, inr, ℕ, suc, ◌+◌, ◌≤◌, ◌<◌, Bool, true, false, List, [], ◌∷◌, ◌++◌, refl, ap, ap₂, sym, subst, ◌∙◌, IsFalse, arith, AllPairs, ◌≢◌, if◌then◌else◌}
-use Rattle.csdn_core.specs.declared.terms.VarId.{VarId}
+use Rattle.std.proofs.Common.{◌≡◌, ◌⊎◌, inl, inr, ℕ, suc, ◌+◌, ◌≤◌, Bool, true, false, List, [], ◌∷◌, ◌++◌, refl, ap, ap₂, sym, subst, IsFalse, arith, AllPairs, ◌≢◌, if◌then◌else◌}
 use Rattle.csdn_core.specs.declared.terms.Term.{Term}
 use Rattle.csdn_core.specs.declared.terms.Pred.{Pred}
 use Rattle.csdn_core.specs.declared.terms.Pred.TheVariants.{Sent, RcvThis}
@@ -17,7 +16,7 @@ use Rattle.csdn_core.specs.WellSorted.{command_bound_in}
 use Rattle.decision_laws.specs.Vocabulary.{IsIn}
 use Rattle.decision_laws.specs.Clauses.{AreDistinct}
 use Rattle.decision_laws.proofs.Lists.{in_left, in_right, in_both, in_contains}
-use Rattle.fol_forms.specs.Replace.{replace, same, or_row, not_row, or_flood, is_row, floods, add_row, drop_row, add_flood, fix_packet}
+use Rattle.fol_forms.specs.Replace.{replace, same, or_row, not_row, or_flood, is_row, floods}
 use Rattle.fol_forms.specs.Renumber.{binders, renumbered}
 use Rattle.csdn_wp.specs.Preconditions.{wp}
 

@@ -24,20 +24,21 @@ use Rattle.csdn_core.specs.Tree.{negation, conjunction, disjunction, implication
 use Rattle.csdn_core.specs.Truth.{Structure, Assignment, truth, values, with_var}
 use Rattle.csdn_core.specs.Network.{Network, State, IsNetwork, structure, elements, same_pred, same_cells, is_fixed, holds_in, is_static_row}
 use Rattle.csdn_core.specs.Execution.{Executes, put, take_out, flooded, is_flood, tuple}
-use Rattle.csdn_core.specs.Variables.{Variables, vars_of, BindsOutside, free_in}
+use Rattle.csdn_core.specs.Variables.{vars_of, BindsOutside, free_in}
 use Rattle.csdn_core.specs.Sorted.{sorts_of, flow_sorts, packet_sorts, bound_in}
 use Rattle.csdn_core.specs.WellSorted.{signature, command_bound_in}
 use Rattle.fol_forms.specs.Replace.{add_row, drop_row, add_flood}
-use Rattle.fol_forms.specs.Substitution.{Scope, no_scope, with_sort, KeepsSorts, IsPort, HasEgress, SendsToPorts, with_relations, with_row, without_row, with_flood, AllAtoms, AllFit, FitsRow}
+use Rattle.fol_forms.specs.Substitution.{Scope, no_scope, with_sort, KeepsSorts, IsPort, HasEgress, SendsToPorts, with_relations, AllAtoms, FitsRow}
 use Rattle.fol_forms.proofs.Replaced.{truth-add_row, truth-drop_row, KeepsSorts-with}
 use Rattle.fol_forms.proofs.Flooded.{truth-add_flood}
 use Rattle.csdn_wp.specs.Preconditions.{wp}
-use Rattle.csdn_wp.specs.SortedIn.{Relations, no_packet, HasSortIn, HaveSortsIn, IsAtomIn, IsSortedIn}
+use Rattle.csdn_wp.specs.After.{stands_in}
+use Rattle.csdn_wp.specs.SortedIn.{Relations, no_packet, HasSortIn, HaveSortsIn, IsSortedIn}
 use Rattle.csdn_wp.proofs.Truths.{all_at, all_from, none_at, none_from, when_true, when_false, both_ways, implied, implies, both_true, first_true, second_true, unless_any, or_any}
 use Rattle.csdn_wp.proofs.Coincidence.{truth-Agrees}
 use Rattle.csdn_wp.proofs.Sorting.{HaveSortsIn-length, not_free}
 use Rattle.csdn_wp.proofs.Sorted.{atom_sorts}
-use Rattle.csdn_wp.proofs.Follows.{AreNew, AreNew-left, AreNew-right, AreNew-under, AreNew-tail, IsCommandIn, MayFollow, MayFollow-under, MayFollow-tail, not_bound, follows_first, follows_second, follows_then, follows_else, new_then, new_else, IsSortedIn-wp}
+use Rattle.csdn_wp.proofs.Follows.{AreNew, AreNew-left, AreNew-right, AreNew-under, AreNew-tail, IsCommandIn, MayFollow, outside_terms, follows_first, follows_second, follows_then, follows_else, follows_none, follows_picked, new_then, new_else, IsSortedIn-wp}
 
 module _ (P : Parts) (N : Network) where
   -- the structure that a state makes, when no packet is looked at
@@ -186,14 +187,14 @@ module _ (P : Parts) (N : Network) where
       go w free true is = let same_var : w ≡ v.0 = grind arith in absurd (true≢false (sym free ∙ ap (free_in q) same_var ∙ not_free (signature P) R Γ v.0 none q sorted))
 
   module _ (network : IsNetwork P N) (R : Relations) (names : (r : Pred) → no_packet r → R r) where
-    pub exact : (c : Command) (q : Formula) (Γ : Scope) → IsCommandIn P Γ c → AreNew Γ (command_bound_in c) → MayFollow P R Γ (command_bound_in c) q → (e : Assignment) (x : State) → KeepsSorts (in_state x) Γ e → IsExact c q e x
-    unfolding wp truth Executes IsCommandIn command_bound_in
+    pub exact : (c : Command) (q : Formula) (Γ : Scope) → IsCommandIn P Γ c → AreNew Γ (command_bound_in c) → MayFollow P R Γ c q → (e : Assignment) (x : State) → KeepsSorts (in_state x) Γ e → IsExact c q e x
+    unfolding wp truth Executes IsCommandIn command_bound_in stands_in
     exact Skip q Γ formed own may e x keeps = one_end q e x _ refl
     exact (sequence a b) q Γ formed own may e x keeps =
         let own_a = AreNew-left Γ (command_bound_in a) (command_bound_in b) own in
         let own_b = AreNew-right Γ (command_bound_in a) (command_bound_in b) own in
-        let may_b = follows_second P R names Γ a b q may in
-        let may_a = follows_first P R names Γ a b q own may (IsSortedIn-wp P R names b q Γ formed.1 own_b may_b) in
+        let may_b = follows_second P R Γ a b q may in
+        let may_a = follows_first P R names Γ a b q formed.0 own may (IsSortedIn-wp P R names b q Γ formed.1 own_b may_b) in
         let first : IsExact a (wp b q) e x = exact a (wp b q) Γ formed.0 own_a may_a e x keeps in
         let second : (z : State) → IsExact b q e z = λ z. exact b q Γ formed.1 own_b may_b e z keeps in (
           λ h y (z, to_z, to_y). (second z).0 (first.0 h z to_z) y to_y,
@@ -201,9 +202,9 @@ module _ (P : Parts) (N : Network) where
         )
     exact (conditional p a b) q Γ formed own may e x keeps =
         let first : IsExact a q e x =
-        exact a q Γ formed.1 (new_then P R names Γ (bound_in p) (command_bound_in a) (command_bound_in b) own) (follows_then P R names Γ (bound_in p) (command_bound_in a) (command_bound_in b) q may) e x keeps in
+        exact a q Γ formed.1 (new_then P Γ (bound_in p) (command_bound_in a) (command_bound_in b) own) (follows_then P R Γ p a b q may) e x keeps in
         let second : IsExact b q e x =
-        exact b q Γ formed.2 (new_else P R names Γ (bound_in p) (command_bound_in a) (command_bound_in b) own) (follows_else P R names Γ (bound_in p) (command_bound_in a) (command_bound_in b) q may) e x keeps in
+        exact b q Γ formed.2 (new_else P Γ (bound_in p) (command_bound_in a) (command_bound_in b) own) (follows_else P R Γ p a b q may) e x keeps in
         let is_p = truth (in_state x) p e in
         let is_a = truth (in_state x) (wp a q) e in
         let is_b = truth (in_state x) (wp b q) e in (
@@ -217,11 +218,11 @@ module _ (P : Parts) (N : Network) where
         let all = bound_in p ++ (command_bound_in a ++ command_bound_in b) in
         let Δ = with_sort Γ v s in
         let first : (m : ℕ) → Contains (elements N s) m → IsExact a q (with_var e v m) x =
-        λ m there. exact a q Δ formed.1 (new_then P R names Δ (bound_in p) (command_bound_in a) (command_bound_in b) (AreNew-under Γ v s all own))
-        (follows_then P R names Δ (bound_in p) (command_bound_in a) (command_bound_in b) q (MayFollow-under P R Γ v s all q own may)) (with_var e v m) x (KeepsSorts-with (in_state x) Γ e v s m keeps there) in
+        λ m there. exact a q Δ formed.1 (new_then P Δ (bound_in p) (command_bound_in a) (command_bound_in b) (AreNew-under Γ v s all own))
+        (follows_picked P R Γ v s p a b q (own.new v.0 (inl refl)) may) (with_var e v m) x (KeepsSorts-with (in_state x) Γ e v s m keeps there) in
         let second : IsExact b q e x =
-        exact b q Γ formed.2 (new_else P R names Γ (bound_in p) (command_bound_in a) (command_bound_in b) (AreNew-tail P R names Γ v.0 all own))
-        (follows_else P R names Γ (bound_in p) (command_bound_in a) (command_bound_in b) q (MayFollow-tail P R names Γ v.0 all q may)) e x keeps in
+        exact b q Γ formed.2 (new_else P Γ (bound_in p) (command_bound_in a) (command_bound_in b) (AreNew-tail P Γ v.0 all own))
+        (follows_none P R Γ v s p a b q may) e x keeps in
         let unseen : (y : State) (m : ℕ) → truth (in_state y) q (with_var e v m) ≡ truth (in_state y) q e = λ y m. not_seen R Γ q may.sorted e y v m (own.new v.0 (inl refl)) in
         let is_p : ℕ → Bool = λ m. truth (in_state x) p (with_var e v m) in
         let is_a : ℕ → Bool = λ m. truth (in_state x) (wp a q) (with_var e v m) in
@@ -237,12 +238,12 @@ module _ (P : Parts) (N : Network) where
               (or_any any_p is_b (λ none. second.1 (λ y to_y. h y (inr (λ m there. none_at is_p (elements N s) m there none, to_y))))),
         )
     exact (Insert r ts) q Γ formed own may e x keeps =
-        one_end q e _ _ (after_put R Γ q may.sorted e x (Stored r) formed.1.sorts ts (can_write_stored r formed.0) formed.1.declared (HaveSortsIn-length (signature P) Γ formed.1.sorts ts formed.1.terms) (not_bound P R Γ [] q formed.1.sorts ts formed.1.terms may))
+        one_end q e _ _ (after_put R Γ q may.sorted e x (Stored r) formed.1.sorts ts (can_write_stored r formed.0) formed.1.declared (HaveSortsIn-length (signature P) Γ formed.1.sorts ts formed.1.terms) (outside_terms P R names Γ (Insert r ts) q ts refl may))
     exact (Remove r ts) q Γ formed own may e x keeps =
-        one_end q e _ _ (after_take_out R Γ q may.sorted e x (Stored r) formed.1.sorts ts (can_write_stored r formed.0) formed.1.declared (HaveSortsIn-length (signature P) Γ formed.1.sorts ts formed.1.terms) (not_bound P R Γ [] q formed.1.sorts ts formed.1.terms may))
+        one_end q e _ _ (after_take_out R Γ q may.sorted e x (Stored r) formed.1.sorts ts (can_write_stored r formed.0) formed.1.declared (HaveSortsIn-length (signature P) Γ formed.1.sorts ts formed.1.terms) (outside_terms P R names Γ (Remove r ts) q ts refl may))
     exact (Install ts) q Γ formed own may e x keeps =
-        one_end q e _ _ (after_put R Γ q may.sorted e x Ft flow_sorts ts can_write_ft refl (HaveSortsIn-length (signature P) Γ flow_sorts ts formed) (not_bound P R Γ [] q flow_sorts ts formed may))
+        one_end q e _ _ (after_put R Γ q may.sorted e x Ft flow_sorts ts can_write_ft refl (HaveSortsIn-length (signature P) Γ flow_sorts ts formed) (outside_terms P R names Γ (Install ts) q ts refl may))
     exact (Forward ts) q Γ formed own may e x keeps =
-        one_end q e _ _ (after_put R Γ q may.sorted e x Sent flow_sorts ts can_write_sent refl (HaveSortsIn-length (signature P) Γ flow_sorts ts formed) (not_bound P R Γ [] q flow_sorts ts formed may))
+        one_end q e _ _ (after_put R Γ q may.sorted e x Sent flow_sorts ts can_write_sent refl (HaveSortsIn-length (signature P) Γ flow_sorts ts formed) (outside_terms P R names Γ (Forward ts) q ts refl may))
     exact (Flood ts) q Γ formed own may e x keeps =
-        one_end q e _ _ (after_flood R Γ q may.sorted e x network keeps ts formed (not_bound P R Γ [] q packet_sorts ts formed may))
+        one_end q e _ _ (after_flood R Γ q may.sorted e x network keeps ts formed (outside_terms P R names Γ (Flood ts) q ts refl may))

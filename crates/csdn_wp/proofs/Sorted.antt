@@ -1,23 +1,23 @@
 -- Preconditions are well-sorted.
-use Rattle.std.proofs.Common.{◌≡◌, ℕ, ◌==◌, Bool, true, false, not, cond, List, [], ◌∷◌, ◌++◌, length, Option, Some, None, refl, ap, sym, subst, ◌∙◌, IsTrue, IsFalse, Contains, arith, true≢false, if◌then◌else◌}
+use Rattle.std.proofs.Common.{◌≡◌, ℕ, ◌==◌, Bool, true, false, List, [], ◌∷◌, Option, Some, None, refl, ap, sym, subst, ◌∙◌, IsFalse, arith, if◌then◌else◌}
 use Rattle.csdn_core.specs.declared.terms.VarId.{VarId}
 use Rattle.csdn_core.specs.declared.terms.Sort.{Sort}
 use Rattle.csdn_core.specs.declared.terms.Sort.TheVariants.{Sw, Ho, Pr}
 use Rattle.csdn_core.specs.declared.terms.Term.{Term}
 use Rattle.csdn_core.specs.declared.terms.Term.TheVariants.{Var, Const, Port}
 use Rattle.csdn_core.specs.declared.terms.Pred.{Pred}
-use Rattle.csdn_core.specs.declared.terms.Pred.TheVariants.{Stored, Ft, Sent, RcvThis}
+use Rattle.csdn_core.specs.declared.terms.Pred.TheVariants.{Sent, RcvThis}
 use Rattle.csdn_core.specs.declared.syntax.Formula.{Formula}
 use Rattle.csdn_core.specs.declared.syntax.Formula.TheVariants as f
 use Rattle.csdn_core.specs.Tree.{negation, conjunction, disjunction, implication, equivalence, universal, existential}
 use Rattle.csdn_core.specs.Network.{same_pred}
-use Rattle.csdn_core.specs.Variables.{Variables, is_var, vars_of, BindsOutside}
+use Rattle.csdn_core.specs.Variables.{is_var, vars_of, BindsOutside}
 use Rattle.csdn_core.specs.Sorted.{Signature, sorts_of, flow_sorts, packet_sorts}
 use Rattle.decision_laws.proofs.Basics.{same_pred-true}
 use Rattle.fol_forms.specs.Replace.{replace, same, or_row, not_row, or_flood, is_row, floods, add_row, drop_row, add_flood, fix_packet}
-use Rattle.fol_forms.specs.Substitution.{Scope, no_scope, with_sort}
-use Rattle.csdn_wp.specs.SortedIn.{Relations, any_relation, no_packet, HasSortIn, HaveSortsIn, IsAtomIn, IsSortedIn}
-use Rattle.csdn_wp.proofs.Truths.{self_equal, first_not, second_not}
+use Rattle.fol_forms.specs.Substitution.{Scope, with_sort}
+use Rattle.csdn_wp.specs.SortedIn.{Relations, no_packet, HasSortIn, HaveSortsIn, IsAtomIn, IsSortedIn}
+use Rattle.csdn_wp.proofs.Truths.{first_not, second_not}
 
 module _ (S : Signature) where
   -- a term keeps its sort under a binder of another variable
@@ -55,7 +55,7 @@ module _ (S : Signature) where
     IsSortedIn-replace Γ (existential v s p) have out sorted = IsSortedIn-replace (with_sort Γ v s) p (HaveSortsIn-under Γ v s ss ts out.0 have) out.1 sorted
 
   -- equations of terms of the same sorts
-  IsSortedIn-same : (Q : Relations) (Γ : Scope) (ss : List Sort) (us ts : List Term) → HaveSortsIn S Γ ss us → HaveSortsIn S Γ ss ts → IsSortedIn S Q Γ (same us ts)
+  pub IsSortedIn-same : (Q : Relations) (Γ : Scope) (ss : List Sort) (us ts : List Term) → HaveSortsIn S Γ ss us → HaveSortsIn S Γ ss ts → IsSortedIn S Q Γ (same us ts)
   unfolding IsSortedIn HaveSortsIn
   IsSortedIn-same Q Γ [] [] [] have have_too = tt
   IsSortedIn-same Q Γ [] [] (t ∷ ts) have have_too = absurd have_too

@@ -1,24 +1,20 @@
 -- Formulas that are well-sorted in a scope.
-use Rattle.std.proofs.Common.{◌≡◌, ◌⊎◌, inl, inr, ℕ, suc, ◌+◌, ◌≤◌, ◌<◌, ◌==◌, Bool, true, false, not, ◌&&◌, ◌||◌, cond, List, [], ◌∷◌, ◌++◌, length, map, Option, Some, None, refl, ap, ap₂, sym, subst, ◌∙◌, IsTrue, IsFalse, Contains, arith, true≢false}
+use Rattle.std.proofs.Common.{◌≡◌, ℕ, suc, ◌+◌, ◌<◌, ◌==◌, Bool, true, false, not, ◌&&◌, cond, List, [], ◌∷◌, length, map, Option, Some, None, refl, ap, sym, ◌∙◌, IsFalse, arith, true≢false}
 use Rattle.csdn_core.specs.declared.terms.VarId.{VarId}
 use Rattle.csdn_core.specs.declared.terms.Sort.{Sort}
-use Rattle.csdn_core.specs.declared.terms.Sort.TheVariants.{Sw, Ho, Pr}
 use Rattle.csdn_core.specs.declared.terms.Term.{Term}
 use Rattle.csdn_core.specs.declared.terms.Term.TheVariants.{Var, Const, Port}
 use Rattle.csdn_core.specs.declared.terms.Pred.{Pred}
-use Rattle.csdn_core.specs.declared.terms.Pred.TheVariants.{Stored, Ft, Sent, RcvThis}
 use Rattle.csdn_core.specs.declared.syntax.Formula.{Formula}
 use Rattle.csdn_core.specs.declared.syntax.Formula.TheVariants as f
 use Rattle.csdn_core.specs.Tree.{negation, conjunction, disjunction, implication, equivalence, universal, existential}
 use Rattle.csdn_core.specs.Truth.{with_var}
-use Rattle.csdn_core.specs.Network.{same_pred}
-use Rattle.csdn_core.specs.Variables.{Variables, is_var, vars_of, BindsOutside, free_in}
-use Rattle.csdn_core.specs.Sorted.{Signature, sorts_of, flow_sorts, packet_sorts}
-use Rattle.decision_laws.proofs.Basics.{same_pred-true}
-use Rattle.fol_forms.specs.Replace.{replace, same, or_row, not_row, or_flood, is_row, floods, add_row, drop_row, add_flood, fix_packet}
+use Rattle.csdn_core.specs.Variables.{is_var, vars_of, free_in}
+use Rattle.csdn_core.specs.Sorted.{Signature}
+use Rattle.fol_forms.specs.Replace.{same}
 use Rattle.fol_forms.specs.Renumber.{binders, renamed, renumbered, renumber}
-use Rattle.fol_forms.specs.Substitution.{Scope, no_scope, with_sort, AllAtoms, FitsRow}
-use Rattle.csdn_wp.specs.SortedIn.{Relations, any_relation, no_packet, HasSortIn, HaveSortsIn, IsAtomIn, IsSortedIn}
+use Rattle.fol_forms.specs.Substitution.{Scope, no_scope, with_sort}
+use Rattle.csdn_wp.specs.SortedIn.{Relations, HasSortIn, HaveSortsIn, IsSortedIn}
 use Rattle.csdn_wp.proofs.Truths.{self_equal, neither}
 
 -- what is in the first scope is in the second, with its sort

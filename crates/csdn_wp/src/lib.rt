@@ -4,4 +4,10 @@
 //! where the formula is true.
 #![tactic(auto)]
 
+pub mod build;
+pub mod commands;
 pub mod events;
+mod guards;
+pub mod laws;
+mod members;
+pub mod vars;

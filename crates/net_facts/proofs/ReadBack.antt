@@ -1,5 +1,5 @@
 -- What is printed of a case reads as that case.
-use Rattle.std.proofs.Common.{◌≡◌, ◌≢◌, ◌∙◌, ap, sym, subst, refl, ℕ, suc, ◌+◌, ◌<◌, ◌^◌, Bool, true, false, List, [], ◌∷◌, ◌++◌, length, map, Option, Some, None, Ok, All, Contains, slice_get, slice_index, arith, append_assoc, append-nil}
+use Rattle.std.proofs.Common.{◌≡◌, ◌≢◌, ◌∙◌, ap, sym, subst, refl, ℕ, suc, ◌+◌, ◌<◌, ◌^◌, Bool, true, false, List, [], ◌∷◌, ◌++◌, length, map, Option, Some, None, Ok, All, Contains, slice_get, slice_index, arith, append_assoc, append-nil, Result, Err}
 use Rattle.std.specs.Prelude.{decimal, codes, option_map}
 use Rattle.std.specs.Ordering.{nat_cmp}
 use Rattle.std.specs.List.{list_all, AllByRecursion}
@@ -8,8 +8,9 @@ use Rattle.std.proofs.lemmas.Bool.{and_from}
 use Rattle.std.proofs.lemmas.List.{length_push}
 use Rattle.std.proofs.lemmas.List.Elements.{All-weaker, All-contains, recursion_from_All}
 use Rattle.std.proofs.lemmas.Option.{same_Some, slice_get_within, slice_get-map, get_or_from_slice_get}
+use Rattle.std.specs.Result.{MatchResult}
 use Rattle.text_lines.specs.Text.{lines_left}
-use Rattle.text_lines.specs.Machine.{run, after_step, reading}
+use Rattle.text_lines.specs.Machine.{Refused, run, after_step, reading}
 use Rattle.text_lines.specs.Printed.{is_word, is_line, are_lines, numbered}
 use Rattle.text_lines.proofs.PrintedLaws.{words_joined, lines_printed, word_decimal, words_decimal}
 use Rattle.csdn_core.specs.declared.terms.Sort.{Sort}
@@ -32,6 +33,10 @@ use Rattle.net_structs.specs.Rows.{row_cmp, row_total}
 use Rattle.net_structs.specs.Networks.{as_stored, static_cmp}
 use Rattle.net_text.specs.declared.place.Place.{Place}
 use Rattle.net_text.specs.declared.place.Place.TheVariants as place
+use Rattle.net_text.specs.declared.refusal.NetTextRefusal.{NetTextRefusal}
+use Rattle.net_text.specs.declared.refusal.Why.{Why}
+use Rattle.net_text.specs.declared.refusal.NetTextRefusal.TheVariants as refusal
+use Rattle.net_text.specs.Gives.{Gives}
 use Rattle.net_text.specs.Lines.{◌>>=◌, has_some, sort_of, no_values, ports_of, relation_from}
 use Rattle.net_text.specs.NetText.{step, net_format, name_in, name_of, tuple_words, row_words, constant_lines, state_lines, packet_lines, header_words, end_words, head_lines, part_lines, case_lines, net_text}
 use Rattle.net_facts.specs.Cases.{IsKept, IsStateTuple, IsState, IsPacket, IsCase, IsRisingState, IsInOrder}
@@ -269,3 +274,15 @@ read_back P case well is order =
     head_reads P well N is.network order.small past case (part_lines P case) order.elements_rise
     (parts_read P well N is.network order.small past case is.state order.state_rises is.packet order.static_rise) in
     ap (λ ls. run (net_format P) past ls place.Header) (lines_printed 1 (case_lines P case) reads.fine) ∙ reads.ends 1
+
+-- .. and so the reader answers it, or that there is no memory
+pub answered_back : (P : Parts) (case : Case) → IsWellSorted P → IsCase P case → IsInOrder case → (answer : Result Case NetTextRefusal) → Gives answer (reading (net_format P) (net_text P case)) → MatchResult answer (λ again. again ≡ case) (λ why. why ≡ refusal.Memory)
+answered_back P case well is order (Ok v) gives = let same : Ok v ≡ Ok case = sym gives ∙ read_back P case well is order in one v case same
+  where
+    one : (v w : Case) → ◌≡◌ {A = Result Case (Refused Why)} (Ok v) (Ok w) → v ≡ w
+    one v w is = cc
+answered_back P case well is order (Err (refusal.Line n e)) gives = none (record { number = n; reason = e }) (sym gives ∙ read_back P case well is order)
+  where
+    none : {A : Type 0} (e : Refused Why) → ◌≡◌ {A = Result Case (Refused Why)} (Err e) (Ok case) → A
+    none e is = absurd cc
+answered_back P case well is order (Err refusal.Memory) gives = refl

@@ -1,24 +1,27 @@
 //! Laws of network texts.
-ghost use Rattle.std.specs.Prelude.{◌≡◌, ℕ, List, Result, Ok, IfOk};
+ghost use Rattle.std.specs.Prelude.{◌≡◌, ℕ, List, Result, Ok, IfOk, MatchResult};
 ghost use Rattle.std.specs.List.Sorted.{IsStrictlySortedBy};
 ghost use Rattle.std.specs.Ordering.{nat_cmp};
 ghost use Rattle.text_lines.specs.Machine.{reading};
 ghost use Rattle.csdn_core.specs.declared.terms.Sort.{Sort};
 ghost use Rattle.csdn_core.specs.declared.program.Parts.{Parts as AnyParts};
-ghost use Rattle.csdn_core.specs.Network.{Network, elements};
+ghost use Rattle.csdn_core.specs.Network.{IsNetwork, Network, State, elements};
 ghost use Rattle.csdn_core.specs.WellSorted.{IsWellSorted};
 ghost use Rattle.net_structs.specs.declared.case.Case.{Case as AnyCase};
 ghost use Rattle.net_structs.specs.declared.read.NetParts.{NetParts as AnyNetParts};
 ghost use Rattle.net_structs.specs.Networks.{static_cmp};
 ghost use Rattle.net_structs.specs.Refusals.{IsAnswer};
 ghost use Rattle.net_text.specs.declared.refusal.NetTextRefusal.{NetTextRefusal as AnyRefusal};
+ghost use Rattle.net_text.specs.declared.refusal.NetTextRefusal.TheVariants.{Memory};
 ghost use Rattle.net_text.specs.NetText.{net_format, net_text};
 ghost use Rattle.net_text.specs.Gives.{Gives};
 ghost use Rattle.net_facts.specs.Cases.{IsCase, IsInOrder};
+ghost use Rattle.net_facts.specs.Listed.{HasTruthOfList};
 
-/// What is printed of a case reads as that case.
+/// What is printed of a case reads as that case; so the reader answers it, or that there is no memory.
 pub fn cases_read_back()
-    ensures { (P : AnyParts) (case : AnyCase) → IsWellSorted P → IsCase P case → IsInOrder case → reading (net_format P) (net_text P case) ≡ Ok case }
+    ensures reading { (P : AnyParts) (case : AnyCase) → IsWellSorted P → IsCase P case → IsInOrder case → reading (net_format P) (net_text P case) ≡ Ok case }
+    ensures answer { (P : AnyParts) (case : AnyCase) → IsWellSorted P → IsCase P case → IsInOrder case → (answer : Result AnyCase AnyRefusal) → Gives answer (reading (net_format P) (net_text P case)) → MatchResult answer (λ again. again ≡ case) (λ why. why ≡ Memory) }
 {}
 
 /// What a text reads as is a case of the program, in order; so it is printed and read again.
@@ -32,4 +35,10 @@ pub fn texts_give_cases()
 pub fn accepted_networks_are_in_order()
     ensures elements { (P : AnyParts) (parts : AnyNetParts) (N : Network) → IsAnswer P parts (Ok N) → (s : Sort) → IsStrictlySortedBy nat_cmp (elements N s) }
     ensures rows { (P : AnyParts) (parts : AnyNetParts) (N : Network) → IsAnswer P parts (Ok N) → IsStrictlySortedBy static_cmp N.rows }
+{}
+
+/// In every network each state, whatever tuples it has, gives each well-sorted sentence the truth that a list of tuples of the
+/// network's elements gives it.
+pub fn states_have_truth_of_lists()
+    ensures { (P : AnyParts) (N : Network) → IsNetwork P N → (x : State) → HasTruthOfList P N x }
 {}

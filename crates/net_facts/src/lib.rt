@@ -3,4 +3,6 @@
 
 mod laws;
 
-pub use laws::{accepted_networks_are_in_order, cases_read_back, texts_give_cases};
+pub use laws::{
+    accepted_networks_are_in_order, cases_read_back, states_have_truth_of_lists, texts_give_cases,
+};

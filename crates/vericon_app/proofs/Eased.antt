@@ -12,6 +12,7 @@ use Rattle.vericon_app.specs.Loads as load
 use Rattle.vericon_app.specs.Loads.{Needs, was_there, was_not, Holds, IsProgram, NoProgram, WithProgram, IsCase, NoCase, WithCase, AreNotes, NoNotes, WithNotes}
 use Rattle.vericon_app.specs.Eval.{TruthOutput, EvalOutput}
 use Rattle.vericon_app.specs.Trace.{NotesOutput, TraceOutput}
+use Rattle.vericon_app.specs.Conditions.{ClassesOutput, ConditionOutput, ConditionsOutput, EvalConditionOutput}
 
 -- what the files tell, and these counts
 abbrev pub counted : (List ℕ → Told) → ℕ → ℕ → Inputs
@@ -109,6 +110,16 @@ module _ (told : List ℕ → Told) (before after before' after' : ℕ) (eases :
   trace_eased name net journal text status out =
       program_eased name (λ P. WithCase old P net (λ kase. WithNotes old journal (NotesOutput P kase))) (λ P. WithCase new P net (λ kase. WithNotes new journal (NotesOutput P kase))) text status
       (λ P said. traced_eased P net journal text status said) out
+
+  pub judged_eased : (P : Parts) (index : ℕ) (net text : List ℕ) (status : ℕ) → WithCase old P net (ConditionOutput P index) text status → WithCase new P net (ConditionOutput P index) text status
+  judged_eased P index net text status out = case_eased P net (ConditionOutput P index) (ConditionOutput P index) text status (λ kase said. said) out
+
+  pub eval_condition_eased : (name net : List ℕ) (index : ℕ) (text : List ℕ) (status : ℕ) → EvalConditionOutput old name net index text status → EvalConditionOutput new name net index text status
+  eval_condition_eased name net index text status out =
+      program_eased name (λ P. WithCase old P net (ConditionOutput P index)) (λ P. WithCase new P net (ConditionOutput P index)) text status (λ P said. judged_eased P index net text status said) out
+
+  pub conditions_eased : (name text : List ℕ) (status : ℕ) → ConditionsOutput old name text status → ConditionsOutput new name text status
+  conditions_eased name text status out = program_eased name ClassesOutput ClassesOutput text status (λ P said. said) out
 
 -- what a file's bytes are hangs on no count
 pub program_kept : (told : List ℕ → Told) (before after before' after' : ℕ) (name : List ℕ) (P : Parts) → IsProgram (counted told before after) name P → IsProgram (counted told before' after') name P

@@ -10,7 +10,7 @@ use Rattle.vericon_edge.specs.Told.{Told, holds, MayHold, MayBeMissing, MayBeLon
 use Rattle.vericon_app.specs.declared.source.FileKind.{FileKind}
 use Rattle.vericon_app.specs.declared.source.FileKind.TheVariants.{Program, Frames, Logs}
 use Rattle.vericon_app.specs.declared.program.Why.{Why}
-use Rattle.vericon_app.specs.Words.{Form, usage, check, show, eval, trace, frames, clauses}
+use Rattle.vericon_app.specs.Words.{Form, usage, check, show, eval, eval_condition, trace, conditions, frames, clauses}
 use Rattle.vericon_app.specs.Inputs.{Inputs, WithFile, was_read, was_refused, was_missing, was_longer, had_failed}
 use Rattle.vericon_app.specs.Programs.{Spells, IsNoProgram, has_no_reading, breaks_a_rule}
 use Rattle.vericon_app.specs.Small.{IsSmall}
@@ -21,7 +21,7 @@ use Rattle.vericon_app.specs.Clauses.{BlocksOutput}
 use Rattle.vericon_app.specs.Output.{Output}
 use Rattle.vericon_app.specs.Left.{HasLeft, whole, no_memory, cut, cut_memory}
 use Rattle.vericon_app.specs.Quiet.{IsUndisturbed, calm, Answers, answers, wants_memory}
-use Rattle.vericon_app.proofs.Eased.{calming, file_eased, eval_eased, trace_eased}
+use Rattle.vericon_app.proofs.Eased.{calming, file_eased, eval_eased, eval_condition_eased, trace_eased, conditions_eased}
 use Rattle.vericon_app.specs.Decided.{IsDecided, is_yes, is_counterexample, is_not_yet, spells_none, is_too_long}
 
 -- bytes spell at most one program
@@ -85,7 +85,9 @@ calmed usage given text status steady counts out = out
 calmed (check name) given text status steady counts out = file_eased given.told given.before given.after 0 0 (calming given.before given.after steady counts) Program name (BytesOutput name) (BytesOutput name) text status (λ bytes said. said) out
 calmed (show name) given text status steady counts out = file_eased given.told given.before given.after 0 0 (calming given.before given.after steady counts) Program name (PrintedOutput name) (PrintedOutput name) text status (λ bytes said. said) out
 calmed (eval name net) given text status steady counts out = eval_eased given.told given.before given.after 0 0 (calming given.before given.after steady counts) name net text status out
+calmed (eval_condition name net index) given text status steady counts out = eval_condition_eased given.told given.before given.after 0 0 (calming given.before given.after steady counts) name net index text status out
 calmed (trace name net journal) given text status steady counts out = trace_eased given.told given.before given.after 0 0 (calming given.before given.after steady counts) name net journal text status out
+calmed (conditions name) given text status steady counts out = conditions_eased given.told given.before given.after 0 0 (calming given.before given.after steady counts) name text status out
 calmed (frames name) given text status steady counts out = file_eased given.told given.before given.after 0 0 (calming given.before given.after steady counts) Frames name ListingOutput ListingOutput text status (λ bytes said. said) out
 calmed (clauses name) given text status steady counts out = file_eased given.told given.before given.after 0 0 (calming given.before given.after steady counts) Logs name (BlocksOutput name) (BlocksOutput name) text status (λ bytes said. said) out
 

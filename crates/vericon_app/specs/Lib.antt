@@ -11,6 +11,7 @@ pub mod LoadGives
 pub mod Check
 pub mod Show
 pub mod Eval
+pub mod Conditions
 pub mod Trace
 pub mod Frames
 pub mod Clauses

@@ -1,8 +1,9 @@
 -- What the words of a call ask for.
-use Rattle.std.specs.Prelude.{ℕ, Bool, not, ◌&&◌, ◌||◌, List, [], ◌∷◌, codes, if◌then◌else◌}
+use Rattle.std.specs.Prelude.{ℕ, Bool, not, ◌&&◌, ◌||◌, List, [], ◌∷◌, codes, if◌then◌else◌, Option, Some, None}
 use Rattle.std.specs.Str.{bytes_eq}
+use Rattle.text_lines.specs.Numbers.{number_of}
 use Rattle.vericon_app.specs.declared.words.Request.{Request}
-use Rattle.vericon_app.specs.declared.words.Request.TheVariants.{Usage, Check, Show, Eval, Trace, Frames, Clauses}
+use Rattle.vericon_app.specs.declared.words.Request.TheVariants.{Usage, Check, Show, Eval, EvalCondition, Trace, Conditions, Frames, Clauses}
 
 pub data Form : Type 0 where
   -- no stated form
@@ -13,8 +14,12 @@ pub data Form : Type 0 where
   show : List ℕ → Form
   -- `eval PROGRAM NET`
   eval : List ℕ → List ℕ → Form
+  -- `eval PROGRAM NET 0 INDEX`
+  eval_condition : List ℕ → List ℕ → ℕ → Form
   -- `trace PROGRAM NET JOURNAL`
   trace : List ℕ → List ℕ → List ℕ → Form
+  -- `conditions PROGRAM`
+  conditions : List ℕ → Form
   -- `frames FILE`
   frames : List ℕ → Form
   -- `clauses FILE`
@@ -24,18 +29,34 @@ pub data Form : Type 0 where
 abbrev pub is_check_option : List ℕ → Bool
 is_check_option word = bytes_eq word (codes "--strengthen") || bytes_eq word (codes "--log")
 
+-- .. of `conditions`
+abbrev pub is_conditions_option : List ℕ → Bool
+is_conditions_option word = bytes_eq word (codes "--strengthen")
+
+-- 2 ^ 32 - 1
+abbrev pub most_index : ℕ
+most_index = 4294967295
+
+-- `eval` with a number of a condition
+abbrev pub with_index : List ℕ → List ℕ → Option ℕ → Form
+with_index program net None = usage
+with_index program net (Some index) = eval_condition program net index
+
 abbrev pub form_of : List (List ℕ) → Form
 form_of [] = usage
 form_of (command ∷ []) = usage
 form_of (command ∷ file ∷ []) =
     if bytes_eq command (codes "check") && not (is_check_option file) then check file
     else if bytes_eq command (codes "show") then show file
+    else if bytes_eq command (codes "conditions") && not (is_conditions_option file) then conditions file
     else if bytes_eq command (codes "frames") then frames file
     else if bytes_eq command (codes "clauses") then clauses file
     else usage
 form_of (command ∷ first ∷ second ∷ []) = if bytes_eq command (codes "eval") then eval first second else usage
 form_of (command ∷ first ∷ second ∷ third ∷ []) = if bytes_eq command (codes "trace") then trace first second third else usage
-form_of (command ∷ first ∷ second ∷ third ∷ fourth ∷ more) = usage
+form_of (command ∷ first ∷ second ∷ third ∷ fourth ∷ []) =
+    if bytes_eq command (codes "eval") && bytes_eq third (codes "0") then with_index first second (number_of most_index fourth) else usage
+form_of (command ∷ first ∷ second ∷ third ∷ fourth ∷ fifth ∷ more) = usage
 
 -- the form that the code has found
 abbrev pub form_found : Request → Form
@@ -43,6 +64,8 @@ form_found Usage = usage
 form_found (Check program) = check program.now
 form_found (Show program) = show program.now
 form_found (Eval program net) = eval program.now net.now
+form_found (EvalCondition program net index) = eval_condition program.now net.now index
 form_found (Trace program net journal) = trace program.now net.now journal.now
+form_found (Conditions program) = conditions program.now
 form_found (Frames file) = frames file.now
 form_found (Clauses file) = clauses file.now

@@ -14,7 +14,8 @@ ghost use Rattle.vericon_edge.specs.Told.{holds};
 
 use crate::check::check;
 use crate::clauses::clauses;
-use crate::eval::eval;
+use crate::conditions::conditions;
+use crate::eval::{eval, eval_condition};
 use crate::frames::frames;
 use crate::lines::usage;
 use crate::outcome::{Outcome, Status};
@@ -41,11 +42,17 @@ fn run_command<F: Files>(
         Request::Check { program } => check(alloc, files, program),
         Request::Show { program } => show(alloc, files, program),
         Request::Eval { program, net } => eval(alloc, files, program, net),
+        Request::EvalCondition {
+            program,
+            net,
+            index,
+        } => eval_condition(alloc, files, program, net, index),
         Request::Trace {
             program,
             net,
             journal,
         } => trace(alloc, files, program, net, journal),
+        Request::Conditions { program } => conditions(alloc, files, program),
         Request::Frames { file } => frames(alloc, files, file),
         Request::Clauses { file } => clauses(alloc, files, file),
     }
@@ -76,6 +83,7 @@ pub fn no_memory<S: Sink>(out: &mut S) -> u8
 /// |---|---|
 /// | 0 | yes, or done |
 /// | 1 | a condition is broken, and the state that is printed shows it; or an invariant was false after a note; or a block's log isn't accepted |
+/// | 2 | a condition is too large to be looked at |
 /// | 3 | a text was refused |
 /// | 5 | the file is missing, or was not read |
 /// | 6 | the words have no stated form |
@@ -106,6 +114,8 @@ pub fn check_call<F: Files, S: Sink>(
     }
 }
 
+#[cfg(test)]
+mod condition_tests;
 #[cfg(test)]
 mod tests;
 #[cfg(test)]

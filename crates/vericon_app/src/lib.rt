@@ -8,6 +8,7 @@
 pub mod call;
 mod check;
 mod clauses;
+mod conditions;
 mod eval;
 mod frames;
 pub mod laws;

@@ -13,6 +13,8 @@ pub enum Status {
     NotAccepted,
     /// An invariant was false after a note.
     Broken,
+    /// A condition is too large to be looked at.
+    Unknown,
     /// A text was refused.
     Refused,
     /// A file was not read.
@@ -33,6 +35,7 @@ impl Status {
         match self {
             Status::Done => 0,
             Status::Counterexample | Status::NotAccepted | Status::Broken => 1,
+            Status::Unknown => 2,
             Status::Refused => 3,
             Status::ReadFault => 5,
             Status::Usage => 6,

@@ -1,6 +1,9 @@
 //! The words of a call.
 ghost use Rattle.std.specs.Prelude.{◌≡◌, map, string_bytes};
-ghost use Rattle.vericon_app.specs.Words.{form_of, form_found};
+ghost use Rattle.text_lines.specs.Numbers.{number_of};
+ghost use Rattle.vericon_app.specs.Words.{form_of, form_found, most_index, with_index};
+
+use text_lines::read_number;
 
 /// What the words ask for.
 #[derive(Clone, Copy)]
@@ -20,11 +23,21 @@ pub enum Request<'a> {
         program: &'a str,
         net: &'a str,
     },
+    /// `eval PROGRAM NET 0 INDEX`.
+    EvalCondition {
+        program: &'a str,
+        net: &'a str,
+        index: u32,
+    },
     /// `trace PROGRAM NET JOURNAL`.
     Trace {
         program: &'a str,
         net: &'a str,
         journal: &'a str,
+    },
+    /// `conditions PROGRAM`.
+    Conditions {
+        program: &'a str,
     },
     /// `frames FILE`.
     Frames {
@@ -34,6 +47,22 @@ pub enum Request<'a> {
     Clauses {
         file: &'a str,
     },
+}
+
+const MOST_INDEX: u64 = 0xffff_ffff;
+
+/// `eval` with the number of a condition.
+fn eval_condition<'a>(program: &'a str, net: &'a str, index: &str) -> Request<'a>
+    ensures { form_found result ≡ with_index program.now net.now (number_of most_index index.now) }
+{
+    match read_number(index.as_bytes(), MOST_INDEX) {
+        None => Request::Usage,
+        Some(index) => Request::EvalCondition {
+            program,
+            net,
+            index: index as u32,
+        },
+    }
 }
 
 /// Reads the words.
@@ -48,6 +77,8 @@ pub fn request_of(words: &[String]) -> Request<'_>
                 Request::Check { program: file }
             } else if command.as_str() == "show" {
                 Request::Show { program: file }
+            } else if command.as_str() == "conditions" && file != "--strengthen" {
+                Request::Conditions { program: file }
             } else if command.as_str() == "frames" {
                 Request::Frames { file }
             } else if command.as_str() == "clauses" {
@@ -73,6 +104,13 @@ pub fn request_of(words: &[String]) -> Request<'_>
                     net: net.as_str(),
                     journal: journal.as_str(),
                 }
+            } else {
+                Request::Usage
+            }
+        }
+        [command, program, net, level, index] => {
+            if command.as_str() == "eval" && level.as_str() == "0" {
+                eval_condition(program.as_str(), net.as_str(), index.as_str())
             } else {
                 Request::Usage
             }

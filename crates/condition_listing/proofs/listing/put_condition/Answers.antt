@@ -18,6 +18,6 @@ returns c =
       holds = (
         line_text (condition_words P i kind class),
         record { class = class; is_class = found.holds; text_is = refl },
-        e ∙ ap (λ k. c.args.out.now.items ++ line_text (condition_words P i k class)) (kind_is P c.args.level i found.condition c.condition_kind.result found.there c.condition_kind.ensures.there),
+        e ∙ ap (λ k. c.args.out.now.items ++ line_text (condition_words P i k class)) (kind_is P c.args.level i found.condition c.condition_kind-kind.result found.there c.condition_kind-kind.ensures.there),
       );
     }) c.put_line_of.ensures

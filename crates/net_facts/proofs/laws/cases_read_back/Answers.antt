@@ -1,5 +1,5 @@
-use Rattle.net_facts.proofs.ReadBack.{read_back}
+use Rattle.net_facts.proofs.ReadBack.{read_back, answered_back}
 use Rattle.net_facts.proofs.laws.cases_read_back.Goals as goal
 
 pub returns : goal.returns
-returns c = read_back
+returns c = record { reading = read_back; answer = answered_back }

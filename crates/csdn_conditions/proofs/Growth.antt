@@ -1,0 +1,72 @@
+-- A precondition has at least as many nodes as the formula.
+use Rattle.std.proofs.Common.{◌≡◌, ◌≢◌, ◌∙◌, sym, ap, subst, refl, ℕ, zero, suc, ◌+◌, ◌-◌, ◌<◌, ◌≤◌, Bool, true, false, List, [], ◌∷◌, ◌++◌, if◌then◌else◌, Option, Some, None, Result, Ok, Err, IfOk, IsErrAnd, arith}
+use Rattle.std.specs.declared.alloc.AllocError.{AllocError}
+use Rattle.csdn_core.specs.declared.terms.Term.{Term}
+use Rattle.csdn_core.specs.declared.terms.Pred.{Pred}
+use Rattle.csdn_core.specs.declared.terms.Pred.TheVariants.{Sent}
+use Rattle.csdn_core.specs.declared.syntax.Formula.{Formula}
+use Rattle.csdn_core.specs.declared.syntax.Formula.TheVariants as f
+use Rattle.csdn_core.specs.declared.program.Parts.{Parts}
+use Rattle.csdn_core.specs.Tree.{conjunction}
+use Rattle.csdn_core.specs.Network.{same_pred}
+use Rattle.csdn_core.specs.Nodes.{nodes}
+use Rattle.csdn_core.specs.Sorted.{most_numbers}
+use Rattle.fol_forms.specs.declared.refusal.FormRefusal.{FormRefusal}
+use Rattle.fol_forms.specs.declared.refusal.FormRefusal.TheVariants.{Large, Memory}
+use Rattle.fol_forms.specs.Replace.{or_row, is_row, fix_packet}
+use Rattle.fol_forms.specs.Renumber.{renumber}
+use Rattle.fol_forms.specs.Answers.{widened}
+use Rattle.fol_forms.proofs.Numbered.{nodes-renumbered}
+use Rattle.csdn_wp.specs.EventPreconditions.{terms_of, first_vars, wp_in, flow_terms, wp_flow}
+use Rattle.csdn_wp.specs.Makes.{Makes}
+use Rattle.csdn_wp.proofs.Grows.{replace_grows, members_grow, flow_grows}
+use Rattle.csdn_conditions.specs.Conditions.{after_events}
+
+pub grows-in : (P : Parts) (q : Formula) → nodes q ≤ nodes (wp_in P q)
+unfolding wp_in
+grows-in P q =
+    let same : nodes (renumber q most_numbers) ≡ nodes q = nodes-renumbered q (λ v. v) most_numbers in
+    omega (arith, same, members_grow P.handlers [] (renumber q most_numbers))
+
+pub grows-flow : (q : Formula) → nodes q ≤ nodes (wp_flow q)
+grows-flow q =
+    let same : nodes (renumber q 5) ≡ nodes q = nodes-renumbered q (λ v. v) 5 in
+    let fixed : Formula = fix_packet (renumber q 5) (terms_of first_vars) in
+    omega (arith, same, replace_grows (is_row (terms_of first_vars)) (renumber q 5), replace_grows (or_row Sent flow_terms) fixed, flow_grows q)
+
+-- what a part is refused for, the whole is
+refused_too : (most : ℕ) (p q : Formula) (e : FormRefusal) → nodes p ≤ nodes q → Makes most p (Err e) → Makes most q (Err e)
+refused_too most p q Large fewer more = omega (arith, fewer, more)
+refused_too most p q Memory fewer more = tt
+
+pub refused_by_part : (most : ℕ) (p q : Formula) (e : FormRefusal) (result : Result Formula FormRefusal) → nodes p ≤ nodes q → Makes most p (Err e) → IsErrAnd result (λ d. d ≡ e) → Makes most q result
+refused_by_part most p q e (Ok made) fewer why is = elim is [ ]
+refused_by_part most p q e (Err d) fewer why is = subst (λ (x : FormRefusal). Makes most q (Err x)) (sym is) (refused_too most p q e fewer why)
+
+-- what is made, where it is small enough
+pub small_made : (most : ℕ) (p : Formula) (made : Result Formula AllocError) (result : Result Formula FormRefusal) → nodes p ≤ most → IfOk made (λ q. q ≡ p) → result ≡ widened made → Makes most p result
+small_made most p (Ok q) result small is widens = subst (Makes most p) (sym widens) (is, small)
+small_made most p (Err e) result small is widens = subst (Makes most p) (sym widens) tt
+
+pub nodes-two : (p q : Formula) → nodes (conjunction p q) ≡ nodes p + nodes q + 1
+unfolding nodes
+nodes-two p q = refl
+
+-- after one event more
+
+pub grows-both : (P : Parts) (q : Formula) → nodes q ≤ nodes (conjunction (wp_in P q) (wp_flow q))
+unfolding nodes
+grows-both P q = omega (arith, grows-in P q)
+
+pub fewer_left : (p q : Formula) → nodes p ≤ nodes (conjunction p q)
+unfolding nodes
+fewer_left p q = omega arith
+
+pub fewer_right : (p q : Formula) → nodes q ≤ nodes (conjunction p q)
+unfolding nodes
+fewer_right p q = omega arith
+
+-- the count is one more than another
+pub one_more : (P : Parts) (k : ℕ) (q : Formula) → k ≢ 0 → after_events P k q ≡ conjunction (wp_in P (after_events P (k - 1) q)) (wp_flow (after_events P (k - 1) q))
+one_more P zero q some = absurd (some refl)
+one_more P (suc k) q some = let before : k ≡ suc k - 1 = omega arith in ap (λ j. conjunction (wp_in P (after_events P j q)) (wp_flow (after_events P j q))) before

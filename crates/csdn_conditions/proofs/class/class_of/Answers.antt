@@ -1,0 +1,51 @@
+use Rattle.std.proofs.Common.{◌≡◌, ◌≤◌, ◌∙◌, ◌⊎◌, inl, inr, ap, rules}
+use Rattle.csdn_core.specs.Nodes.{nodes}
+use Rattle.decision_laws.specs.Laws.{form_of}
+use Rattle.fol_forms.specs.Limits.{capped}
+use Rattle.fol_forms.specs.Written.{written}
+use Rattle.csdn_conditions.specs.Classes.{IsSmall, copied}
+use Rattle.csdn_conditions.proofs.ClassLaws.{over_nodes, under_nodes, over_instances, under_instances, normal_nodes-is}
+use Rattle.csdn_conditions.proofs.class.class_of.Goals as goal
+
+pub returns-then-node_count-gt-MOST_NODES : goal.returns-then-node_count-gt-MOST_NODES
+returns-then-node_count-gt-MOST_NODES c =
+    inl (over_nodes (nodes c.args.sentence.now) c.node_count.result c.node_count.ensures c.if-node_count-gt-MOST_NODES.true)
+
+pub returns-then-count_of-gt-MOST_NODES : goal.returns-then-count_of-gt-MOST_NODES
+returns-then-count_of-gt-MOST_NODES c =
+    inr
+    (over_nodes (nodes (written (form_of c.args.sentence.now))) c.count_of.result (c.count_of.ensures ∙ ap capped (normal_nodes-is c.args.sentence.now))
+    c.if-count_of-gt-MOST_NODES.true)
+
+pub returns-then-not-in_fragment : goal.returns-then-not-in_fragment
+returns-then-not-in_fragment c = (
+  (
+    under_nodes (nodes c.args.sentence.now) c.node_count.result c.node_count.ensures c.if-node_count-gt-MOST_NODES.false,
+    under_nodes (nodes (written (form_of c.args.sentence.now))) c.count_of.result (c.count_of.ensures ∙ ap capped (normal_nodes-is c.args.sentence.now))
+        c.if-count_of-gt-MOST_NODES.false,
+  ),
+  search rules,
+)
+
+pub returns-then-count-gt-MOST_INSTANCES : goal.returns-then-count-gt-MOST_INSTANCES
+returns-then-count-gt-MOST_INSTANCES c = (
+  (
+    under_nodes (nodes c.args.sentence.now) c.node_count.result c.node_count.ensures c.if-node_count-gt-MOST_NODES.false,
+    under_nodes (nodes (written (form_of c.args.sentence.now))) c.count_of.result (c.count_of.ensures ∙ ap capped (normal_nodes-is c.args.sentence.now))
+        c.if-count_of-gt-MOST_NODES.false,
+  ),
+  search rules,
+  over_instances (copied c.args.program.now c.args.sentence.now) c.instance_count-count.result c.instance_count-count.ensures c.if-count-gt-MOST_INSTANCES.true,
+  c.instance_count-count.ensures,
+)
+
+pub returns : goal.returns
+returns c = (
+  (
+    under_nodes (nodes c.args.sentence.now) c.node_count.result c.node_count.ensures c.if-node_count-gt-MOST_NODES.false,
+    under_nodes (nodes (written (form_of c.args.sentence.now))) c.count_of.result (c.count_of.ensures ∙ ap capped (normal_nodes-is c.args.sentence.now))
+        c.if-count_of-gt-MOST_NODES.false,
+  ),
+  search rules,
+  under_instances (copied c.args.program.now c.args.sentence.now) c.instance_count-count.result c.instance_count-count.ensures c.if-count-gt-MOST_INSTANCES.false,
+)

@@ -1,0 +1,34 @@
+-- Whether a condition can be decided.
+use Rattle.std.specs.Prelude.{◌≡◌, ◌⊎◌, ℕ, ◌<◌, ◌≤◌, IsTrue, IsFalse}
+use Rattle.csdn_core.specs.declared.program.Parts.{Parts}
+use Rattle.csdn_core.specs.declared.syntax.Formula.{Formula}
+use Rattle.csdn_core.specs.Nodes.{nodes}
+use Rattle.decision_laws.specs.Forms.{in_fragment}
+use Rattle.decision_laws.specs.Laws.{form_of, counts}
+use Rattle.fol_forms.specs.Limits.{capped, most_nodes}
+use Rattle.fol_forms.specs.Written.{written, instances}
+use Rattle.csdn_conditions.specs.declared.class.Class.{Class}
+use Rattle.csdn_conditions.specs.declared.class.Class.TheVariants.{Inside, Nodes, Outside, Instances}
+
+-- the most atoms and equations that the copies of a sentence may have
+abbrev pub most_instances : ℕ
+most_instances = 16777216
+
+module _ (P : Parts) (s : Formula) where
+  -- neither the sentence nor its normal form has more than 1,048,576 nodes
+  abbrev pub IsSmall : Type 0
+  IsSmall = (nodes s ≤ most_nodes) × (nodes (written (form_of s)) ≤ most_nodes)
+
+  abbrev pub IsLarge : Type 0
+  IsLarge = (most_nodes < nodes s) ⊎ (most_nodes < nodes (written (form_of s)))
+
+  -- how many atoms and equations the copies have
+  abbrev pub copied : ℕ
+  copied = instances (counts P s) (form_of s)
+
+  -- the class of a sentence
+  abbrev pub IsClass : Class → Type 0
+  IsClass Nodes = IsLarge
+  IsClass Outside = IsSmall × IsFalse (in_fragment (form_of s))
+  IsClass (Instances n) = IsSmall × IsTrue (in_fragment (form_of s)) × (most_instances < copied) × (n ≡ capped copied)
+  IsClass Inside = IsSmall × IsTrue (in_fragment (form_of s)) × (copied ≤ most_instances)
