@@ -36,7 +36,7 @@ handler_vars h = record { s = h.s; a = h.a; b = h.b; i = h.i }
 abbrev pub first_vars : PacketVars
 first_vars = record { s = numbered 0; a = numbered 1; b = numbered 2; i = numbered 3 }
 
--- .. with their sorts
+-- the variables of a packet, with their sorts
 abbrev pub binds_of : PacketVars → List Bind
 binds_of v =
     record { var = v.s; sort = Sw } ∷ record { var = v.a; sort = Ho } ∷ record { var = v.b; sort = Ho } ∷ record { var = v.i; sort = Pr } ∷ []
@@ -58,6 +58,7 @@ guard [] None i = None
 guard [] (Some k) i = Some (is_port i k)
 guard (k ∷ earlier) port i = Some (and_also (negation (is_port i k)) (guard earlier port i))
 
+-- under the guard, if there is one
 abbrev pub guarded : Option Formula → Formula → Formula
 guarded None p = p
 guarded (Some g) p = implication g p
@@ -80,6 +81,7 @@ members (h ∷ hs) earlier q = and_later h.port earlier (member earlier (handler
 unfoldable pub wp_in : Parts → Formula → Formula
 wp_in P q = members P.handlers [] (renumber q most_numbers)
 
+-- a tuple of the flow tables
 abbrev pub flow_terms : List Term
 flow_terms = Var (numbered 0) ∷ Var (numbered 1) ∷ Var (numbered 2) ∷ Var (numbered 3) ∷ Var (numbered 4) ∷ []
 
