@@ -83,15 +83,18 @@ module _ (P : Parts) (well : IsWellSorted P) where
       event_closed event (after_events P n (formula_at P.safety v)) (any_event (after_events P n (formula_at P.safety v)) (events_closed n (formula_at P.safety v) (safety_closed v)))
   conclusion_closed n (Trans t event) = event_closed event (formula_at P.trans t) (trans_any t)
 
-  -- a member of the list is the condition of a kind
-  kind_of : (n : ℕ) (o : Option CondKind) (c : Condition) → option_map (condition P n) o ≡ Some c → (kind : CondKind) × (condition P n kind ≡ c)
-  kind_of n None c is = absurd (cc)
-  kind_of n (Some kind) c is = (kind, some_is (condition P n kind) c is)
+  -- a member of the list is the condition of a kind of the list
+  kind_in : (n : ℕ) (o : Option CondKind) (c : Condition) → option_map (condition P n) o ≡ Some c → (kind : CondKind) × (o ≡ Some kind) × (condition P n kind ≡ c)
+  kind_in n None c is = absurd (cc)
+  kind_in n (Some kind) c is = (kind, refl, some_is (condition P n kind) c is)
     where
       some_is : (a b : Condition) → Some a ≡ Some b → a ≡ b
       some_is a b is = cc
 
+  pub kind_of_member : (n i : ℕ) (c : Condition) → slice_get (conditions P n) i ≡ Some c → (kind : CondKind) × (slice_get (kinds P n) i ≡ Some kind) × (condition P n kind ≡ c)
+  kind_of_member n i c there = kind_in n (slice_get (kinds P n) i) c (sym (slice_get-map (condition P n) (kinds P n) i) ∙ there)
+
   pub members_closed : (n i : ℕ) (c : Condition) → slice_get (conditions P n) i ≡ Some c → IsClosed P c.hypothesis × IsClosed P c.goal
   members_closed n i c there =
-      let found = kind_of n (slice_get (kinds P n) i) c (sym (slice_get-map (condition P n) (kinds P n) i) ∙ there) in
-      subst (λ (d : Condition). IsClosed P d.hypothesis × IsClosed P d.goal) found.1 (hypothesis_closed n found.0, conclusion_closed n found.0)
+      let found = kind_of_member n i c there in
+      subst (λ (d : Condition). IsClosed P d.hypothesis × IsClosed P d.goal) found.2 (hypothesis_closed n found.0, conclusion_closed n found.0)

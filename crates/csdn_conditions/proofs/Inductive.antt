@@ -50,13 +50,13 @@ use Rattle.csdn_conditions.proofs.StartTruth.{truth-all, list_all-append, both_t
 
 -- formulas that name static relations alone have the same truth in all states
 
-abbrev IsStatic : Parts → Relations
+abbrev pub IsStatic : Parts → Relations
 IsStatic P (Stored r) = is_fixed P r.0 ≡ true
 IsStatic P Ft = ⊥
 IsStatic P Sent = ⊥
 IsStatic P RcvThis = ⊥
 
-static_names : (P : Parts) (r : Pred) → IsAllowed (signature P) Topology r → IsStatic P r
+pub static_names : (P : Parts) (r : Pred) → IsAllowed (signature P) Topology r → IsStatic P r
 static_names P (Stored r) allowed = at (slice_get P.relations r.0) allowed
   where
     at : (o : Option Relation) → option_map (λ (d : Relation). d.fixed) o ≡ Some true → is_fixed_in o ≡ true
@@ -67,12 +67,12 @@ static_names P Sent allowed = absurd allowed
 static_names P RcvThis allowed = absurd allowed
 
 module _ (P : Parts) (N : Network) (x y : State) where
-  value-state : (d : Assignment) (t : Term) → value (structure P N x Nothing) d t ≡ value (structure P N y Nothing) d t
+  pub value-state : (d : Assignment) (t : Term) → value (structure P N x Nothing) d t ≡ value (structure P N y Nothing) d t
   value-state d (Var v) = refl
   value-state d (Const k) = refl
   value-state d (Port k) = refl
 
-  values-state : (d : Assignment) (ts : List Term) → values (structure P N x Nothing) d ts ≡ values (structure P N y Nothing) d ts
+  pub values-state : (d : Assignment) (ts : List Term) → values (structure P N x Nothing) d ts ≡ values (structure P N y Nothing) d ts
   values-state d [] = refl
   values-state d (t ∷ ts) = ap₂ (λ m ms. m ∷ ms) (value-state d t) (values-state d ts)
 
@@ -86,7 +86,7 @@ module _ (P : Parts) (N : Network) (x y : State) where
   holds-state Sent cells static = absurd static
   holds-state RcvThis cells static = absurd static
 
-  truth-state : (Γ : Scope) (p : Formula) (d : Assignment) → IsSortedIn (signature P) (IsStatic P) Γ p → truth (structure P N x Nothing) p d ≡ truth (structure P N y Nothing) p d
+  pub truth-state : (Γ : Scope) (p : Formula) (d : Assignment) → IsSortedIn (signature P) (IsStatic P) Γ p → truth (structure P N x Nothing) p d ≡ truth (structure P N y Nothing) p d
   unfolding truth IsSortedIn
   truth-state Γ f.True d sorted = refl
   truth-state Γ f.False d sorted = refl
@@ -102,13 +102,13 @@ module _ (P : Parts) (N : Network) (x y : State) where
 
 -- lists of invariants
 
-formula_there : (vs : List Invariant) (k : ℕ) (d : Invariant) → k < length vs → formula_at vs k ≡ (slice_index_or vs k d).formula
+pub formula_there : (vs : List Invariant) (k : ℕ) (d : Invariant) → k < length vs → formula_at vs k ≡ (slice_index_or vs k d).formula
 formula_there [] k d within = absurd (omega arith)
 formula_there (v ∷ vs) zero d within = refl
 formula_there (v ∷ vs) (suc k) d within = formula_there vs k d (omega arith)
 
 -- what kind of event it is
-abbrev kind_of : Event → EventKind
+abbrev pub kind_of : Event → EventKind
 kind_of (PktIn s a b i) = e.PktIn
 kind_of (PktFlow s a b i o) = e.PktFlow
 
@@ -126,7 +126,7 @@ module _ (P : Parts) (well : IsWellSorted P) (N : Network) (network : IsNetwork 
   event_true (PktIn s a b i) q sorted x y h step = (in_exact P well N network q sorted x).0 h s a b i y step
   event_true (PktFlow s a b i o) q sorted x y h step = (flow_exact P q sorted N x).0 h s a b i o y step
 
-  quiet : (q : Formula) → IsClosed P q → (y : State) (packet : Packet) → truth (structure P N y packet) q no_values ≡ truth (structure P N y Nothing) q no_values
+  pub quiet : (q : Formula) → IsClosed P q → (y : State) (packet : Packet) → truth (structure P N y packet) q no_values ≡ truth (structure P N y Nothing) q no_values
   quiet q closed y packet = truth-packet P N y packet no_scope q no_values closed
 
   event_kept : (event : Event) (q : Formula) → IsClosed P q → (x y : State) → Sat x (after_event P (kind_of event) q) → Step P N x event y → Sat y q
@@ -139,7 +139,7 @@ module _ (P : Parts) (well : IsWellSorted P) (N : Network) (network : IsNetwork 
 
   -- after k events
 
-  runs_end : (k : ℕ) (q : Formula) → IsClosed P q → (x : State) → Sat x (after_events P k q) → (es : List Event) (y : State) → length es ≡ k → Run P N x es y → Sat y q
+  pub runs_end : (k : ℕ) (q : Formula) → IsClosed P q → (x : State) → Sat x (after_events P k q) → (es : List Event) (y : State) → length es ≡ k → Run P N x es y → Sat y q
   runs_end zero q closed x h [] y many run = subst (λ (z : State). Sat z q) (sym run) h
   runs_end zero q closed x h (event ∷ es) y many run = absurd (omega (arith, many))
   runs_end (suc k) q closed x h [] y many run = absurd (omega (arith, many))
@@ -147,7 +147,7 @@ module _ (P : Parts) (well : IsWellSorted P) (N : Network) (network : IsNetwork 
       let before : IsClosed P (after_events P k q) = events_closed P well k q closed in
       runs_end k q closed z (event_kept event (after_events P k q) before x z (one_of event (after_events P k q) x h) step) es y (omega (arith, many)) run
 
-  ends_true : (k : ℕ) (q : Formula) → IsClosed P q → (x : State) → ((es : List Event) (y : State) → length es ≡ k → Run P N x es y → Sat y q) → Sat x (after_events P k q)
+  pub ends_true : (k : ℕ) (q : Formula) → IsClosed P q → (x : State) → ((es : List Event) (y : State) → length es ≡ k → Run P N x es y → Sat y q) → Sat x (after_events P k q)
   unfolding truth
   ends_true zero q closed x h = h [] x refl refl
   ends_true (suc k) q closed x h =
@@ -163,7 +163,7 @@ module _ (P : Parts) (well : IsWellSorted P) (N : Network) (network : IsNetwork 
 
   -- hypotheses
 
-  topology_true : AllTrue P N empty_state Nothing P.topology → (x : State) → Sat x (topology P)
+  pub topology_true : AllTrue P N empty_state Nothing P.topology → (x : State) → Sat x (topology P)
   topology_true all x =
       truth-all (structure P N x Nothing) no_values (formulas P.topology)
       ∙ each P.topology (invariants_sorted P (IsStatic P) Topology (static_names P) P.topology (distinct_topology P well) well.topology) all

@@ -10,3 +10,4 @@ mod Conditioned
 mod ClosedParts
 mod ClosedConditions
 mod Inductive
+mod Complete

@@ -27,6 +27,7 @@ use Rattle.fol_forms.specs.declared.close.Bind.{Bind}
 use Rattle.fol_forms.specs.Closed.{closed, GivesBinds, IsTrueForAll}
 use Rattle.fol_forms.specs.Replace.{same}
 use Rattle.fol_forms.proofs.ClosedTruth.{truth-closed}
+use Rattle.fol_forms.proofs.Replaced.{truth-same}
 use Rattle.csdn_conditions.specs.declared.lists.Join.TheVariants.{And, Or}
 use Rattle.csdn_conditions.specs.Lists.{joined, conjunction_of, disjunction_of}
 use Rattle.csdn_conditions.specs.Start.{binds_from, terms_of, rows_among, is_one_of, holds_rows, stored_at, stored_from, start}
@@ -151,16 +152,6 @@ length-terms k (s ∷ ss) = ap suc (length-terms (k + 1) ss)
 
 some_sorts : (ss ts : List Sort) → Some ss ≡ Some ts → ss ≡ ts
 some_sorts ss ts is = cc
-
-truth-same : (M : Structure) (e : Assignment) (us ts : List Term) → length us ≡ length ts → truth M (same us ts) e ≡ same_cells (values M e us) (values M e ts)
-unfolding truth
-truth-same M e [] [] many = refl
-truth-same M e [] (t ∷ ts) many = absurd (omega arith)
-truth-same M e (u ∷ us) [] many = absurd (omega arith)
-truth-same M e (u ∷ []) (t ∷ []) many = alone_and (value M e u == value M e t)
-truth-same M e (u ∷ []) (t ∷ w ∷ ts) many = absurd (omega arith)
-truth-same M e (u ∷ v ∷ us) (t ∷ []) many = absurd (omega arith)
-truth-same M e (u ∷ v ∷ us) (t ∷ w ∷ ts) many = ap (λ b. (value M e u == value M e t) && b) (truth-same M e (v ∷ us) (w ∷ ts) (omega arith))
 
 same_cells-sym : (ms ns : List ℕ) → same_cells ms ns ≡ same_cells ns ms
 same_cells-sym [] [] = refl

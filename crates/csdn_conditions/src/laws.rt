@@ -4,12 +4,13 @@ ghost use Rattle.csdn_core.specs.declared.program.Parts.{Parts as AnyParts};
 ghost use Rattle.csdn_core.specs.declared.event.Packet.{Packet as AnyPacket};
 ghost use Rattle.csdn_core.specs.Truth.{truth};
 ghost use Rattle.csdn_core.specs.Network.{Network, State, structure};
-ghost use Rattle.csdn_core.specs.Holds.{IsInductive};
+ghost use Rattle.csdn_core.specs.Holds.{IsInductive, IsTopology};
 ghost use Rattle.csdn_core.specs.Run.{no_values};
 ghost use Rattle.csdn_core.specs.WellSorted.{IsWellSorted};
+ghost use Rattle.csdn_conditions.specs.declared.kinds.CondKind.TheVariants.{Network as NetworkKind};
 ghost use Rattle.csdn_conditions.specs.declared.sentence.Condition.{Condition as AnyCondition};
 ghost use Rattle.csdn_conditions.specs.Start.{start};
-ghost use Rattle.csdn_conditions.specs.Conditions.{conditions};
+ghost use Rattle.csdn_conditions.specs.Conditions.{condition, conditions};
 ghost use Rattle.csdn_conditions.specs.Closed.{IsClosed};
 ghost use Rattle.csdn_conditions.specs.Valid.{IsValid};
 ghost use Rattle.csdn_conditions.specs.Initial.{IsInitial};
@@ -24,7 +25,10 @@ pub fn conditions_are_closed()
     ensures { (P : AnyParts) → IsWellSorted P → (n i : ℕ) (c : AnyCondition) → slice_get (conditions P n) i ≡ Some c → IsClosed P c.hypothesis × IsClosed P c.goal }
 {}
 
-/// A well-sorted program is n-inductive where each condition of level n but the first is valid: so it holds its invariants.
-pub fn conditions_are_sound()
-    ensures { (P : AnyParts) → IsWellSorted P → (n : ℕ) → ((i : ℕ) (c : AnyCondition) → slice_get (conditions P n) i ≡ Some c → 0 < i → IsValid P c) → IsInductive n P }
+/// The first condition of a level is valid exactly where no network meets the topology invariants. A well-sorted program is
+/// n-inductive exactly where each other condition of level n is valid.
+pub fn conditions_are_exact()
+    ensures network { (P : AnyParts) → IsWellSorted P → (n : ℕ) → IsValid P (condition P n NetworkKind) ↔ ((N : Network) → IsTopology P N → ⊥) }
+    ensures sound { (P : AnyParts) → IsWellSorted P → (n : ℕ) → ((i : ℕ) (c : AnyCondition) → slice_get (conditions P n) i ≡ Some c → 0 < i → IsValid P c) → IsInductive n P }
+    ensures complete { (P : AnyParts) → IsWellSorted P → (n : ℕ) → IsInductive n P → (i : ℕ) (c : AnyCondition) → slice_get (conditions P n) i ≡ Some c → 0 < i → IsValid P c }
 {}
