@@ -1,67 +1,38 @@
 -- A precondition has at least as many nodes as the formula.
-use Rattle.std.proofs.Common.{◌≡◌, ◌≢◌, ◌∙◌, sym, ap, subst, refl, ℕ, zero, suc, ◌+◌, ◌-◌, ◌<◌, ◌≤◌, Bool, true, false, List, [], ◌∷◌, ◌++◌, if◌then◌else◌, Option, Some, None, Result, Ok, Err, IsErrAnd, arith}
+use Rattle.std.proofs.Common.{◌≡◌, ◌≢◌, ◌∙◌, sym, ap, subst, refl, ℕ, zero, suc, ◌+◌, ◌-◌, ◌<◌, ◌≤◌, Bool, true, false, List, [], ◌∷◌, ◌++◌, if◌then◌else◌, Option, Some, None, Result, Ok, Err, IfOk, IsErrAnd, arith}
+use Rattle.std.specs.declared.alloc.AllocError.{AllocError}
 use Rattle.csdn_core.specs.declared.terms.Term.{Term}
 use Rattle.csdn_core.specs.declared.terms.Pred.{Pred}
-use Rattle.csdn_core.specs.declared.terms.Pred.TheVariants.{Stored, Ft, Sent, RcvThis}
+use Rattle.csdn_core.specs.declared.terms.Pred.TheVariants.{Sent}
 use Rattle.csdn_core.specs.declared.syntax.Formula.{Formula}
 use Rattle.csdn_core.specs.declared.syntax.Formula.TheVariants as f
-use Rattle.csdn_core.specs.declared.syntax.Command.{Command}
-use Rattle.csdn_core.specs.declared.syntax.Command.TheVariants as c
 use Rattle.csdn_core.specs.declared.program.Parts.{Parts}
-use Rattle.csdn_core.specs.declared.program.Handler.{Handler}
-use Rattle.csdn_core.specs.Tree.{negation, conjunction, disjunction, implication, equivalence, universal, existential, sequence, conditional, choice}
+use Rattle.csdn_core.specs.Tree.{conjunction}
 use Rattle.csdn_core.specs.Network.{same_pred}
 use Rattle.csdn_core.specs.Nodes.{nodes}
 use Rattle.csdn_core.specs.Sorted.{most_numbers}
 use Rattle.fol_forms.specs.declared.refusal.FormRefusal.{FormRefusal}
 use Rattle.fol_forms.specs.declared.refusal.FormRefusal.TheVariants.{Large, Memory}
-use Rattle.fol_forms.specs.Replace.{replace, same, or_row, not_row, or_flood, is_row, floods, add_row, drop_row, add_flood, fix_packet}
+use Rattle.fol_forms.specs.Replace.{or_row, is_row, fix_packet}
 use Rattle.fol_forms.specs.Renumber.{renumber}
+use Rattle.fol_forms.specs.Answers.{widened}
 use Rattle.fol_forms.proofs.Numbered.{nodes-renumbered}
-use Rattle.csdn_wp.specs.Preconditions.{wp}
-use Rattle.csdn_wp.specs.EventPreconditions.{PacketVars, terms_of, handler_vars, first_vars, for_packets, guard, guarded, member, and_later, members, wp_in, flow_terms, wp_flow}
-use Rattle.csdn_wp.specs.Makes.{Makes, Gives}
-use Rattle.csdn_wp.proofs.Grows.{replace_grows, wp_grows}
+use Rattle.csdn_wp.specs.EventPreconditions.{terms_of, first_vars, wp_in, flow_terms, wp_flow}
+use Rattle.csdn_wp.specs.Makes.{Makes}
+use Rattle.csdn_wp.proofs.Grows.{replace_grows, members_grow, flow_grows}
 use Rattle.csdn_conditions.specs.Conditions.{after_events}
 
-grows-guarded : (g : Option Formula) (p : Formula) → nodes p ≤ nodes (guarded g p)
-unfolding nodes
-grows-guarded None p = omega arith
-grows-guarded (Some g) p = omega arith
-
-grows-for_packets : (v : PacketVars) (p : Formula) → nodes p ≤ nodes (for_packets v p)
-unfolding nodes
-grows-for_packets v p = omega arith
-
-grows-member : (earlier : List ℕ) (v : PacketVars) (port : Option ℕ) (body : Command) (q : Formula) → nodes q ≤ nodes (member earlier v port body q)
-grows-member earlier v port body q =
-    let fixed : Formula = fix_packet q (terms_of v) in
-    let inner : Formula = guarded (guard earlier port v.i) (wp body fixed) in
-    omega (arith, replace_grows (is_row (terms_of v)) q, wp_grows body fixed, grows-guarded (guard earlier port v.i) (wp body fixed), grows-for_packets v inner)
-
-grows-and_later : (port : Option ℕ) (earlier : List ℕ) (p : Formula) (later : List ℕ → Formula) → nodes p ≤ nodes (and_later port earlier p later)
-unfolding nodes
-grows-and_later None earlier p later = omega arith
-grows-and_later (Some k) earlier p later = omega arith
-
-grows-members : (hs : List Handler) (earlier : List ℕ) (q : Formula) → nodes q ≤ nodes (members hs earlier q)
-grows-members [] earlier q = grows-member earlier first_vars None c.Skip q
-grows-members (h ∷ hs) earlier q =
-    let own = grows-member earlier (handler_vars h) h.port h.body q in
-    let more = grows-and_later h.port earlier (member earlier (handler_vars h) h.port h.body q) (λ ks. members hs ks q) in
-    omega (arith, own, more)
-
 pub grows-in : (P : Parts) (q : Formula) → nodes q ≤ nodes (wp_in P q)
+unfolding wp_in
 grows-in P q =
     let same : nodes (renumber q most_numbers) ≡ nodes q = nodes-renumbered q (λ v. v) most_numbers in
-    omega (arith, same, grows-members P.handlers [] (renumber q most_numbers))
+    omega (arith, same, members_grow P.handlers [] (renumber q most_numbers))
 
 pub grows-flow : (q : Formula) → nodes q ≤ nodes (wp_flow q)
-unfolding nodes
 grows-flow q =
     let same : nodes (renumber q 5) ≡ nodes q = nodes-renumbered q (λ v. v) 5 in
     let fixed : Formula = fix_packet (renumber q 5) (terms_of first_vars) in
-    omega (arith, same, replace_grows (is_row (terms_of first_vars)) (renumber q 5), replace_grows (or_row Sent flow_terms) fixed)
+    omega (arith, same, replace_grows (is_row (terms_of first_vars)) (renumber q 5), replace_grows (or_row Sent flow_terms) fixed, flow_grows q)
 
 -- what a part is refused for, the whole is
 refused_too : (most : ℕ) (p q : Formula) (e : FormRefusal) → nodes p ≤ nodes q → Makes most p (Err e) → Makes most q (Err e)
@@ -72,11 +43,14 @@ pub refused_by_part : (most : ℕ) (p q : Formula) (e : FormRefusal) (result : R
 refused_by_part most p q e (Ok made) fewer why is = elim is [ ]
 refused_by_part most p q e (Err d) fewer why is = subst (λ (x : FormRefusal). Makes most q (Err x)) (sym is) (refused_too most p q e fewer why)
 
--- what is given, where it is small enough
-pub small_given : (most : ℕ) (p : Formula) (result : Result Formula FormRefusal) → nodes p ≤ most → Gives p result → Makes most p result
-small_given most p (Ok made) small is = (is, small)
-small_given most p (Err Large) small is = absurd is
-small_given most p (Err Memory) small is = tt
+-- what is made, where it is small enough
+pub small_made : (most : ℕ) (p : Formula) (made : Result Formula AllocError) (result : Result Formula FormRefusal) → nodes p ≤ most → IfOk made (λ q. q ≡ p) → result ≡ widened made → Makes most p result
+small_made most p (Ok q) result small is widens = subst (Makes most p) (sym widens) (is, small)
+small_made most p (Err e) result small is widens = subst (Makes most p) (sym widens) tt
+
+pub nodes-two : (p q : Formula) → nodes (conjunction p q) ≡ nodes p + nodes q + 1
+unfolding nodes
+nodes-two p q = refl
 
 -- after one event more
 

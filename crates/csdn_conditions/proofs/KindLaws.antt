@@ -98,6 +98,43 @@ module _ (n s t : ℕ) where
       ∙ slice_get-map (λ e. Trans (p / 2) e) events (p % 2)
       ∙ ap (option_map (λ e. Trans (p / 2) e)) is
 
+  -- by what they say
+
+  pub init_there : (k v : ℕ) → k < n + 1 → v < s → slice_get (kinds_of n s t) (suc (k * s + v)) ≡ Some (Init k v)
+  init_there k v few small =
+      let none : 0 + k ≡ k = omega arith in
+      let all : (k + 1) * s ≤ (n + 1) * s = mul-le-mul_right s (omega (arith, few)) in
+      get-front inits (steps ++ trans) (k * s + v) (omega (arith, all, small, many_inits))
+      ∙ get-pieces (inits_after s) s (length-inits s) 0 (n + 1) k v few small
+      ∙ ap (λ j. slice_get (inits_after s j) v) none
+      ∙ get-invariant s k v small
+
+  step_of : (v r : ℕ) → v < s → r < 2 → slice_get (kinds_of n s t) (suc ((n + 1) * s + (v * 2 + r))) ≡ slice_get (steps_of v) r
+  step_of v r few small =
+      let none : 0 + v ≡ v = omega arith in
+      ap (λ j. slice_get (inits ++ (steps ++ trans)) (j + (v * 2 + r))) (sym many_inits)
+      ∙ get-back inits (steps ++ trans) (v * 2 + r)
+      ∙ get-front steps trans (v * 2 + r) (omega (arith, few, small, many_steps))
+      ∙ get-pieces steps_of 2 length-steps 0 s v r few small
+      ∙ ap (λ j. slice_get (steps_of j) r) none
+
+  pub step_there : (v : ℕ) (event : EventKind) → v < s → (i : ℕ) × (slice_get (kinds_of n s t) (suc i) ≡ Some (Step v event))
+  step_there v PktIn few = ((n + 1) * s + (v * 2 + 0), step_of v 0 few (omega arith))
+  step_there v PktFlow few = ((n + 1) * s + (v * 2 + 1), step_of v 1 few (omega arith))
+
+  trans_of_event : (u r : ℕ) → u < t → r < 2 → slice_get (kinds_of n s t) (suc ((n + 1) * s + (length steps + (u * 2 + r)))) ≡ slice_get (trans_of u) r
+  trans_of_event u r few small =
+      let none : 0 + u ≡ u = omega arith in
+      ap (λ j. slice_get (inits ++ (steps ++ trans)) (j + (length steps + (u * 2 + r)))) (sym many_inits)
+      ∙ get-back inits (steps ++ trans) (length steps + (u * 2 + r))
+      ∙ get-back steps trans (u * 2 + r)
+      ∙ get-pieces trans_of 2 length-trans 0 t u r few small
+      ∙ ap (λ j. slice_get (trans_of j) r) none
+
+  pub trans_there : (u : ℕ) (event : EventKind) → u < t → (i : ℕ) × (slice_get (kinds_of n s t) (suc i) ≡ Some (Trans u event))
+  trans_there u PktIn few = ((n + 1) * s + (length steps + (u * 2 + 0)), trans_of_event u 0 few (omega arith))
+  trans_there u PktFlow few = ((n + 1) * s + (length steps + (u * 2 + 1)), trans_of_event u 1 few (omega arith))
+
   -- by the number of the condition
 
   pub init_at : (i : ℕ) → i ≢ 0 → i - 1 < (n + 1) * s → slice_get (kinds_of n s t) i ≡ Some (Init ((i - 1) / s) ((i - 1) % s))

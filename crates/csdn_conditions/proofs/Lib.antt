@@ -7,3 +7,7 @@ mod ClassLaws
 mod StartTruth
 mod Rooms
 mod Conditioned
+mod ClosedParts
+mod ClosedConditions
+mod Inductive
+mod Complete

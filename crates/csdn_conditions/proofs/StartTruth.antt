@@ -27,6 +27,7 @@ use Rattle.fol_forms.specs.declared.close.Bind.{Bind}
 use Rattle.fol_forms.specs.Closed.{closed, GivesBinds, IsTrueForAll}
 use Rattle.fol_forms.specs.Replace.{same}
 use Rattle.fol_forms.proofs.ClosedTruth.{truth-closed}
+use Rattle.fol_forms.proofs.Replaced.{truth-same}
 use Rattle.csdn_conditions.specs.declared.lists.Join.TheVariants.{And, Or}
 use Rattle.csdn_conditions.specs.Lists.{joined, conjunction_of, disjunction_of}
 use Rattle.csdn_conditions.specs.Start.{binds_from, terms_of, rows_among, is_one_of, holds_rows, stored_at, stored_from, start}
@@ -34,13 +35,13 @@ use Rattle.csdn_conditions.specs.Initial.{is_of_states, IsInitial}
 
 -- truth values
 
-both_true : (a b : Bool) → a ≡ true → b ≡ true → (a && b) ≡ true
+pub both_true : (a b : Bool) → a ≡ true → b ≡ true → (a && b) ≡ true
 both_true a b h k = grind arith
 
-first_true : (a b : Bool) → (a && b) ≡ true → a ≡ true
+pub first_true : (a b : Bool) → (a && b) ≡ true → a ≡ true
 first_true a b h = grind arith
 
-second_true : (a b : Bool) → (a && b) ≡ true → b ≡ true
+pub second_true : (a b : Bool) → (a && b) ≡ true → b ≡ true
 second_true a b h = grind arith
 
 alone_and : (a : Bool) → a ≡ (a && true)
@@ -63,7 +64,7 @@ same_itself false b h = subst (λ c. not c ≡ true) h refl
 -- conjunctions and disjunctions of lists
 
 module _ (M : Structure) (e : Assignment) where
-  truth-all : (ps : List Formula) → truth M (conjunction_of ps) e ≡ list_all (λ p. truth M p e) ps
+  pub truth-all : (ps : List Formula) → truth M (conjunction_of ps) e ≡ list_all (λ p. truth M p e) ps
   unfolding truth
   truth-all [] = refl
   truth-all (p ∷ []) = alone_and (truth M p e)
@@ -75,7 +76,7 @@ module _ (M : Structure) (e : Assignment) where
   truth-any (p ∷ []) = alone_or (truth M p e)
   truth-any (p ∷ q ∷ ps) = ap (λ b. truth M p e || b) (truth-any (q ∷ ps))
 
-list_all-append : (f : Formula → Bool) (ps qs : List Formula) → list_all f (ps ++ qs) ≡ (list_all f ps && list_all f qs)
+pub list_all-append : (f : Formula → Bool) (ps qs : List Formula) → list_all f (ps ++ qs) ≡ (list_all f ps && list_all f qs)
 list_all-append f [] qs = refl
 list_all-append f (p ∷ ps) qs = ap (λ b. f p && b) (list_all-append f ps qs) ∙ grind arith
 
@@ -151,16 +152,6 @@ length-terms k (s ∷ ss) = ap suc (length-terms (k + 1) ss)
 
 some_sorts : (ss ts : List Sort) → Some ss ≡ Some ts → ss ≡ ts
 some_sorts ss ts is = cc
-
-truth-same : (M : Structure) (e : Assignment) (us ts : List Term) → length us ≡ length ts → truth M (same us ts) e ≡ same_cells (values M e us) (values M e ts)
-unfolding truth
-truth-same M e [] [] many = refl
-truth-same M e [] (t ∷ ts) many = absurd (omega arith)
-truth-same M e (u ∷ us) [] many = absurd (omega arith)
-truth-same M e (u ∷ []) (t ∷ []) many = alone_and (value M e u == value M e t)
-truth-same M e (u ∷ []) (t ∷ w ∷ ts) many = absurd (omega arith)
-truth-same M e (u ∷ v ∷ us) (t ∷ []) many = absurd (omega arith)
-truth-same M e (u ∷ v ∷ us) (t ∷ w ∷ ts) many = ap (λ b. (value M e u == value M e t) && b) (truth-same M e (v ∷ us) (w ∷ ts) (omega arith))
 
 same_cells-sym : (ms ns : List ℕ) → same_cells ms ns ≡ same_cells ns ms
 same_cells-sym [] [] = refl

@@ -2,6 +2,8 @@ pub mod Kinds
 pub mod Lists
 pub mod Start
 pub mod Initial
+pub mod Closed
+pub mod Valid
 pub mod Conditions
 pub mod Answers
 pub mod Classes

@@ -2,7 +2,7 @@
 #![tactic(auto)]
 
 ghost use Rattle.std.specs.Prelude.{◌≡◌, ◌≤◌, ◌+◌, ◌++◌, [], ◌∷◌, OnOk, map};
-ghost use Rattle.csdn_core.specs.Tree.{conjunction as conjunction_of_two};
+ghost use Rattle.csdn_core.specs.Tree.{conjunction};
 ghost use Rattle.fol_forms.specs.Limits.{most_nodes};
 ghost use Rattle.csdn_wp.specs.Makes.{Makes};
 ghost use Rattle.csdn_conditions.specs.Lists.{conjunction_of};
@@ -13,9 +13,8 @@ use crate::kinds::EventKind;
 use crate::lists::{Formulas, Join, joined};
 use csdn_core::program::{Invariant, Program};
 use csdn_core::syntax::Formula;
-use csdn_wp::build::{conjunction, copied, fitting};
 use csdn_wp::events::{wp_flow, wp_in};
-use fol_forms::count::node_count;
+use fol_forms::count::{node_count, sum_and_one};
 use fol_forms::refusal::{FormRefusal, MOST_NODES, or_memory};
 use std::alloc::{AllocError, Global};
 
@@ -66,15 +65,17 @@ fn copy_of(alloc: Global, formula: &Formula) -> Result<Formula, FormRefusal>
     if node_count(formula) > MOST_NODES {
         return Err(FormRefusal::Large);
     }
-    copied(alloc, formula)
+    or_memory(formula.copy(alloc))
 }
 
 /// The conjunction of two formulas. `Large` exactly where it has more than 1,048,576 nodes.
-#[tactic(auto, using(csdn_core::specs::Tree::shapes))]
 pub fn both(alloc: Global, p: Formula, q: Formula) -> Result<Formula, FormRefusal>
-    ensures { Makes most_nodes (conjunction_of_two p q) result }
+    ensures { Makes most_nodes (conjunction p q) result }
 {
-    fitting(conjunction(alloc, p, q)?, MOST_NODES)
+    if sum_and_one(node_count(&p), node_count(&q)) > MOST_NODES {
+        return Err(FormRefusal::Large);
+    }
+    or_memory(Join::And.two(alloc, p, q))
 }
 
 /// The conjunction of the invariants' formulas after no event, after one, and so on to so many events.

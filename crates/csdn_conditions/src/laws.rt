@@ -1,15 +1,34 @@
 //! What holds of the conditions of every program.
-ghost use Rattle.std.specs.Prelude.{◌↔◌, IsTrue};
+ghost use Rattle.std.specs.Prelude.{◌≡◌, ◌↔◌, ◌<◌, ℕ, IsTrue, Some, slice_get};
 ghost use Rattle.csdn_core.specs.declared.program.Parts.{Parts as AnyParts};
 ghost use Rattle.csdn_core.specs.declared.event.Packet.{Packet as AnyPacket};
 ghost use Rattle.csdn_core.specs.Truth.{truth};
 ghost use Rattle.csdn_core.specs.Network.{Network, State, structure};
+ghost use Rattle.csdn_core.specs.Holds.{IsInductive, IsTopology};
 ghost use Rattle.csdn_core.specs.Run.{no_values};
 ghost use Rattle.csdn_core.specs.WellSorted.{IsWellSorted};
+ghost use Rattle.csdn_conditions.specs.declared.kinds.CondKind.TheVariants.{Network as NetworkKind};
+ghost use Rattle.csdn_conditions.specs.declared.sentence.Condition.{Condition as AnyCondition};
 ghost use Rattle.csdn_conditions.specs.Start.{start};
+ghost use Rattle.csdn_conditions.specs.Conditions.{condition, conditions};
+ghost use Rattle.csdn_conditions.specs.Closed.{IsClosed};
+ghost use Rattle.csdn_conditions.specs.Valid.{IsValid};
 ghost use Rattle.csdn_conditions.specs.Initial.{IsInitial};
 
 /// `start` is true in a state exactly where the state is the initial one, as far as a network's elements go.
 pub fn start_is_initial()
     ensures { (P : AnyParts) → IsWellSorted P → (N : Network) (x : State) (packet : AnyPacket) → IsTrue (truth (structure P N x packet) (start P) no_values) ↔ IsInitial P N x }
+{}
+
+/// The hypothesis and the goal of each condition are sentences: well-sorted, without free variables and without `rcv_this`.
+pub fn conditions_are_closed()
+    ensures { (P : AnyParts) → IsWellSorted P → (n i : ℕ) (c : AnyCondition) → slice_get (conditions P n) i ≡ Some c → IsClosed P c.hypothesis × IsClosed P c.goal }
+{}
+
+/// The first condition of a level is valid exactly where no network meets the topology invariants. A well-sorted program is
+/// n-inductive exactly where each other condition of level n is valid.
+pub fn conditions_are_exact()
+    ensures network { (P : AnyParts) → IsWellSorted P → (n : ℕ) → IsValid P (condition P n NetworkKind) ↔ ((N : Network) → IsTopology P N → ⊥) }
+    ensures sound { (P : AnyParts) → IsWellSorted P → (n : ℕ) → ((i : ℕ) (c : AnyCondition) → slice_get (conditions P n) i ≡ Some c → 0 < i → IsValid P c) → IsInductive n P }
+    ensures complete { (P : AnyParts) → IsWellSorted P → (n : ℕ) → IsInductive n P → (i : ℕ) (c : AnyCondition) → slice_get (conditions P n) i ≡ Some c → 0 < i → IsValid P c }
 {}

@@ -38,7 +38,7 @@ pub AreNew-right : (Γ : Scope) (ms ns : List ℕ) → AreNew Γ (ms ++ ns) → 
 AreNew-right Γ ms ns own = record { distinct = distinct_right ms ns own.distinct; new = λ n i. own.new n (in_right ms ns n i) }
 
 -- another variable is as it was
-still_none : (Γ : Scope) (v : VarId) (s : Sort) (n : ℕ) → (n ≡ v.0 → ⊥) → Γ n ≡ None → with_sort Γ v s n ≡ None
+pub still_none : (Γ : Scope) (v : VarId) (s : Sort) (n : ℕ) → (n ≡ v.0 → ⊥) → Γ n ≡ None → with_sort Γ v s n ≡ None
 still_none Γ v s n other none = go (n == v.0) refl
   where
     go : (b : Bool) → (n == v.0) ≡ b → cond b (Some s) (Γ n) ≡ None
@@ -107,7 +107,7 @@ module _ (P : Parts) where
   }
 
   -- what stands in a command is in scope, or bound by it
-  not_standing : (c : Command) (Γ : Scope) (n : ℕ) → IsCommandIn Γ c → Γ n ≡ None → (IsIn n (command_bound_in c) → ⊥) → IsFalse (stands_in c n)
+  pub not_standing : (c : Command) (Γ : Scope) (n : ℕ) → IsCommandIn Γ c → Γ n ≡ None → (IsIn n (command_bound_in c) → ⊥) → IsFalse (stands_in c n)
   unfolding IsCommandIn stands_in command_bound_in
   not_standing Skip Γ n formed none other = refl
   not_standing (sequence a b) Γ n formed none other =

@@ -8,3 +8,12 @@ pub mod Exact
 pub mod Scopes
 pub mod Grows
 pub mod Making
+pub mod Slices
+pub mod Membering
+pub mod Eventing
+pub mod Preceding
+pub mod Arrival
+pub mod Flow
+pub mod Programs
+pub mod Sentences
+pub mod Fitting

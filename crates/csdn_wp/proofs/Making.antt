@@ -1,5 +1,5 @@
 -- Room for formulas.
-use Rattle.std.proofs.Common.{◌≡◌, ℕ, ◌+◌, ◌-◌, ◌<◌, ◌≤◌, Result, Ok, Err, IsErrAnd, arith, refl, sym, subst, ap, ◌∙◌}
+use Rattle.std.proofs.Common.{◌≡◌, ◌↔◌, ℕ, ◌+◌, ◌-◌, ◌<◌, ◌≤◌, Result, Ok, Err, IsErrAnd, arith, refl, sym, subst, ap}
 use Rattle.csdn_core.specs.declared.terms.VarId.{VarId}
 use Rattle.csdn_core.specs.declared.terms.Sort.{Sort}
 use Rattle.csdn_core.specs.declared.syntax.Formula.{Formula}
@@ -10,8 +10,8 @@ use Rattle.fol_forms.specs.declared.refusal.FormRefusal.{FormRefusal}
 use Rattle.fol_forms.specs.declared.refusal.FormRefusal.TheVariants.{Large, Memory}
 use Rattle.fol_forms.specs.Limits.{capped, most_nodes}
 use Rattle.csdn_wp.specs.Preconditions.{wp}
-use Rattle.csdn_wp.specs.Makes.{Makes, Gives, Leaves}
-use Rattle.csdn_wp.proofs.Grows.{nodes_positive, wp_grows}
+use Rattle.csdn_wp.specs.Makes.{Makes, Leaves}
+use Rattle.csdn_wp.proofs.Grows.{wp_grows}
 
 pub no_room : (n count room : ℕ) → count ≡ capped n → room < count → room < n
 unfolding capped
@@ -86,3 +86,13 @@ module _ (room : ℕ) (first condition : Formula) (b : Command) (q : Formula) wh
 
 pub sequence_refused : (room : ℕ) (a : Command) (q : Formula) → room < nodes q → room < nodes (wp a q)
 sequence_refused room a q none = omega (arith, wp_grows a q, none)
+
+-- of a form of `fol_forms`, and what it stands in
+
+pub refused_form : (room : ℕ) (p q : Formula) (e : FormRefusal) (r : Result Formula FormRefusal) → room ≤ most_nodes → IsErrAnd r (λ given. given ≡ e) → (◌≡◌ {A = Result Formula FormRefusal} (Err e) (Err Large)) ↔ (most_nodes < nodes p) → nodes p ≤ nodes q → Makes room q r
+refused_form room p q e (Ok x) small passed large grows = absurd passed
+refused_form room p q Large (Err given) small passed large grows = subst (λ z. Makes room q (Err z)) (sym passed) (let more = large.0 refl in omega (arith, small, more, grows))
+refused_form room p q Memory (Err given) small passed large grows = subst (λ z. Makes room q (Err z)) (sym passed) tt
+
+pub all_room : most_nodes ≤ most_nodes
+all_room = omega arith

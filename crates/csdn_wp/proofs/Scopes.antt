@@ -69,7 +69,7 @@ module _ (S : Signature) where
   in_scope bs Γ all s (Const k) has = has
   in_scope bs Γ all s (Port k) has = has
 
-  all_in_scope : (bs : List Bind) (Γ : Scope) → AreInScope bs Γ → (ss : List Sort) (ts : List Term) → HaveSorts S bs ss ts → HaveSortsIn S Γ ss ts
+  pub all_in_scope : (bs : List Bind) (Γ : Scope) → AreInScope bs Γ → (ss : List Sort) (ts : List Term) → HaveSorts S bs ss ts → HaveSortsIn S Γ ss ts
   unfolding HaveSorts HaveSortsIn
   all_in_scope bs Γ all [] [] have = tt
   all_in_scope bs Γ all [] (t ∷ ts) have = have

@@ -55,7 +55,7 @@ module _ (S : Signature) where
     IsSortedIn-replace Γ (existential v s p) have out sorted = IsSortedIn-replace (with_sort Γ v s) p (HaveSortsIn-under Γ v s ss ts out.0 have) out.1 sorted
 
   -- equations of terms of the same sorts
-  IsSortedIn-same : (Q : Relations) (Γ : Scope) (ss : List Sort) (us ts : List Term) → HaveSortsIn S Γ ss us → HaveSortsIn S Γ ss ts → IsSortedIn S Q Γ (same us ts)
+  pub IsSortedIn-same : (Q : Relations) (Γ : Scope) (ss : List Sort) (us ts : List Term) → HaveSortsIn S Γ ss us → HaveSortsIn S Γ ss ts → IsSortedIn S Q Γ (same us ts)
   unfolding IsSortedIn HaveSortsIn
   IsSortedIn-same Q Γ [] [] [] have have_too = tt
   IsSortedIn-same Q Γ [] [] (t ∷ ts) have have_too = absurd have_too

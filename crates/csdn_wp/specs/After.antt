@@ -1,5 +1,5 @@
 -- What a formula meets to stand after a command.
-use Rattle.std.specs.Prelude.{◌≡◌, ◌≢◌, ℕ, ◌||◌, false, List, [], ◌∷◌, ◌++◌, map, AllPairs, IsTrue, Some, Contains}
+use Rattle.std.specs.Prelude.{◌≡◌, ◌≢◌, ◌↔◌, ℕ, ◌||◌, false, List, [], ◌∷◌, ◌++◌, map, AllPairs, IsTrue, Some, Contains}
 use Rattle.csdn_core.specs.declared.program.Parts.{Parts}
 use Rattle.csdn_core.specs.declared.syntax.Formula.{Formula}
 use Rattle.csdn_core.specs.declared.syntax.Command.{Command}
@@ -7,7 +7,8 @@ use Rattle.csdn_core.specs.declared.syntax.Command.TheVariants.{Skip, Insert, Re
 use Rattle.csdn_core.specs.Tree.{sequence, conditional, choice}
 use Rattle.csdn_core.specs.declared.terms.Sort.{Sort}
 use Rattle.csdn_core.specs.Truth.{Assignment}
-use Rattle.csdn_core.specs.Network.{Network, elements}
+use Rattle.csdn_core.specs.Network.{Network, State, IsNetwork, elements}
+use Rattle.csdn_core.specs.Execution.{is_true, Executes}
 use Rattle.csdn_core.specs.Variables.{Variables, vars_of, free_in}
 use Rattle.csdn_core.specs.Sorted.{Bind, bound_in}
 use Rattle.csdn_core.specs.WellSorted.{OwnPacket, IsCommand, signature, command_bound_in}
@@ -49,3 +50,9 @@ pub record MayPrecede (P : Parts) (Γ : List Bind) (c : Command) (q : Formula) :
 -- each of these variables has an element of its sort
 abbrev pub HaveElements : Network → List Bind → Assignment → Type 0
 HaveElements N bs e = (v : ℕ) (s : Sort) → scope_of bs v ≡ Some s → Contains (elements N s) (e v)
+
+-- the formula p is true, in each network and state and under each assignment to the variables in scope, exactly where every
+-- execution of the command ends where q is true
+abbrev pub IsPrecondition : Parts → List Bind → Command → Formula → Formula → Type 0
+IsPrecondition P bs c q p =
+    (N : Network) → IsNetwork P N → (e : Assignment) → HaveElements N bs e → (x : State) → IsTrue (is_true P N p e x) ↔ ((y : State) → Executes P N c e x y → IsTrue (is_true P N q e y))

@@ -36,7 +36,7 @@ handler_vars h = record { s = h.s; a = h.a; b = h.b; i = h.i }
 abbrev pub first_vars : PacketVars
 first_vars = record { s = numbered 0; a = numbered 1; b = numbered 2; i = numbered 3 }
 
--- .. with their sorts
+-- the variables of a packet, with their sorts
 abbrev pub binds_of : PacketVars → List Bind
 binds_of v =
     record { var = v.s; sort = Sw } ∷ record { var = v.a; sort = Ho } ∷ record { var = v.b; sort = Ho } ∷ record { var = v.i; sort = Pr } ∷ []
@@ -58,12 +58,13 @@ guard [] None i = None
 guard [] (Some k) i = Some (is_port i k)
 guard (k ∷ earlier) port i = Some (and_also (negation (is_port i k)) (guard earlier port i))
 
+-- under the guard, if there is one
 abbrev pub guarded : Option Formula → Formula → Formula
 guarded None p = p
 guarded (Some g) p = implication g p
 
 -- for every packet that the earlier ports leave to this pattern, the formula holds after the body
-abbrev pub member : List ℕ → PacketVars → Option ℕ → Command → Formula → Formula
+unfoldable pub member : List ℕ → PacketVars → Option ℕ → Command → Formula → Formula
 member earlier v port body q = for_packets v (guarded (guard earlier port v.i) (wp body (fix_packet q (terms_of v))))
 
 -- a pattern that is a variable leaves no packet to those that follow
@@ -72,14 +73,15 @@ and_later None earlier p later = p
 and_later (Some k) earlier p later = conjunction p (later (earlier ++ k ∷ []))
 
 -- a member for each handler, and one for the packets that no pattern fits
-abbrev pub members : List Handler → List ℕ → Formula → Formula
+unfoldable pub members : List Handler → List ℕ → Formula → Formula
 members [] earlier q = member earlier first_vars None Skip q
 members (h ∷ hs) earlier q = and_later h.port earlier (member earlier (handler_vars h) h.port h.body q) (λ ks. members hs ks q)
 
 -- for every packet, the formula holds after the handler that fits; its bound variables have numbers that no handler has
-abbrev pub wp_in : Parts → Formula → Formula
+unfoldable pub wp_in : Parts → Formula → Formula
 wp_in P q = members P.handlers [] (renumber q most_numbers)
 
+-- a tuple of the flow tables
 abbrev pub flow_terms : List Term
 flow_terms = Var (numbered 0) ∷ Var (numbered 1) ∷ Var (numbered 2) ∷ Var (numbered 3) ∷ Var (numbered 4) ∷ []
 
@@ -88,6 +90,6 @@ flow_binds =
     record { var = numbered 0; sort = Sw } ∷ record { var = numbered 1; sort = Ho } ∷ record { var = numbered 2; sort = Ho } ∷ record { var = numbered 3; sort = Pr } ∷ record { var = numbered 4; sort = Pr } ∷ []
 
 -- for every tuple of `ft`, the formula holds after the tuple was put into `sent`
-abbrev pub wp_flow : Formula → Formula
+unfoldable pub wp_flow : Formula → Formula
 wp_flow q =
     closed flow_binds (implication (Atom Ft flow_terms) (add_row (fix_packet (renumber q 5) (terms_of first_vars)) Sent flow_terms))

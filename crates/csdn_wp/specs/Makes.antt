@@ -1,5 +1,6 @@
 -- Answers of calls that make a form of limited size.
 use Rattle.std.specs.Prelude.{◌≡◌, ℕ, ◌+◌, ◌<◌, ◌≤◌, Result, Ok, Err}
+use Rattle.std.specs.declared.alloc.AllocError.{AllocError}
 use Rattle.csdn_core.specs.declared.syntax.Formula.{Formula}
 use Rattle.csdn_core.specs.Nodes.{nodes}
 use Rattle.fol_forms.specs.declared.refusal.FormRefusal.{FormRefusal}
@@ -22,3 +23,8 @@ abbrev pub Leaves : ℕ → ℕ → Result ℕ FormRefusal → Type 0
 Leaves room n (Ok left) = left + n ≡ room
 Leaves room n (Err Large) = room < n
 Leaves room n (Err Memory) = ⊥
+
+-- the same, with want of memory as a refusal
+abbrev pub IsWidened : {A : Type 0} → Result A AllocError → Result A FormRefusal → Type 0
+IsWidened (Ok x) r = r ≡ Ok x
+IsWidened (Err e) r = r ≡ Err Memory

@@ -1,5 +1,7 @@
 //! Weakest preconditions of commands.
-ghost use Rattle.std.specs.Prelude.{◌≤◌};
+ghost use Rattle.std.specs.Prelude.{◌≤◌, List, IfOk};
+ghost use Rattle.csdn_core.specs.Sorted.{Bind as Scoped};
+ghost use Rattle.csdn_wp.specs.After.{MayPrecede, IsPrecondition};
 ghost use Rattle.csdn_core.specs.declared.syntax.Formula.TheVariants.{Not, And, Implies, Exists, Forall};
 ghost use Rattle.csdn_core.specs.declared.syntax.Command.TheVariants.{Seq};
 ghost use Rattle.fol_forms.specs.Limits.{most_nodes};
@@ -7,13 +9,28 @@ ghost use Rattle.csdn_wp.specs.Makes.{Makes};
 ghost use Rattle.csdn_wp.specs.Preconditions.{wp as wp_of};
 
 use crate::build::{boxed, copied, fitting, left_beside, left_beside_one, negated, no_element};
+use csdn_core::program::Program;
 use csdn_core::syntax::{Command, Formula};
 use csdn_core::terms::Pred;
 use fol_forms::close::Bind;
-use fol_forms::refusal::{FormRefusal, or_memory};
+use fol_forms::refusal::{FormRefusal, MOST_NODES, or_memory};
 use fol_forms::replace::{add_flood, add_row, drop_row};
 use sqlite_items::Boxed;
 use std::alloc::Global;
+
+/// What is true exactly where every execution of the command ends where the formula is true. The command is one of the program;
+/// no variable of it is bound in the formula, and none that it picks is free there.
+pub fn wp(
+    alloc: Global,
+    program: &Program,
+    command: &Command,
+    post: &Formula,
+) -> Result<Formula, FormRefusal>
+    ensures form { Makes most_nodes (wp_of command.now post.now) result }
+    ensures exact { IfOk result (λ made. (bs : List Scoped) → MayPrecede program.now bs command.now post.now → IsPrecondition program.now bs command.now post.now made) }
+{
+    precondition(alloc, command, post, MOST_NODES)
+}
 
 /// The precondition, in a room.
 #[cycle(preconditions)]
@@ -67,9 +84,9 @@ fn of_sequence(
     precondition(alloc, a, after.get(), room)
 }
 
-// Where the condition is true, the precondition.
+/// Where the condition is true, the precondition.
 #[cycle(preconditions)]
-fn under(
+pub fn under(
     alloc: Global,
     condition: Boxed<Formula>,
     command: &Command,

@@ -7,5 +7,7 @@
 pub mod build;
 pub mod commands;
 pub mod events;
+mod guards;
 pub mod laws;
+mod members;
 pub mod vars;

@@ -1,10 +1,12 @@
 //! The variables that stand for a packet.
-ghost use Rattle.std.specs.Prelude.{◌≡◌, ◌++◌, [], ◌∷◌, IfOk};
+ghost use Rattle.std.specs.Prelude.{◌≡◌, ◌++◌, [], ◌∷◌};
+ghost use Rattle.csdn_wp.specs.Makes.{Gives, IsWidened};
 ghost use Rattle.csdn_wp.specs.EventPreconditions.{binds_of as binds_in, first_vars as first_of, flow_binds as flow_binds_of, flow_terms as flow_terms_of, handler_vars as vars_in, terms_of as terms_in};
 
 use csdn_core::program::Handler;
 use csdn_core::terms::{Sort, Term, Terms, VarId};
 use fol_forms::close::{Bind, Binds};
+use fol_forms::refusal::FormRefusal;
 use sqlite_items::Items;
 use std::alloc::{AllocError, Global};
 
@@ -21,14 +23,24 @@ pub struct PacketVars {
 pub fn handler_vars(handler: &Handler) -> PacketVars
     ensures { result ≡ vars_in handler.now }
 {
-    PacketVars { s: handler.s, a: handler.a, b: handler.b, i: handler.i }
+    PacketVars {
+        s: handler.s,
+        a: handler.a,
+        b: handler.b,
+        i: handler.i,
+    }
 }
 
 /// Those where no handler names them.
 pub fn first_vars() -> PacketVars
     ensures { result ≡ first_of }
 {
-    PacketVars { s: VarId(0), a: VarId(1), b: VarId(2), i: VarId(3) }
+    PacketVars {
+        s: VarId(0),
+        a: VarId(1),
+        b: VarId(2),
+        i: VarId(3),
+    }
 }
 
 /// The variables as terms.
@@ -44,16 +56,28 @@ pub fn terms_of(vars: PacketVars) -> Terms
 }
 
 /// The variables with their sorts.
-pub fn binds_of(alloc: Global, vars: PacketVars) -> Result<Binds, AllocError>
-    ensures { IfOk result (λ binds. binds ≡ binds_in vars) }
+pub fn binds_of(alloc: Global, vars: PacketVars) -> Result<Binds, FormRefusal>
+    ensures { Gives (binds_in vars) result }
 {
     let binds = [
-        Bind { var: vars.s, sort: Sort::Sw },
-        Bind { var: vars.a, sort: Sort::Ho },
-        Bind { var: vars.b, sort: Sort::Ho },
-        Bind { var: vars.i, sort: Sort::Pr },
+        Bind {
+            var: vars.s,
+            sort: Sort::Sw,
+        },
+        Bind {
+            var: vars.a,
+            sort: Sort::Ho,
+        },
+        Bind {
+            var: vars.b,
+            sort: Sort::Ho,
+        },
+        Bind {
+            var: vars.i,
+            sort: Sort::Pr,
+        },
     ];
-    Items::from_slice(alloc, &binds)
+    or_refused(Items::from_slice(alloc, &binds))
 }
 
 /// A tuple of the flow tables: a packet and its egress port.
@@ -66,16 +90,40 @@ pub fn flow_terms() -> Terms
 }
 
 /// The variables of such a tuple with their sorts.
-pub fn flow_binds(alloc: Global) -> Result<Binds, AllocError>
-    ensures { IfOk result (λ binds. binds ≡ flow_binds_of) }
+pub fn flow_binds(alloc: Global) -> Result<Binds, FormRefusal>
+    ensures { Gives flow_binds_of result }
 {
     let vars = first_vars();
     let binds = [
-        Bind { var: vars.s, sort: Sort::Sw },
-        Bind { var: vars.a, sort: Sort::Ho },
-        Bind { var: vars.b, sort: Sort::Ho },
-        Bind { var: vars.i, sort: Sort::Pr },
-        Bind { var: VarId(4), sort: Sort::Pr },
+        Bind {
+            var: vars.s,
+            sort: Sort::Sw,
+        },
+        Bind {
+            var: vars.a,
+            sort: Sort::Ho,
+        },
+        Bind {
+            var: vars.b,
+            sort: Sort::Ho,
+        },
+        Bind {
+            var: vars.i,
+            sort: Sort::Pr,
+        },
+        Bind {
+            var: VarId(4),
+            sort: Sort::Pr,
+        },
     ];
-    Items::from_slice(alloc, &binds)
+    or_refused(Items::from_slice(alloc, &binds))
+}
+
+fn or_refused(binds: Result<Binds, AllocError>) -> Result<Binds, FormRefusal>
+    ensures { IsWidened binds result }
+{
+    match binds {
+        Ok(binds) => Ok(binds),
+        Err(_) => Err(FormRefusal::Memory),
+    }
 }

@@ -1,5 +1,4 @@
-use Rattle.std.proofs.Common.{◌≡◌, ◌+◌, ◌<◌, ◌∙◌, ap, sym, subst}
-use Rattle.csdn_core.specs.declared.syntax.Formula.{Formula}
+use Rattle.std.proofs.Common.{◌+◌, ◌<◌, ◌∙◌, ap, sym, subst}
 use Rattle.csdn_core.specs.declared.syntax.Formula.TheVariants.{Not, And, Implies, Exists, Forall}
 use Rattle.csdn_core.specs.Nodes.{nodes}
 use Rattle.csdn_wp.specs.Preconditions.{wp}

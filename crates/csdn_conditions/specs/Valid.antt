@@ -1,0 +1,13 @@
+-- What it means that a condition is valid.
+use Rattle.std.specs.Prelude.{ℕ, IsTrue}
+use Rattle.csdn_core.specs.declared.event.Packet.TheVariants.{Nothing}
+use Rattle.csdn_core.specs.declared.program.Parts.{Parts}
+use Rattle.csdn_core.specs.Truth.{truth}
+use Rattle.csdn_core.specs.Network.{Network, State, structure, IsNetwork}
+use Rattle.csdn_core.specs.Run.{no_values}
+use Rattle.csdn_conditions.specs.declared.sentence.Condition.{Condition}
+
+-- in every network and state in which the hypothesis is true, the goal is
+abbrev pub IsValid : Parts → Condition → Type 0
+IsValid P c =
+    (N : Network) (x : State) → IsNetwork P N → IsTrue (truth (structure P N x Nothing) c.hypothesis no_values) → IsTrue (truth (structure P N x Nothing) c.goal no_values)

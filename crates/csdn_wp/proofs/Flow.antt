@@ -1,0 +1,97 @@
+-- The precondition of packet-flow events is exact, and well-sorted.
+use Rattle.std.proofs.Common.{◌≡◌, ℕ, ◌≤◌, ◌↔◌, [], ◌∷◌, None, refl, sym, subst, ◌∙◌, IsTrue, arith}
+use Rattle.csdn_core.specs.declared.terms.Sort.TheVariants.{Sw, Ho, Pr}
+use Rattle.csdn_core.specs.declared.terms.Pred.TheVariants.{Ft, Sent}
+use Rattle.csdn_core.specs.declared.event.Event.TheVariants.{PktFlow}
+use Rattle.csdn_core.specs.declared.event.Packet.TheVariants.{Nothing, At}
+use Rattle.csdn_core.specs.declared.program.Parts.{Parts}
+use Rattle.csdn_core.specs.declared.syntax.Formula.{Formula}
+use Rattle.csdn_core.specs.Truth.{Assignment, truth, with_var}
+use Rattle.csdn_core.specs.Network.{Network, State, structure}
+use Rattle.csdn_core.specs.Execution.{put}
+use Rattle.csdn_core.specs.Run.{Step, no_values}
+use Rattle.csdn_core.specs.Variables.{vars_of, BindsOutside}
+use Rattle.csdn_core.specs.Sorted.{flow_sorts, packet_sorts}
+use Rattle.csdn_core.specs.WellSorted.{signature}
+use Rattle.decision_laws.specs.Vocabulary.{IsIn}
+use Rattle.fol_forms.specs.Replace.{add_row, fix_packet, is_row}
+use Rattle.fol_forms.specs.Renumber.{renumber}
+use Rattle.fol_forms.specs.Substitution.{Scope, no_scope, with_sort}
+use Rattle.csdn_wp.specs.SortedIn.{any_relation, no_packet, HaveSortsIn, IsSortedIn}
+use Rattle.csdn_wp.specs.EventPreconditions.{numbered, terms_of, first_vars, flow_terms, wp_flow}
+use Rattle.csdn_wp.proofs.Truths.{all_at, all_from, implied, implies}
+use Rattle.csdn_wp.proofs.Bounds.{binds_outside, bound_in-replace, bound_in-is_row, bound_in-renumbered}
+use Rattle.csdn_wp.proofs.Sorting.{Extends-none, IsSortedIn-more, IsSortedIn-renumber, terms_not}
+use Rattle.csdn_wp.proofs.Sorted.{IsSortedIn-fix_packet, IsSortedIn-add_row}
+use Rattle.csdn_wp.proofs.Follows.{still_none}
+use Rattle.csdn_wp.proofs.Exact.{after_put, can_write_sent}
+use Rattle.csdn_wp.proofs.Arrival.{after, fixed_is}
+
+-- the variables 0 to 4
+abbrev four_scope : Scope
+four_scope = with_sort (with_sort (with_sort (with_sort no_scope (numbered 0) Sw) (numbered 1) Ho) (numbered 2) Ho) (numbered 3) Pr
+
+abbrev flow_scope : Scope
+flow_scope = with_sort four_scope (numbered 4) Pr
+
+far_none : (n : ℕ) → 5 ≤ n → flow_scope n ≡ None
+far_none n far =
+    still_none four_scope (numbered 4) Pr n (λ is. omega (arith, is, far))
+    (still_none (with_sort (with_sort (with_sort no_scope (numbered 0) Sw) (numbered 1) Ho) (numbered 2) Ho) (numbered 3) Pr n (λ is. omega (arith, is, far))
+    (still_none (with_sort (with_sort no_scope (numbered 0) Sw) (numbered 1) Ho) (numbered 2) Ho n (λ is. omega (arith, is, far))
+    (still_none (with_sort no_scope (numbered 0) Sw) (numbered 1) Ho n (λ is. omega (arith, is, far)) (still_none no_scope (numbered 0) Sw n (λ is. omega (arith, is, far)) refl))))
+
+module _ (P : Parts) where
+  have_flow : HaveSortsIn (signature P) flow_scope flow_sorts flow_terms
+  unfolding HaveSortsIn
+  have_flow = (refl, (refl, (refl, (refl, (refl, tt)))))
+
+  have_packet : HaveSortsIn (signature P) flow_scope packet_sorts (terms_of first_vars)
+  unfolding HaveSortsIn
+  have_packet = (refl, (refl, (refl, (refl, tt))))
+
+  module _ (q : Formula) (sorted : IsSortedIn (signature P) any_relation no_scope q) where
+    abbrev fixed : Formula
+    fixed = fix_packet (renumber q 5) (terms_of first_vars)
+
+    anew_out : BindsOutside (vars_of (terms_of first_vars)) (renumber q 5)
+    anew_out = binds_outside (vars_of (terms_of first_vars)) (renumber q 5)
+        (λ n i. terms_not (signature P) flow_scope n (far_none n (bound_in-renumbered q (λ w. w) 5 n i)) packet_sorts (terms_of first_vars) have_packet)
+
+    fixed_out : BindsOutside (vars_of flow_terms) fixed
+    fixed_out = binds_outside (vars_of flow_terms) fixed
+        (λ n i. terms_not (signature P) flow_scope n
+        (far_none n (bound_in-renumbered q (λ w. w) 5 n (subst (λ ns. IsIn n ns) (bound_in-replace (is_row (terms_of first_vars)) (bound_in-is_row (terms_of first_vars)) (renumber q 5)) i))) flow_sorts flow_terms have_flow)
+
+    fixed_sorted : IsSortedIn (signature P) no_packet flow_scope fixed
+    fixed_sorted = IsSortedIn-fix_packet (signature P) any_relation (terms_of first_vars) flow_scope (renumber q 5) have_packet anew_out
+        (IsSortedIn-more (signature P) any_relation any_relation (λ r named. tt) no_scope flow_scope (Extends-none flow_scope) (renumber q 5) (IsSortedIn-renumber (signature P) any_relation q 5 sorted))
+
+    pub flow_sorted : IsSortedIn (signature P) no_packet no_scope (wp_flow q)
+    unfolding wp_flow IsSortedIn
+    flow_sorted = (
+      (record { sorts = flow_sorts; declared = refl; terms = have_flow }, refl),
+      IsSortedIn-add_row (signature P) no_packet Sent flow_sorts flow_terms refl flow_scope fixed have_flow fixed_out fixed_sorted,
+    )
+
+    module _ (N : Network) (x : State) where
+      -- the five variables stand for the tuple
+      abbrev for_flow : ℕ → ℕ → ℕ → ℕ → ℕ → Assignment
+      for_flow s a b i o = with_var (with_var (with_var (with_var (with_var no_values (numbered 0) s) (numbered 1) a) (numbered 2) b) (numbered 3) i) (numbered 4) o
+
+      after_flow : (s a b i o : ℕ) → truth (structure P N x Nothing) (add_row fixed Sent flow_terms) (for_flow s a b i o) ≡ after P N q sorted (put x Sent (s ∷ a ∷ b ∷ i ∷ o ∷ [])) s a b i
+      after_flow s a b i o =
+          let d : Assignment = for_flow s a b i o in
+          after_put P N no_packet flow_scope fixed fixed_sorted d x Sent flow_sorts flow_terms (can_write_sent P N) refl refl fixed_out
+          ∙ fixed_is P N q sorted 5 (put x Sent (s ∷ a ∷ b ∷ i ∷ o ∷ [])) (terms_of first_vars) d s a b i flow_scope have_packet anew_out refl
+
+      pub flow_exact : IsTrue (truth (structure P N x Nothing) (wp_flow q) no_values)
+          ↔ ((s a b i o : ℕ) (y : State) → Step P N x (PktFlow s a b i o) y → IsTrue (truth (structure P N y (At s a b i)) q no_values))
+      unfolding truth wp_flow after
+      flow_exact = (
+        λ h s a b i o y (in_s, in_a, in_b, in_i, in_o, enabled, is). rw is (
+            sym (after_flow s a b i o) ∙ implied (x Ft (s ∷ a ∷ b ∷ i ∷ o ∷ [])) _
+            (all_at _ N.ports o in_o (all_at _ N.ports i in_i (all_at _ N.hosts b in_b (all_at _ N.hosts a in_a (all_at _ N.switches s in_s h))))) enabled),
+        λ h. all_from _ N.switches (λ s in_s. all_from _ N.hosts (λ a in_a. all_from _ N.hosts (λ b in_b. all_from _ N.ports (λ i in_i. all_from _ N.ports (λ o in_o.
+            implies (x Ft (s ∷ a ∷ b ∷ i ∷ o ∷ [])) _ (λ enabled. after_flow s a b i o ∙ h s a b i o (put x Sent (s ∷ a ∷ b ∷ i ∷ o ∷ [])) (in_s, in_a, in_b, in_i, in_o, enabled, refl))))))),
+      )

@@ -1,0 +1,9 @@
+use Rattle.csdn_wp.proofs.Programs.{in_exact}
+use Rattle.csdn_wp.proofs.Sentences.{in_sorted}
+use Rattle.csdn_wp.proofs.laws.wp_in_is_exact.Goals as goal
+
+pub returns-clause-exact : goal.returns-clause-exact
+returns-clause-exact c = in_exact
+
+pub returns-clause-sentence : goal.returns-clause-sentence
+returns-clause-sentence c = in_sorted
