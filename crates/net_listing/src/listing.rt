@@ -41,14 +41,16 @@ fn topology_of(program: &Program) -> &[Invariant]
     program.parts().topology.as_slice()
 }
 
-fn safety_of(program: &Program) -> &[Invariant]
+/// The safety invariants, each of which binds at most 24 variables at once.
+pub fn safety_of(program: &Program) -> &[Invariant]
     ensures value { result.now ≡ program.now.safety }
     ensures shallow { All (λ v. depth v.formula ≤ 24) result.now }
 {
     program.parts().safety.as_slice()
 }
 
-fn trans_of(program: &Program) -> &[Invariant]
+/// The transition invariants.
+pub fn trans_of(program: &Program) -> &[Invariant]
     ensures value { result.now ≡ program.now.trans }
     ensures shallow { All (λ v. depth v.formula ≤ 24) result.now }
 {

@@ -6,22 +6,22 @@ use Rattle.csdn_text.proofs.Whole.{reads_one}
 use Rattle.csdn_types.specs.declared.refusal.SortRefusal.{SortRefusal}
 use Rattle.csdn_types.specs.Resolved.{broken_rules, parts_of}
 use Rattle.truth_table.specs.FirstForm.{IsFirstForm}
-use Rattle.vericon_edge.specs.Told.{Told, untold, absent, holds, MayHold, MayBeMissing, MayBeLonger}
+use Rattle.vericon_edge.specs.Told.{Told, holds, MayHold, MayBeMissing, MayBeLonger}
 use Rattle.vericon_app.specs.declared.source.FileKind.{FileKind}
-use Rattle.vericon_app.specs.declared.source.FileKind.TheVariants.{Program, Frames, Logs, Network}
+use Rattle.vericon_app.specs.declared.source.FileKind.TheVariants.{Program, Frames, Logs}
 use Rattle.vericon_app.specs.declared.program.Why.{Why}
-use Rattle.vericon_app.specs.Words.{Form, usage, check, show, eval, frames, clauses}
+use Rattle.vericon_app.specs.Words.{Form, usage, check, show, eval, trace, frames, clauses}
 use Rattle.vericon_app.specs.Inputs.{Inputs, WithFile, was_read, was_refused, was_missing, was_longer, had_failed}
 use Rattle.vericon_app.specs.Programs.{Spells, IsNoProgram, has_no_reading, breaks_a_rule}
 use Rattle.vericon_app.specs.Small.{IsSmall}
 use Rattle.vericon_app.specs.Check.{VerdictOutput, is_inductive, is_false_at_start, is_false_after, ProgramOutput, has_the_form, has_not_the_form, TextOutput, is_small, is_large, BytesOutput, is_program, is_no_program, CheckOutput}
 use Rattle.vericon_app.specs.Show.{PrintedOutput}
-use Rattle.vericon_app.specs.Eval.{CaseOutput, EvaluatedOutput, is_evaluated, is_no_program as spells_no_program}
 use Rattle.vericon_app.specs.Frames.{ListingOutput}
 use Rattle.vericon_app.specs.Clauses.{BlocksOutput}
 use Rattle.vericon_app.specs.Output.{Output}
 use Rattle.vericon_app.specs.Left.{HasLeft, whole, no_memory, cut, cut_memory}
 use Rattle.vericon_app.specs.Quiet.{IsUndisturbed, calm, Answers, answers, wants_memory}
+use Rattle.vericon_app.proofs.Eased.{calming, file_eased, eval_eased, trace_eased}
 use Rattle.vericon_app.specs.Decided.{IsDecided, is_yes, is_counterexample, is_not_yet, spells_none, is_too_long}
 
 -- bytes spell at most one program
@@ -79,34 +79,15 @@ decided form given old new before after status name bytes asked told quiet (cut_
 
 -- ---- undisturbed calls
 
-missing_calmed : (told : Told) (before after : ℕ) → after ≡ before → before < 18446744073709551615 → MayBeMissing told before after → MayBeMissing told 0 0
-missing_calmed untold before after steady counted may = absurd (omega (arith, may))
-missing_calmed absent before after steady counted may = tt
-missing_calmed (holds held) before after steady counted may = may
-
 -- what no fault disturbed has the output of calm files
-file_calmed : (given : Inputs) (kind : FileKind) (name : List ℕ) (next next' : List ℕ → List ℕ → ℕ → Type 0) (text : List ℕ) (status : ℕ) → given.after ≡ given.before → given.before < 18446744073709551615
-    → ((bytes : List ℕ) → next bytes text status → next' bytes text status) → WithFile given kind name next text status → WithFile (calm given.told) kind name next' text status
-file_calmed given kind name next next' text status steady counted to (was_read bytes may within out) = was_read bytes may within (to bytes out)
-file_calmed given kind name next next' text status steady counted to (was_refused (was_missing may text_is status_is)) =
-    was_refused (was_missing (missing_calmed (given.told name) given.before given.after steady counted may) text_is status_is)
-file_calmed given kind name next next' text status steady counted to (was_refused (was_longer may text_is status_is)) = was_refused (was_longer may text_is status_is)
-file_calmed given kind name next next' text status steady counted to (was_refused (had_failed rose text_is status_is)) = absurd (omega (arith, rose))
-
-evaluated_calmed : (given : Inputs) (name net bytes text : List ℕ) (status : ℕ) → given.after ≡ given.before → given.before < 18446744073709551615
-    → EvaluatedOutput given name net bytes text status → EvaluatedOutput (calm given.told) name net bytes text status
-evaluated_calmed given name net bytes text status steady counted (is_evaluated P spells out) =
-    is_evaluated P spells (file_calmed given Network net (CaseOutput P net) (CaseOutput P net) text status steady counted (λ xs next. next) out)
-evaluated_calmed given name net bytes text status steady counted (spells_no_program at why refusal text_is status_is) = spells_no_program at why refusal text_is status_is
-
 calmed : (form : Form) (given : Inputs) (text : List ℕ) (status : ℕ) → given.after ≡ given.before → given.before < 18446744073709551615 → Output form given text status → Output form (calm given.told) text status
-calmed usage given text status steady counted out = out
-calmed (check name) given text status steady counted out = file_calmed given Program name (BytesOutput name) (BytesOutput name) text status steady counted (λ bytes next. next) out
-calmed (show name) given text status steady counted out = file_calmed given Program name (PrintedOutput name) (PrintedOutput name) text status steady counted (λ bytes next. next) out
-calmed (eval name net) given text status steady counted out =
-    file_calmed given Program name (EvaluatedOutput given name net) (EvaluatedOutput (calm given.told) name net) text status steady counted (λ bytes next. evaluated_calmed given name net bytes text status steady counted next) out
-calmed (frames name) given text status steady counted out = file_calmed given Frames name ListingOutput ListingOutput text status steady counted (λ bytes next. next) out
-calmed (clauses name) given text status steady counted out = file_calmed given Logs name (BlocksOutput name) (BlocksOutput name) text status steady counted (λ bytes next. next) out
+calmed usage given text status steady counts out = out
+calmed (check name) given text status steady counts out = file_eased given.told given.before given.after 0 0 (calming given.before given.after steady counts) Program name (BytesOutput name) (BytesOutput name) text status (λ bytes said. said) out
+calmed (show name) given text status steady counts out = file_eased given.told given.before given.after 0 0 (calming given.before given.after steady counts) Program name (PrintedOutput name) (PrintedOutput name) text status (λ bytes said. said) out
+calmed (eval name net) given text status steady counts out = eval_eased given.told given.before given.after 0 0 (calming given.before given.after steady counts) name net text status out
+calmed (trace name net journal) given text status steady counts out = trace_eased given.told given.before given.after 0 0 (calming given.before given.after steady counts) name net journal text status out
+calmed (frames name) given text status steady counts out = file_eased given.told given.before given.after 0 0 (calming given.before given.after steady counts) Frames name ListingOutput ListingOutput text status (λ bytes said. said) out
+calmed (clauses name) given text status steady counts out = file_eased given.told given.before given.after 0 0 (calming given.before given.after steady counts) Logs name (BlocksOutput name) (BlocksOutput name) text status (λ bytes said. said) out
 
 -- an undisturbed call answers, or memory was short
 pub answered : (form : Form) (given : Inputs) (old new : Option (List ℕ)) (before after status : ℕ) → IsUndisturbed given before after → HasLeft (Output form given) old new before after status

@@ -2,4 +2,5 @@ pub mod Outputs
 pub mod Exact
 pub mod Refused
 mod Small
-pub mod Later
+pub mod Eased
+mod Loading

@@ -3,7 +3,7 @@ use Rattle.std.specs.Prelude.{◌≡◌, ℕ, ◌≤◌, List, length}
 use Rattle.vericon_edge.specs.Counts.{Rose}
 use Rattle.vericon_edge.specs.Told.{Told, MayHold, MayBeMissing, MayBeLonger}
 use Rattle.vericon_app.specs.declared.source.FileKind.{FileKind}
-use Rattle.vericon_app.specs.declared.source.FileKind.TheVariants.{Program, Frames, Logs, Network}
+use Rattle.vericon_app.specs.declared.source.FileKind.TheVariants.{Program, Frames, Logs, Network, Journal}
 use Rattle.vericon_app.specs.Lines.{missing_text, read_fault_text, too_long_text}
 
 -- what the files tell, and the counts of read faults before and after the call
@@ -22,6 +22,7 @@ longest Program = 65536
 longest Frames = 16777216
 longest Logs = 268435456
 longest Network = 16777216
+longest Journal = 536870912
 
 -- Why a file gave no bytes, with what is said of it: what was told of it, and the counts of read faults around the reading.
 pub data ReadRefusal (told : Told) (before after : ℕ) (kind : FileKind) (name text : List ℕ) (status : ℕ) : Type 0 where

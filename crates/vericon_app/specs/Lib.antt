@@ -6,9 +6,12 @@ pub mod Lines
 pub mod Sources
 pub mod Inputs
 pub mod Small
+pub mod Loads
+pub mod LoadGives
 pub mod Check
 pub mod Show
 pub mod Eval
+pub mod Trace
 pub mod Frames
 pub mod Clauses
 pub mod Output

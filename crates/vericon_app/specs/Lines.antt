@@ -8,7 +8,7 @@ use Rattle.truth_table.specs.Condition.{init, step_in, number_of}
 use Rattle.vericon_app.specs.declared.program.Why.{Why}
 use Rattle.vericon_app.specs.declared.program.Why.TheVariants.{TooLong, BadByte, BadName, BadNumber, Unexpected, TooDeep, Duplicate, Unknown, WrongArity, WrongSort, NotAllowed, TooMany, NotYet}
 use Rattle.vericon_app.specs.declared.source.FileKind.{FileKind}
-use Rattle.vericon_app.specs.declared.source.FileKind.TheVariants.{Program, Frames, Logs, Network}
+use Rattle.vericon_app.specs.declared.source.FileKind.TheVariants.{Program, Frames, Logs, Network, Journal}
 
 abbrev pub usage_text : List ℕ
 usage_text = codes "usage\n"
@@ -47,6 +47,7 @@ too_long_text Program name = refused_text name 65536 TooLong
 too_long_text Frames name = name ++ codes " refused: TooLong\n"
 too_long_text Logs name = name ++ codes " refused: TooLong\n"
 too_long_text Network name = name ++ codes " refused: TooLong\n"
+too_long_text Journal name = name ++ codes " refused: TooLong\n"
 
 -- a text is refused at a line
 abbrev pub refused_line_text : List ℕ → ℕ → List ℕ

@@ -1,12 +1,13 @@
 -- The numbers that a call ends with.
 use Rattle.std.specs.Prelude.{ℕ}
 use Rattle.vericon_app.specs.declared.outcome.Status.{Status}
-use Rattle.vericon_app.specs.declared.outcome.Status.TheVariants.{Done, Counterexample, NotAccepted, Refused, ReadFault, Usage, Memory, WriteFault}
+use Rattle.vericon_app.specs.declared.outcome.Status.TheVariants.{Done, Counterexample, NotAccepted, Broken, Refused, ReadFault, Usage, Memory, WriteFault}
 
 abbrev pub code_of : Status → ℕ
 code_of Done = 0
 code_of Counterexample = 1
 code_of NotAccepted = 1
+code_of Broken = 1
 code_of Refused = 3
 code_of ReadFault = 5
 code_of Usage = 6

@@ -19,6 +19,7 @@ use crate::frames::frames;
 use crate::lines::usage;
 use crate::outcome::{Outcome, Status};
 use crate::show::show;
+use crate::trace::trace;
 use crate::words::{Request, request_of};
 use std::alloc::{AllocError, Global};
 use vericon_edge::files::Files;
@@ -40,6 +41,11 @@ fn run_command<F: Files>(
         Request::Check { program } => check(alloc, files, program),
         Request::Show { program } => show(alloc, files, program),
         Request::Eval { program, net } => eval(alloc, files, program, net),
+        Request::Trace {
+            program,
+            net,
+            journal,
+        } => trace(alloc, files, program, net, journal),
         Request::Frames { file } => frames(alloc, files, file),
         Request::Clauses { file } => clauses(alloc, files, file),
     }
@@ -69,7 +75,7 @@ pub fn no_memory<S: Sink>(out: &mut S) -> u8
 /// | status | meaning |
 /// |---|---|
 /// | 0 | yes, or done |
-/// | 1 | a condition is broken, and the state that is printed shows it; or a block's log isn't accepted |
+/// | 1 | a condition is broken, and the state that is printed shows it; or an invariant was false after a note; or a block's log isn't accepted |
 /// | 3 | a text was refused |
 /// | 5 | the file is missing, or was not read |
 /// | 6 | the words have no stated form |
@@ -102,3 +108,5 @@ pub fn check_call<F: Files, S: Sink>(
 
 #[cfg(test)]
 mod tests;
+#[cfg(test)]
+mod trace_tests;

@@ -11,6 +11,8 @@ pub enum Status {
     Counterexample,
     /// A block's log isn't accepted.
     NotAccepted,
+    /// An invariant was false after a note.
+    Broken,
     /// A text was refused.
     Refused,
     /// A file was not read.
@@ -30,7 +32,7 @@ impl Status {
     {
         match self {
             Status::Done => 0,
-            Status::Counterexample | Status::NotAccepted => 1,
+            Status::Counterexample | Status::NotAccepted | Status::Broken => 1,
             Status::Refused => 3,
             Status::ReadFault => 5,
             Status::Usage => 6,

@@ -18,6 +18,7 @@ pub enum FileKind {
     Frames,
     Logs,
     Network,
+    Journal,
 }
 
 impl FileKind {
@@ -30,6 +31,7 @@ impl FileKind {
             FileKind::Frames => 16_777_216,
             FileKind::Logs => 268_435_456,
             FileKind::Network => 16_777_216,
+            FileKind::Journal => 536_870_912,
         }
     }
 
@@ -40,7 +42,9 @@ impl FileKind {
     {
         match self {
             FileKind::Program => refused(alloc, name, 65_536, Why::TooLong),
-            FileKind::Frames | FileKind::Logs | FileKind::Network => too_long(alloc, name),
+            FileKind::Frames | FileKind::Logs | FileKind::Network | FileKind::Journal => {
+                too_long(alloc, name)
+            }
         }
     }
 }

@@ -8,15 +8,32 @@ pub enum Request<'a> {
     /// Nothing that has a stated form.
     Usage,
     /// `check PROGRAM`.
-    Check { program: &'a str },
+    Check {
+        program: &'a str,
+    },
     /// `show PROGRAM`.
-    Show { program: &'a str },
+    Show {
+        program: &'a str,
+    },
     /// `eval PROGRAM NET`.
-    Eval { program: &'a str, net: &'a str },
+    Eval {
+        program: &'a str,
+        net: &'a str,
+    },
+    /// `trace PROGRAM NET JOURNAL`.
+    Trace {
+        program: &'a str,
+        net: &'a str,
+        journal: &'a str,
+    },
     /// `frames FILE`.
-    Frames { file: &'a str },
+    Frames {
+        file: &'a str,
+    },
     /// `clauses FILE`.
-    Clauses { file: &'a str },
+    Clauses {
+        file: &'a str,
+    },
 }
 
 /// Reads the words.
@@ -44,6 +61,17 @@ pub fn request_of(words: &[String]) -> Request<'_>
                 Request::Eval {
                     program: program.as_str(),
                     net: net.as_str(),
+                }
+            } else {
+                Request::Usage
+            }
+        }
+        [command, program, net, journal] => {
+            if command.as_str() == "trace" {
+                Request::Trace {
+                    program: program.as_str(),
+                    net: net.as_str(),
+                    journal: journal.as_str(),
                 }
             } else {
                 Request::Usage

@@ -1,0 +1,3 @@
+pub mod Words
+pub mod Listings
+pub mod Judgements

@@ -1,0 +1,12 @@
+//! What is said of a journal: each of its notes happens, in order, from a state, and the invariants are looked at.
+//!
+//! `specs/Traces.antt` fixes each byte.
+#![tactic(auto)]
+
+mod invariants;
+mod laws;
+mod notes;
+mod trace;
+
+pub use laws::traces_are_runs;
+pub use trace::{Ending, Trace, list};
