@@ -361,6 +361,16 @@ mod tests {
     }
 
     #[test]
+    fn a_flood_over_one_port_sends_nothing(rt: HostRuntime) -> Result<(), Fail> {
+        let alloc = rt.alloc();
+        let head = b"vericon-net 1\nsw 1\nho 4 5\npr 1\nstate\n";
+        let network = net_of(alloc, head, b"t c 1 4\n")?;
+        let outcome = outcome_of(alloc, LEARNT, &network, &packet_in(1, 4, 5, 1))?;
+        assert!(rt; is_outcome(&outcome, &[], &[Out::Flood], &network));
+        Ok(())
+    }
+
+    #[test]
     fn events_are_refused_for_the_first_reason(rt: HostRuntime) -> Result<(), Fail> {
         let alloc = rt.alloc();
         let cases: [(Act, bool); 8] = [
