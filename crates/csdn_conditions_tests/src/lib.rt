@@ -4,8 +4,15 @@
 ghost use Rattle.std.specs.Prelude.{◌≤◌};
 
 use csdn_conditions::class::{Class, condition_class};
+use csdn_conditions::condition::condition;
 use csdn_conditions::kinds::{CondKind, condition_count, condition_kind};
+use csdn_core::program::Program;
+use csdn_core::syntax::Formula;
+use csdn_core::terms::{Sort, Term, VarId};
 use csdn_types_tests::resolved;
+use fol_forms::count::node_count;
+use fol_forms::instances::instance_count;
+use sqlite_items::Boxed;
 use std::alloc::{AllocError, Global};
 
 /// A condition's kind and class.
@@ -39,6 +46,58 @@ pub fn class_at(alloc: Global, text: &[u8], index: u32) -> Result<Option<Class>,
         return Ok(None);
     }
     Ok(Some(condition_class(alloc, &program, 0, index)?))
+}
+
+/// The counts of a sentence.
+#[derive(Clone, Copy, Debug, PartialEq, Eq)]
+pub struct Counted {
+    pub nodes: u64,
+    /// The constants of the sorts SW, HO and PR: those that the program names, and those that the normal form needs.
+    pub constants: [u64; 3],
+    pub instances: u64,
+}
+
+/// How many constants of a sort there are: so many copies does one more `forall` of that sort have.
+fn constants_of(
+    alloc: Global,
+    program: &Program,
+    sentence: &Formula,
+    sort: Sort,
+) -> Result<u64, AllocError> {
+    let var = VarId(u32::MAX);
+    let same = Boxed::new(alloc, Formula::Same(Term::Var(var), Term::Var(var)))?;
+    let each = Boxed::new(alloc, Formula::Forall(var, sort, same))?;
+    let copied = Boxed::new(alloc, sentence.copy(alloc)?)?;
+    let both = instance_count(program, &Formula::And(copied, each));
+    Ok(both.saturating_sub(instance_count(program, sentence)))
+}
+
+/// The counts of a sentence of a program.
+fn counts_of(alloc: Global, program: &Program, sentence: &Formula) -> Result<Counted, AllocError> {
+    Ok(Counted {
+        nodes: node_count(sentence),
+        constants: [
+            constants_of(alloc, program, sentence, Sort::Sw)?,
+            constants_of(alloc, program, sentence, Sort::Ho)?,
+            constants_of(alloc, program, sentence, Sort::Pr)?,
+        ],
+        instances: instance_count(program, sentence),
+    })
+}
+
+/// The counts of one condition of level 0; none where there is no such condition, it is too large, or the text is no program.
+pub fn counts_at(alloc: Global, text: &[u8], index: u32) -> Result<Option<Counted>, AllocError> {
+    let Ok(Ok(program)) = resolved(alloc, text) else {
+        return Ok(None);
+    };
+    if index >= condition_count(&program, 0) {
+        return Ok(None);
+    }
+    let Ok(condition) = condition(alloc, &program, 0, index) else {
+        return Ok(None);
+    };
+    let sentence = condition.into_sentence(alloc)?;
+    Ok(Some(counts_of(alloc, &program, &sentence)?))
 }
 
 /// `before`, so many times `piece`, and `after`.
@@ -129,6 +188,28 @@ mod tests {
             }),
         ];
         assert_eq!(rt; found.as_slice(), wanted.as_slice());
+        Ok(())
+    }
+
+    // After a packet the negated goal needs a packet and the elements for which the invariant is false; the program names the
+    // ports 1 and 2.
+    #[test]
+    fn counts_the_conditions_of_a_firewall(rt: HostRuntime) -> Result<(), Fail> {
+        let wanted: [(u64, [u64; 3], u64); 4] = [
+            (4, [1, 1, 2], 0),
+            (33, [1, 2, 2], 70),
+            (91, [2, 4, 3], 91),
+            (33, [2, 4, 4], 72),
+        ];
+        for (index, (nodes, constants, instances)) in wanted.iter().enumerate() {
+            let found = counts_at(rt.alloc(), FIREWALL, index as u32)?;
+            let counted = Counted {
+                nodes: *nodes,
+                constants: *constants,
+                instances: *instances,
+            };
+            assert_eq!(rt; found, Some(counted));
+        }
         Ok(())
     }
 
