@@ -5,4 +5,5 @@ pub mod ReadBack
 pub mod GivenLines
 pub mod GivenCases
 pub mod AcceptedOrder
+pub mod OpenTruth
 pub mod ListedStates

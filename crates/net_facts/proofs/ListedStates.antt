@@ -22,6 +22,8 @@ use Rattle.csdn_core.proofs.Agreement.{sentence-same}
 use Rattle.net_structs.specs.declared.row.Row.{Row}
 use Rattle.net_structs.specs.Rows.{tuple_of, held}
 use Rattle.net_facts.specs.Cases.{IsKept, IsStateTuple}
+use Rattle.csdn_wp.specs.SortedIn.{any_relation}
+use Rattle.net_facts.proofs.OpenTruth.{formula-same}
 use Rattle.net_facts.specs.Listed.{HasTruthOfList}
 
 -- ---- tests of lists
@@ -306,4 +308,6 @@ module _ (P : Parts) (N : Network) (network : IsNetwork P N) (x : State) where
     tuples = All-filter (is_in x) (IsStateTuple P N) (all_rows P N) (all_are_tuples P N);
     same = λ packet place p sorted distinct.
         sentence-same P N network x mixed agrees packet place p sorted distinct ∙ ap (λ M. truth M p no_values) (same_structure packet);
+    same_in_scope = λ packet Γ p sorted e keeps.
+        formula-same P N network x mixed agrees packet any_relation Γ p e sorted keeps ∙ ap (λ M. truth M p e) (same_structure packet);
   }

@@ -37,8 +37,8 @@ pub fn accepted_networks_are_in_order()
     ensures rows { (P : AnyParts) (parts : AnyNetParts) (N : Network) → IsAnswer P parts (Ok N) → IsStrictlySortedBy static_cmp N.rows }
 {}
 
-/// In every network each state, whatever tuples it has, gives each well-sorted sentence the truth that a list of tuples of the
-/// network's elements gives it.
+/// In every network each state, whatever tuples it has, gives each well-sorted formula the truth that a list of tuples of the
+/// network's elements gives it, under each assignment of elements to the variables in scope.
 pub fn states_have_truth_of_lists()
     ensures { (P : AnyParts) (N : Network) → IsNetwork P N → (x : State) → HasTruthOfList P N x }
 {}
