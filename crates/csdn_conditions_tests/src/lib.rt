@@ -214,6 +214,26 @@ mod tests {
     }
 
     #[test]
+    fn lists_the_conditions_of_a_program_without_arguments(rt: HostRuntime) -> Result<(), Fail> {
+        let text = b"rel armed(); safety A: not armed(); pktIn(s, src->dst, i) { skip; }";
+        let found = conditions_of(rt.alloc(), text, 0)?;
+        let wanted = [
+            inside(CondKind::Network),
+            inside(CondKind::Init { k: 0, v: 0 }),
+            inside(CondKind::Step {
+                v: 0,
+                event: EventKind::PktIn,
+            }),
+            inside(CondKind::Step {
+                v: 0,
+                event: EventKind::PktFlow,
+            }),
+        ];
+        assert_eq!(rt; found.as_slice(), wanted.as_slice());
+        Ok(())
+    }
+
+    #[test]
     fn lists_the_conditions_of_a_learning_switch(rt: HostRuntime) -> Result<(), Fail> {
         let found = conditions_of(rt.alloc(), SWITCH, 0)?;
         let wanted = [
