@@ -1,11 +1,12 @@
 -- Truth of a well-sorted sentence looks at tuples of the network's elements alone.
 use Rattle.std.proofs.Common.{◌≡◌, ◌≢◌, ◌∙◌, sym, ap, subst, refl, ℕ, zero, suc, ◌+◌, ◌<◌, ◌==◌, Bool, true, false, not, ◌⊎◌, inl, inr, List, [], ◌∷◌, ◌++◌, length, get_or, Option, Some, None, AllPairs, Contains, if◌then◌else◌, arith, length-append}
 use Rattle.std.specs.Prelude.{option_map, slice_get, slice_index}
-use Rattle.std.specs.List.{list_all, list_any}
 use Rattle.std.proofs.Math.ListN.{get_or-append}
 use Rattle.std.proofs.lemmas.Bool.{ne_eqb}
 use Rattle.std.proofs.lemmas.List.{get_or-append-add}
 use Rattle.std.proofs.lemmas.List.Elements.{All-contains, Contains-append_cases}
+use Rattle.general_facts.proofs.Lists.{list_all-same, list_any-same, AllPairs-tail}
+use Rattle.general_facts.proofs.Numbers.{self_equal}
 use Rattle.csdn_core.specs.declared.terms.Sort.{Sort}
 use Rattle.csdn_core.specs.declared.terms.Term.{Term}
 use Rattle.csdn_core.specs.declared.terms.Term.TheVariants.{Var, Const, Port}
@@ -40,9 +41,6 @@ back_apart xs ys apart = λ i j d before within.
     let order : length xs + i < length xs + j = omega arith in
     subst (λ (m : ℕ). m ≢ get_or ys j d) (get_or-append-add xs ys i d)
     (subst (λ (n : ℕ). get_or (xs ++ ys) (length xs + i) d ≢ n) (get_or-append-add xs ys j d) (apart (length xs + i) (length xs + j) d order longer))
-
-rest_apart : (x : ℕ) (xs : List ℕ) → AllPairs (λ m n. m ≢ n) (x ∷ xs) → AllPairs (λ m n. m ≢ n) xs
-rest_apart x xs apart = λ i j d before within. apart (suc i) (suc j) d (omega arith) (omega arith)
 
 -- none of the numbers is m
 abbrev AreNot : ℕ → List ℕ → Type 0
@@ -84,21 +82,13 @@ alone b c (k, within, is) = at k within is
 
 IsApart-more : (Γ : List Bind) (v : VarId) (s : Sort) (bound : List ℕ) → IsApart Γ (v.0 ∷ bound) → IsApart (Γ ++ bind v s ∷ []) bound
 IsApart-more Γ v s bound apart = record {
-  distinct = rest_apart v.0 bound apart.distinct;
+  distinct = AllPairs-tail (λ m n. m ≢ n) v.0 bound apart.distinct;
   free = λ b there. by_case b (Contains-append_cases Γ (bind v s ∷ []) b there);
 }
   where
     by_case : (b : Bind) → Contains Γ b ⊎ Contains (bind v s ∷ []) b → AreNot b.var.0 bound
     by_case b (inl before) = λ k d within. apart.free b before (suc k) d (omega arith)
     by_case b (inr here) = subst (λ (c : Bind). AreNot c.var.0 bound) (alone b (bind v s) here) (first_apart v.0 bound apart.distinct)
-
-list_all-same : (p q : ℕ → Bool) (xs : List ℕ) → ((m : ℕ) → Contains xs m → p m ≡ q m) → list_all p xs ≡ list_all q xs
-list_all-same p q [] same = refl
-list_all-same p q (x ∷ xs) same = rw (same x (0, (omega arith), refl), list_all-same p q xs (λ m there. same m (suc there.0, (omega (arith, there.1)), there.2)))
-
-list_any-same : (p q : ℕ → Bool) (xs : List ℕ) → ((m : ℕ) → Contains xs m → p m ≡ q m) → list_any p xs ≡ list_any q xs
-list_any-same p q [] same = refl
-list_any-same p q (x ∷ xs) same = rw (same x (0, (omega arith), refl), list_any-same p q xs (λ m there. same m (suc there.0, (omega (arith, there.1)), there.2)))
 
 if_same : (b u x y : Bool) → x ≡ y → (if b then u else x) ≡ (if b then u else y)
 if_same true u x y same = refl
@@ -109,7 +99,7 @@ module _ (P : Parts) (N : Network) (network : IsNetwork P N) (x y : State) (agre
   abbrev HasElements : List Bind → Assignment → Type 0
   HasElements Γ e = (b : Bind) → Contains Γ b → Contains (elements N b.sort) (e b.var.0)
 
-  constant_there : (k : ℕ) (s : Sort) → option_map (λ (d : Constant). d.sort) (slice_get P.constants k) ≡ Some s → Contains (elements N s) (slice_index N.constants k)
+  pub constant_there : (k : ℕ) (s : Sort) → option_map (λ (d : Constant). d.sort) (slice_get P.constants k) ≡ Some s → Contains (elements N s) (slice_index N.constants k)
   constant_there k s is = at (slice_get P.constants k) refl is
     where
       at : (o : Option Constant) → slice_get P.constants k ≡ o → option_map (λ (d : Constant). d.sort) o ≡ Some s → Contains (elements N s) (slice_index N.constants k)
@@ -140,7 +130,7 @@ module _ (P : Parts) (N : Network) (network : IsNetwork P N) (x y : State) (agre
   values-same e [] = refl
   values-same e (t ∷ ts) = rw (value-same e t, values-same e ts)
 
-  holds-same : (r : Pred) (sorts : List Sort) (cells : List ℕ) → sorts_of (signature P) r ≡ Some sorts → HaveElements N sorts cells → holds_in P N x packet r cells ≡ holds_in P N y packet r cells
+  pub holds-same : (r : Pred) (sorts : List Sort) (cells : List ℕ) → sorts_of (signature P) r ≡ Some sorts → HaveElements N sorts cells → holds_in P N x packet r cells ≡ holds_in P N y packet r cells
   holds-same (Stored r) sorts cells declared there = if_same (is_fixed P r.0) _ _ _ (agree (Stored r) sorts cells declared there)
   holds-same Ft sorts cells declared there = agree Ft sorts cells declared there
   holds-same Sent sorts cells declared there = agree Sent sorts cells declared there
@@ -149,16 +139,13 @@ module _ (P : Parts) (N : Network) (network : IsNetwork P N) (x y : State) (agre
   HasElements-more : (Γ : List Bind) (e : Assignment) (v : VarId) (s : Sort) (bound : List ℕ) (m : ℕ) → IsApart Γ (v.0 ∷ bound) → HasElements Γ e → Contains (elements N s) m → HasElements (Γ ++ bind v s ∷ []) (with_var e v m)
   HasElements-more Γ e v s bound m apart has there = λ b within. by_case b (Contains-append_cases Γ (bind v s ∷ []) b within)
     where
-      itself : (n : ℕ) → (n == n) ≡ true
-      itself n = grind arith
-
       by_case : (b : Bind) → Contains Γ b ⊎ Contains (bind v s ∷ []) b → Contains (elements N b.sort) (if b.var.0 == v.0 then m else e b.var.0)
       by_case b (inl before) =
           let other : b.var.0 ≢ v.0 = apart.free b before 0 0 (omega arith) in
           rw (ne_eqb b.var.0 v.0 other) (has b before)
       by_case b (inr here) =
           let Q : Bind → Type 0 = λ c. Contains (elements N c.sort) (if c.var.0 == v.0 then m else e c.var.0) in
-          let mine : Q (bind v s) = rw (itself v.0) there in
+          let mine : Q (bind v s) = rw (self_equal v.0) there in
           subst Q (alone b (bind v s) here) mine
 
   truth-same : (place : Place) (Γ : List Bind) (p : Formula) (e : Assignment) → IsSorted (signature P) place Γ p → IsApart Γ (bound_in p) → HasElements Γ e

@@ -6,7 +6,8 @@
 --     conn.insert(s, i, src);
 --     pick o:PR where conn(s, o, dst) { s.install(src->dst, i->o); s.forward(src->dst, i->o); } else { s.flood(src->dst, i); }
 --   }
-use Rattle.std.proofs.Common.{◌≡◌, ℕ, ◌==◌, Bool, true, false, ◌&&◌, [], ◌∷◌, None, inl, inr, refl, rules}
+use Rattle.std.proofs.Common.{◌≡◌, ℕ, ◌==◌, true, false, [], ◌∷◌, None, inl, inr, refl, rules}
+use Rattle.std.proofs.Math.Bool.{and-false}
 use Rattle.csdn_core.specs.declared.terms.Sort.TheVariants.{Sw, Ho, Pr}
 use Rattle.csdn_core.specs.declared.terms.Pred.{Pred}
 use Rattle.csdn_core.specs.declared.terms.Pred.TheVariants.{Stored, Ft, Sent, RcvThis}
@@ -59,10 +60,6 @@ two = record { switches = 1 ∷ []; hosts = 1 ∷ 2 ∷ []; ports = 1 ∷ 2 ∷ 
 abbrev one : Network
 one = record { switches = 1 ∷ []; hosts = 1 ∷ 2 ∷ []; ports = 1 ∷ []; constants = []; rows = [] }
 
-never : (b : Bool) → (b && false) ≡ false
-never true = refl
-never false = refl
-
 -- Host 1, at port 1, sends to host 2, of which nothing is known: no port fits, and the flood sends from every port but 1.
 abbrev learnt : State
 learnt = put empty_state conn (1 ∷ 1 ∷ 1 ∷ [])
@@ -72,7 +69,7 @@ flooded_two = flooded (put (initial P two) conn (1 ∷ 1 ∷ 1 ∷ [])) (1 ∷ 2
 
 a_flood : Step P two (initial P two) (PktIn 1 1 2 1) flooded_two
 unfolding Executes truth
-a_flood = (search rules, search rules, search rules, search rules, (_, refl, inr (λ m there. never (m == 1), refl)))
+a_flood = (search rules, search rules, search rules, search rules, (_, refl, inr (λ m there. and-false (m == 1), refl)))
 
 out_of_the_other_port : flooded_two Sent (1 ∷ 1 ∷ 2 ∷ 1 ∷ 2 ∷ []) ≡ true
 out_of_the_other_port = refl
@@ -91,7 +88,7 @@ flooded_one = flooded (put (initial P one) conn (1 ∷ 1 ∷ 1 ∷ [])) (1 ∷ [
 
 a_flood_of_one : Step P one (initial P one) (PktIn 1 1 2 1) flooded_one
 unfolding Executes truth
-a_flood_of_one = (search rules, search rules, search rules, search rules, (_, refl, inr (λ m there. never (m == 1), refl)))
+a_flood_of_one = (search rules, search rules, search rules, search rules, (_, refl, inr (λ m there. and-false (m == 1), refl)))
 
 reaches_nobody : flooded_one Sent (1 ∷ 1 ∷ 2 ∷ 1 ∷ 1 ∷ []) ≡ false
 reaches_nobody = refl

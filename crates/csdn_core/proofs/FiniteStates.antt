@@ -1,6 +1,10 @@
 -- Every state that a run reaches has finitely many tuples.
-use Rattle.std.proofs.Common.{◌≡◌, ◌∙◌, ap, sym, subst, refl, ℕ, ◌==◌, Bool, true, false, not, ◌&&◌, ◌||◌, List, [], ◌∷◌, inl, inr, arith, if◌then◌else◌, Option, Some, None}
+use Rattle.std.proofs.Common.{◌≡◌, ◌∙◌, sym, subst, refl, ℕ, ◌==◌, Bool, true, false, not, ◌&&◌, ◌||◌, List, [], ◌∷◌, inl, inr, if◌then◌else◌, Option, Some, None}
 use Rattle.std.specs.List.{list_any}
+use Rattle.std.proofs.Math.Bool.{or_comm, or_assoc}
+use Rattle.std.proofs.lemmas.Bool.{and_parts}
+use Rattle.general_facts.proofs.Numbers.{eqb-turned}
+use Rattle.csdn_core.proofs.Same.{same_pred-is, same_cells-is, same_cells-turned}
 use Rattle.csdn_core.specs.declared.terms.RelId.{RelId}
 use Rattle.csdn_core.specs.declared.terms.Pred.{Pred}
 use Rattle.csdn_core.specs.declared.terms.Pred.TheVariants.{Stored, Ft, Sent, RcvThis}
@@ -20,77 +24,12 @@ use Rattle.csdn_core.specs.Execution.{put, take_out, flooded, is_flood, tuple, E
 use Rattle.csdn_core.specs.Run.{empty_state, no_values, initial, first_fit, for_packet, Handles, Step, Run}
 use Rattle.csdn_core.specs.Finite.{Tuple, state_of_tuples, IsFinite}
 
--- equal numbers
-
-equal : (m n : ℕ) → (m == n) ≡ true → m ≡ n
-equal m n h = grind arith
-
-==-sym : (m n : ℕ) → (m == n) ≡ (n == m)
-==-sym m n = elim (m == n) as (λ b. (m == n) ≡ b → b ≡ (n == m)) [
-  | true ↦ λ h. let is : m ≡ n = equal m n h in let Q : ℕ → Type 0 = λ k. true ≡ (k == m) in subst Q is (subst (λ (k : ℕ). true ≡ (m == k)) (sym is) (sym h))
-  | false ↦ λ h. elim (n == m) as (λ b. (n == m) ≡ b → false ≡ b) [
-    | true ↦ λ back. let is : n ≡ m = equal n m back in absurd (let apart : (m == n) ≡ false = h in let Q : ℕ → Type 0 = λ k. (k == n) ≡ false in let same : (n == n) ≡ false = subst Q (sym is) apart in grind arith)
-    | false ↦ λ back. refl
-  ] refl
-] refl
-
-both : (a b : Bool) → (a && b) ≡ true → (a ≡ true) × (b ≡ true)
-both true b is = (refl, is)
-both false b is = absurd (cc)
-
-same_cells-sym : (ms ns : List ℕ) → same_cells ms ns ≡ same_cells ns ms
-same_cells-sym [] [] = refl
-same_cells-sym [] (n ∷ ns) = refl
-same_cells-sym (m ∷ ms) [] = refl
-same_cells-sym (m ∷ ms) (n ∷ ns) = rw (==-sym m n, same_cells-sym ms ns)
-
-cells_equal : (ms ns : List ℕ) → same_cells ms ns ≡ true → ms ≡ ns
-cells_equal [] [] is = refl
-cells_equal [] (n ∷ ns) is = absurd (cc)
-cells_equal (m ∷ ms) [] is = absurd (cc)
-cells_equal (m ∷ ms) (n ∷ ns) is =
-    let parts : ((m == n) ≡ true) × (same_cells ms ns ≡ true) = both _ _ is in
-    let head : m ≡ n = equal m n parts.0 in
-    let tail : ms ≡ ns = cells_equal ms ns parts.1 in
-    cc
-
-stored_equal : (r q : RelId) → r.0 ≡ q.0 → Stored r ≡ Stored q
-stored_equal r q is = ap (λ (n : ℕ). Stored (record { 0 = n })) is
-
-pred_equal : (r q : Pred) → same_pred r q ≡ true → r ≡ q
-pred_equal (Stored r) (Stored q) is = stored_equal r q (equal r.0 q.0 is)
-pred_equal (Stored r) Ft is = absurd (cc)
-pred_equal (Stored r) Sent is = absurd (cc)
-pred_equal (Stored r) RcvThis is = absurd (cc)
-pred_equal Ft (Stored q) is = absurd (cc)
-pred_equal Ft Ft is = refl
-pred_equal Ft Sent is = absurd (cc)
-pred_equal Ft RcvThis is = absurd (cc)
-pred_equal Sent (Stored q) is = absurd (cc)
-pred_equal Sent Ft is = absurd (cc)
-pred_equal Sent Sent is = refl
-pred_equal Sent RcvThis is = absurd (cc)
-pred_equal RcvThis (Stored q) is = absurd (cc)
-pred_equal RcvThis Ft is = absurd (cc)
-pred_equal RcvThis Sent is = absurd (cc)
-pred_equal RcvThis RcvThis is = refl
-
-or_swapped : (a b : Bool) → (a || b) ≡ (b || a)
-or_swapped true true = refl
-or_swapped true false = refl
-or_swapped false true = refl
-or_swapped false false = refl
-
-or_false : (a : Bool) → (a || false) ≡ a
-or_false true = refl
-or_false false = refl
-
 -- one tuple more
 
 pub IsFinite-put : (x : State) (r : Pred) (cells : List ℕ) → IsFinite x → IsFinite (put x r cells)
 IsFinite-put x r cells finite = record {
   tuples = record { rel = r; cells = cells } ∷ finite.tuples;
-  same = λ q ds. rw (finite.same q ds) (or_swapped (state_of_tuples finite.tuples q ds) (same_pred q r && same_cells ds cells));
+  same = λ q ds. rw (finite.same q ds) (or_comm (state_of_tuples finite.tuples q ds) (same_pred q r && same_cells ds cells));
 }
 
 -- one tuple fewer
@@ -104,9 +43,9 @@ without r cells (t ∷ ts) = if is_it r cells t.rel t.cells then without r cells
 
 is_it-same : (r q p : Pred) (cells ds es : List ℕ) → (same_pred q p && same_cells ds es) ≡ true → is_it r cells q ds ≡ is_it r cells p es
 is_it-same r q p cells ds es is =
-    let parts : (same_pred q p ≡ true) × (same_cells ds es ≡ true) = both _ _ is in
-    let rel : q ≡ p = pred_equal q p parts.0 in
-    let row : ds ≡ es = cells_equal ds es parts.1 in
+    let parts : (same_pred q p ≡ true) × (same_cells ds es ≡ true) = and_parts _ _ is in
+    let rel : q ≡ p = same_pred-is q p parts.0 in
+    let row : ds ≡ es = same_cells-is ds es parts.1 in
     let A : Pred → Type 0 = λ a. is_it r cells q ds ≡ is_it r cells a ds in
     let B : List ℕ → Type 0 = λ b. is_it r cells q ds ≡ is_it r cells p b in
     subst B row (subst A rel refl)
@@ -145,14 +84,10 @@ with_all : List Tuple → List Tuple → List Tuple
 with_all [] ts = ts
 with_all (u ∷ us) ts = u ∷ with_all us ts
 
-or_grouped : (a b c : Bool) → ((a || b) || c) ≡ (a || (b || c))
-or_grouped true b c = refl
-or_grouped false b c = refl
-
 with_all-among : (us ts : List Tuple) (q : Pred) (ds : List ℕ) → state_of_tuples (with_all us ts) q ds ≡ (state_of_tuples us q ds || state_of_tuples ts q ds)
 unfolding with_all
 with_all-among [] ts q ds = refl
-with_all-among (u ∷ us) ts q ds = rw (with_all-among us ts q ds) (sym (or_grouped (same_pred q u.rel && same_cells ds u.cells) (state_of_tuples us q ds) (state_of_tuples ts q ds)))
+with_all-among (u ∷ us) ts q ds = rw (with_all-among us ts q ds) (sym (or_assoc (same_pred q u.rel && same_cells ds u.cells) (state_of_tuples us q ds) (state_of_tuples ts q ds)))
 
 flood_tuples : List ℕ → ℕ → ℕ → ℕ → ℕ → List Tuple
 flood_tuples [] s a b i = []
@@ -182,7 +117,8 @@ flood_tuples-among (o ∷ ports) s a b i q ds =
     chosen true t us = refl
     chosen false t us = refl
 
-unchanged : (a b : Bool) → (a || (b && false)) ≡ a
+-- what a flood of a tuple of another length does to a tuple's place
+pub unchanged : (a b : Bool) → (a || (b && false)) ≡ a
 unchanged true b = refl
 unchanged false true = refl
 unchanged false false = refl
@@ -194,7 +130,7 @@ IsFinite-flooded x ports (s ∷ a ∷ []) finite = record { tuples = finite.tupl
 IsFinite-flooded x ports (s ∷ a ∷ b ∷ []) finite = record { tuples = finite.tuples; same = λ q ds. unchanged (x q ds) (same_pred q Sent) ∙ finite.same q ds }
 IsFinite-flooded x ports (s ∷ a ∷ b ∷ i ∷ []) finite = record {
   tuples = with_all (flood_tuples ports s a b i) finite.tuples;
-  same = λ q ds. rw (finite.same q ds, flood_tuples-among ports s a b i q ds) (or_swapped (state_of_tuples finite.tuples q ds) (state_of_tuples (flood_tuples ports s a b i) q ds) ∙ sym (with_all-among (flood_tuples ports s a b i) finite.tuples q ds));
+  same = λ q ds. rw (finite.same q ds, flood_tuples-among ports s a b i q ds) (or_comm (state_of_tuples finite.tuples q ds) (state_of_tuples (flood_tuples ports s a b i) q ds) ∙ sym (with_all-among (flood_tuples ports s a b i) finite.tuples q ds));
 }
 IsFinite-flooded x ports (s ∷ a ∷ b ∷ i ∷ o ∷ more) finite = record { tuples = finite.tuples; same = λ q ds. unchanged (x q ds) (same_pred q Sent) ∙ finite.same q ds }
 
@@ -208,7 +144,7 @@ start_tuples-among : (cells_of : StartRow → List ℕ) (rows : List StartRow) (
     → list_any (λ row. (row.rel.0 == r.0) && same_cells (cells_of row) cells) rows ≡ state_of_tuples (start_tuples cells_of rows) (Stored r) cells
 unfolding start_tuples
 start_tuples-among cells_of [] r cells = refl
-start_tuples-among cells_of (row ∷ rows) r cells = rw (==-sym row.rel.0 r.0, same_cells-sym (cells_of row) cells, start_tuples-among cells_of rows r cells)
+start_tuples-among cells_of (row ∷ rows) r cells = rw (eqb-turned row.rel.0 r.0, same_cells-turned (cells_of row) cells, start_tuples-among cells_of rows r cells)
 
 start_tuples-Ft : (cells_of : StartRow → List ℕ) (rows : List StartRow) (cells : List ℕ) → false ≡ state_of_tuples (start_tuples cells_of rows) Ft cells
 unfolding start_tuples

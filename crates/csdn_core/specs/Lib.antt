@@ -2,6 +2,7 @@ pub mod Tree
 pub mod Truth
 pub mod TruthSteps
 pub mod Network
+pub mod Same
 pub mod Execution
 pub mod ExecutionSteps
 pub mod Run
