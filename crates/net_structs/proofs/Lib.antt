@@ -6,3 +6,4 @@ pub mod Accepted
 pub mod Taken
 pub mod Stored
 pub mod Exact
+pub mod OneList
