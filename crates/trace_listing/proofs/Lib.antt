@@ -1,3 +1,4 @@
 pub mod Runs
 mod Falses
 mod Ends
+pub mod OneText

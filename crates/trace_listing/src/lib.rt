@@ -8,5 +8,5 @@ mod laws;
 mod notes;
 mod trace;
 
-pub use laws::traces_are_runs;
+pub use laws::{traces_are_runs, traces_have_one_text};
 pub use trace::{Ending, Trace, list};

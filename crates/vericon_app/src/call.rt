@@ -115,8 +115,4 @@ pub fn check_call<F: Files, S: Sink>(
 }
 
 #[cfg(test)]
-mod condition_tests;
-#[cfg(test)]
 mod tests;
-#[cfg(test)]
-mod trace_tests;

@@ -1,223 +1,265 @@
 //! Whole outputs and statuses, worked by hand from the documents of the commands.
+mod conditions;
+mod traces;
+
 use super::*;
+use std::process::Abort;
 use std::test::Fail;
 use vericon_edge::fault_plan::FaultPlan;
 use vericon_edge::mem_files::MemFiles;
 use vericon_edge::mem_sink::MemSink;
 
+/// A call, what the files `p`, `n` and `j` hold, in this order, what is printed, and the status.
+type Call = (
+    &'static [&'static str],
+    &'static [&'static [u8]],
+    &'static [u8],
+    u8,
+);
+
 const ARMED: &[u8] = b"rel armed(); safety A: not armed(); pktIn(s, src->dst, i) { skip; }";
 
-/// Two words.
-fn two_words(alloc: Global, first: &str, second: &str) -> Result<Vec<String>, AllocError> {
-    let mut words = Vec::new(alloc);
-    words.push(String::from_str(alloc, first)?)?;
-    words.push(String::from_str(alloc, second)?)?;
-    Ok(words)
+const FIREWALL: &[u8] = b"rel tr(SW, HO);
+safety guarded: forall S:SW, A:HO, B:HO. S.sent(A->B, prt(2)->prt(1)) -> tr(S, A);
+pktIn(s, src->dst, prt(1)) {
+  s.forward(src->dst, prt(1)->prt(2));
+  tr.insert(s, dst);
+  s.install(src->dst, prt(1)->prt(2));
+}
+pktIn(s, src->dst, prt(2)) {
+  if tr(s, src) {
+    s.forward(src->dst, prt(2)->prt(1));
+    s.install(src->dst, prt(2)->prt(1));
+  }
+}
+";
+
+/// At most one host is in `r`, until two have sent.
+const ONE: &[u8] =
+    b"rel r(HO); safety one: forall X:HO, Y:HO. r(X) and r(Y) -> X = Y; pktIn(s, src->dst, i) { r.insert(src); }";
+
+/// The words of a call.
+fn words_of(alloc: Global, words: &[&str]) -> Result<Vec<String>, AllocError> {
+    let mut owned = Vec::new(alloc);
+    for word in words {
+        owned.push(String::from_str(alloc, word)?)?;
+    }
+    Ok(owned)
 }
 
-/// Files in memory of which `p` holds these bytes.
-fn files_with(alloc: Global, bytes: &[u8]) -> Result<MemFiles, Fail> {
+/// Files in memory that hold these bytes: `p`, `n` and `j`, as far as there are any.
+fn files_with(alloc: Global, contents: &[&[u8]]) -> Result<MemFiles, Fail> {
     let mut files = MemFiles::new(alloc, FaultPlan::none(alloc), FaultPlan::none(alloc));
-    files.write_all(alloc, "p", bytes)?;
+    for (name, bytes) in ["p", "n", "j"].iter().zip(contents) {
+        files.write_all(alloc, name, bytes)?;
+    }
     Ok(files)
 }
 
-/// What a call with these words prints of the bytes, and its status.
-fn answer(alloc: Global, words: &[String], bytes: &[u8]) -> Result<(Vec<u8>, u8), Fail> {
-    let mut files = files_with(alloc, bytes)?;
+/// What a call with these words prints of these files, and its status.
+fn answer(alloc: Global, words: &[&str], contents: &[&[u8]]) -> Result<(Vec<u8>, u8), Fail> {
+    let words = words_of(alloc, words)?;
+    let mut files = files_with(alloc, contents)?;
     let mut out = MemSink::new(alloc, 4096, FaultPlan::none(alloc));
-    let status = check_call(alloc, words, &mut files, &mut out);
+    let status = check_call(alloc, &words, &mut files, &mut out);
     Ok((out.bytes().to_vec(alloc)?, status))
 }
 
-#[test]
-fn check_prints_these_lines_with_these_statuses(rt: HostRuntime) -> Result<(), Fail> {
-    let cases: [(&[u8], &[u8], u8); 8] = [
-        (ARMED, b"yes level 0\n", 0),
-        (
-            b"rel armed(); safety A: not armed(); pktIn(s, src->dst, i) { armed.insert(); }",
-            b"counterexample level 0 condition 2 step A pktIn\nvericon-net 1\nsw 1\nho 1\npr 1\nstate\nend\n",
-            1,
-        ),
-        (
-            b"rel p(); rel q(); safety A: not p() or q(); safety B: q();",
-            b"counterexample level 0 condition 2 init 0 B\nvericon-net 1\nsw 1\nho 1\npr 1\nstate\nend\n",
-            1,
-        ),
-        (
-            b"rel p(); rel q(); safety A: true; safety B: not q(); pktIn(s, src->dst, i) { if p() { q.insert(); } }",
-            b"counterexample level 0 condition 5 step B pktIn\nvericon-net 1\nsw 1\nho 1\npr 1\nstate\nt p\nend\n",
-            1,
-        ),
-        (b"", b"p refused at 0: Unexpected\n", 3),
-        (
-            b"rel r(HO); safety A: forall X:SW. r(X);",
-            b"p refused at 36: WrongSort\n",
-            3,
-        ),
-        (
-            b"rel r(HO); topology T: forall X:HO. r(X);",
-            b"p refused at 36: NotAllowed\n",
-            3,
-        ),
-        (
-            b"rel r(HO); safety one: forall X:HO, Y:HO. r(X) and r(Y) -> X = Y;",
-            b"p refused at 0: NotYet\n",
-            3,
-        ),
-    ];
-    let words = two_words(rt.alloc(), "check", "p")?;
-    for (program, wanted, number) in cases {
-        let (text, status) = answer(rt.alloc(), &words, program)?;
-        assert_eq!(rt; text.as_slice(), wanted);
-        assert_eq!(rt; status, number);
+// Each call prints what stands in its row, with that status.
+fn prints(rt: &impl Abort, alloc: Global, calls: &[Call]) -> Result<(), Fail> {
+    for (words, contents, printed, number) in calls {
+        let (text, status) = answer(alloc, words, contents)?;
+        assert_eq!(rt; text.as_slice(), *printed);
+        assert_eq!(rt; status, *number);
     }
     Ok(())
 }
+
+const CHECKS: &[Call] = &[
+    (&["check", "p"], &[ARMED], b"yes level 0\n", 0),
+    (
+        &["check", "p"],
+        &[b"rel armed(); safety A: not armed(); pktIn(s, src->dst, i) { armed.insert(); }"],
+        b"counterexample level 0 condition 2 step A pktIn\nvericon-net 1\nsw 1\nho 1\npr 1\nstate\nend\n",
+        1,
+    ),
+    (
+        &["check", "p"],
+        &[b"rel p(); rel q(); safety A: not p() or q(); safety B: q();"],
+        b"counterexample level 0 condition 2 init 0 B\nvericon-net 1\nsw 1\nho 1\npr 1\nstate\nend\n",
+        1,
+    ),
+    (
+        &["check", "p"],
+        &[
+            b"rel p(); rel q(); safety A: true; safety B: not q(); pktIn(s, src->dst, i) { if p() { q.insert(); } }",
+        ],
+        b"counterexample level 0 condition 5 step B pktIn\nvericon-net 1\nsw 1\nho 1\npr 1\nstate\nt p\nend\n",
+        1,
+    ),
+    (&["check", "p"], &[b""], b"p refused at 0: Unexpected\n", 3),
+    (
+        &["check", "p"],
+        &[b"rel r(HO); safety A: forall X:SW. r(X);"],
+        b"p refused at 36: WrongSort\n",
+        3,
+    ),
+    (
+        &["check", "p"],
+        &[b"rel r(HO); topology T: forall X:HO. r(X);"],
+        b"p refused at 36: NotAllowed\n",
+        3,
+    ),
+    (&["check", "p"], &[ONE], b"p refused at 0: NotYet\n", 3),
+];
+
+#[test]
+fn check_prints_these_lines_with_these_statuses(rt: HostRuntime) -> Result<(), Fail> {
+    prints(&rt, rt.alloc(), CHECKS)
+}
+
+const FRAMES: &[Call] = &[
+    (
+        &["frames", "p"],
+        &[&[1, 0, 0, 8, 0, 0, 0, 1]],
+        b"0 HELLO length 8 xid 1\n",
+        0,
+    ),
+    (&["frames", "p"], &[&[]], b"", 0),
+    (&["frames", "p"], &[&[1, 0, 0, 7]], b"0 cut 4\n", 3),
+];
 
 #[test]
 fn frames_prints_these_lines_with_these_statuses(rt: HostRuntime) -> Result<(), Fail> {
-    let cases: [(&[u8], &[u8], u8); 3] = [
-        (&[1, 0, 0, 8, 0, 0, 0, 1], b"0 HELLO length 8 xid 1\n", 0),
-        (&[], b"", 0),
-        (&[1, 0, 0, 7], b"0 cut 4\n", 3),
-    ];
-    let words = two_words(rt.alloc(), "frames", "p")?;
-    for (bytes, wanted, number) in cases {
-        let (text, status) = answer(rt.alloc(), &words, bytes)?;
-        assert_eq!(rt; text.as_slice(), wanted);
-        assert_eq!(rt; status, number);
-    }
-    Ok(())
+    prints(&rt, rt.alloc(), FRAMES)
 }
+
+const SHOWN: &[Call] = &[
+    (
+        &["show", "p"],
+        &[ARMED],
+        b"rel armed();\nsafety A: not armed();\npktIn(s, src->dst, i) {\n  skip;\n}\n",
+        0,
+    ),
+    (&["show", "p"], &[b"rel r(HO) = {};"], b"rel r(HO);\n", 0),
+    (&["show", "p"], &[b""], b"p refused at 0: Unexpected\n", 3),
+    (
+        &["show", "p"],
+        &[b"rel r(HO); safety A: forall X:SW. r(X);"],
+        b"p refused at 36: WrongSort\n",
+        3,
+    ),
+];
 
 #[test]
 fn show_prints_a_program_in_one_form(rt: HostRuntime) -> Result<(), Fail> {
-    let cases: [(&[u8], &[u8], u8); 4] = [
-        (
-            ARMED,
-            b"rel armed();\nsafety A: not armed();\npktIn(s, src->dst, i) {\n  skip;\n}\n",
-            0,
-        ),
-        (b"rel r(HO) = {};", b"rel r(HO);\n", 0),
-        (b"", b"p refused at 0: Unexpected\n", 3),
-        (
-            b"rel r(HO); safety A: forall X:SW. r(X);",
-            b"p refused at 36: WrongSort\n",
-            3,
-        ),
-    ];
-    let words = two_words(rt.alloc(), "show", "p")?;
-    for (bytes, wanted, number) in cases {
-        let (text, status) = answer(rt.alloc(), &words, bytes)?;
-        assert_eq!(rt; text.as_slice(), wanted);
-        assert_eq!(rt; status, number);
-    }
-    Ok(())
+    prints(&rt, rt.alloc(), SHOWN)
 }
+
+const CLAUSES: &[Call] = &[
+    (
+        &["clauses", "p"],
+        &[b"vericon-log 1\nblock a\natoms 2\nc 1 2 0\nc 1 -2 0\nc -1 2 0\nend\n"],
+        b"a: model 1 2\n",
+        0,
+    ),
+    (
+        &["clauses", "p"],
+        &[
+            b"vericon-log 1\nblock a\natoms 2\nc 1 2 0\nc 1 -2 0\nc -1 2 0\nc -1 -2 0\ns 1 0 1 2 0\ns 0 5 3 4 0\nend\n",
+        ],
+        b"a: accepted\n",
+        0,
+    ),
+    (
+        &["clauses", "p"],
+        &[
+            b"vericon-log 1\nblock a\natoms 2\nc 1 2 0\nc 1 -2 0\nc -1 2 0\nc -1 -2 0\ns 1 0 1 2 0\nend\n",
+        ],
+        b"a: not accepted\n",
+        1,
+    ),
+    (
+        &["clauses", "p"],
+        &[b"vericon-log 1\nblock a\natoms 0\nc 1 0\nend\n"],
+        b"p refused line 4\n",
+        3,
+    ),
+];
 
 #[test]
 fn clauses_prints_these_lines_with_these_statuses(rt: HostRuntime) -> Result<(), Fail> {
-    let cases: [(&[u8], &[u8], u8); 4] = [
-        (
-            b"vericon-log 1\nblock a\natoms 2\nc 1 2 0\nc 1 -2 0\nc -1 2 0\nend\n",
-            b"a: model 1 2\n",
-            0,
-        ),
-        (
-            b"vericon-log 1\nblock a\natoms 2\nc 1 2 0\nc 1 -2 0\nc -1 2 0\nc -1 -2 0\ns 1 0 1 2 0\ns 0 5 3 4 0\nend\n",
-            b"a: accepted\n",
-            0,
-        ),
-        (
-            b"vericon-log 1\nblock a\natoms 2\nc 1 2 0\nc 1 -2 0\nc -1 2 0\nc -1 -2 0\ns 1 0 1 2 0\nend\n",
-            b"a: not accepted\n",
-            1,
-        ),
-        (
-            b"vericon-log 1\nblock a\natoms 0\nc 1 0\nend\n",
-            b"p refused line 4\n",
-            3,
-        ),
-    ];
-    let words = two_words(rt.alloc(), "clauses", "p")?;
-    for (bytes, wanted, number) in cases {
-        let (text, status) = answer(rt.alloc(), &words, bytes)?;
-        assert_eq!(rt; text.as_slice(), wanted);
-        assert_eq!(rt; status, number);
-    }
-    Ok(())
+    prints(&rt, rt.alloc(), CLAUSES)
 }
+
+const EVALUATED: &[Call] = &[
+    (
+        &["eval", "p", "n"],
+        &[
+            ONE,
+            b"vericon-net 1\nsw 1\nho 1 2\npr 1\nstate\nt r 1\nend\n",
+        ],
+        b"safety one true\n",
+        0,
+    ),
+    (
+        &["eval", "p", "n"],
+        &[
+            ONE,
+            b"vericon-net 1\nsw 1\nho 1 2\npr 1\nstate\nt r 1\nt r 2\nend\n",
+        ],
+        b"safety one false\n",
+        0,
+    ),
+    (
+        &["eval", "p", "n"],
+        &[ONE, b"vericon-net 1\nsw 1\nho 1 2\npr 1\nend\n"],
+        b"",
+        0,
+    ),
+    (
+        &["eval", "p", "n"],
+        &[ONE, b"vericon-net 1\nsw 1\nho 1 2\npr\nend\n"],
+        b"n refused line 4: Empty\n",
+        3,
+    ),
+    (
+        &["eval", "p", "n"],
+        &[ONE, b""],
+        b"n refused line 1: Header\n",
+        3,
+    ),
+];
 
 #[test]
 fn eval_prints_which_invariants_are_true(rt: HostRuntime) -> Result<(), Fail> {
-    let alloc = rt.alloc();
-    let cases: [(&[u8], &[u8], u8); 5] = [
-        (
-            b"vericon-net 1\nsw 1\nho 1 2\npr 1\nstate\nt r 1\nend\n",
-            b"safety one true\n",
-            0,
-        ),
-        (
-            b"vericon-net 1\nsw 1\nho 1 2\npr 1\nstate\nt r 1\nt r 2\nend\n",
-            b"safety one false\n",
-            0,
-        ),
-        (b"vericon-net 1\nsw 1\nho 1 2\npr 1\nend\n", b"", 0),
-        (
-            b"vericon-net 1\nsw 1\nho 1 2\npr\nend\n",
-            b"q refused line 4: Empty\n",
-            3,
-        ),
-        (b"", b"q refused line 1: Header\n", 3),
-    ];
-    let mut words = two_words(alloc, "eval", "p")?;
-    words.push(String::from_str(alloc, "q")?)?;
-    for (net, wanted, number) in cases {
-        let mut files = files_with(
-            alloc,
-            b"rel r(HO); safety one: forall X:HO, Y:HO. r(X) and r(Y) -> X = Y; pktIn(s, src->dst, i) { r.insert(src); }",
-        )?;
-        files.write_all(alloc, "q", net)?;
-        let mut out = MemSink::new(alloc, 4096, FaultPlan::none(alloc));
-        let status = check_call(alloc, &words, &mut files, &mut out);
-        assert_eq!(rt; out.bytes(), wanted);
-        assert_eq!(rt; status, number);
-    }
-    Ok(())
+    prints(&rt, rt.alloc(), EVALUATED)
 }
+
+const OTHER_WORDS: &[Call] = &[
+    (&[], &[ARMED], b"usage\n", 6),
+    (&["check", "--log"], &[ARMED], b"usage\n", 6),
+    (&["check", "q"], &[ARMED], b"missing q\n", 5),
+];
 
 #[test]
 fn other_words_are_usage_and_a_file_may_be_missing(rt: HostRuntime) -> Result<(), Fail> {
-    let alloc = rt.alloc();
-    let (text, status) = answer(alloc, &[], ARMED)?;
-    assert_eq!(rt; text.as_slice(), b"usage\n".as_slice());
-    assert_eq!(rt; status, 6);
-    let option = two_words(alloc, "check", "--log")?;
-    let (text, status) = answer(alloc, &option, ARMED)?;
-    assert_eq!(rt; text.as_slice(), b"usage\n".as_slice());
-    assert_eq!(rt; status, 6);
-    let other = two_words(alloc, "check", "q")?;
-    let (text, status) = answer(alloc, &other, ARMED)?;
-    assert_eq!(rt; text.as_slice(), b"missing q\n".as_slice());
-    assert_eq!(rt; status, 5);
-    Ok(())
+    prints(&rt, rt.alloc(), OTHER_WORDS)
 }
 
 #[test]
 fn the_longest_program_is_read_and_a_longer_one_is_not(rt: HostRuntime) -> Result<(), Fail> {
     let alloc = rt.alloc();
-    let words = two_words(alloc, "check", "p")?;
     let mut program = ARMED.to_vec(alloc)?;
     for _ in program.len()..65_536 {
         program.push(b' ')?;
     }
-    let (text, status) = answer(alloc, &words, program.as_slice())?;
+    let (text, status) = answer(alloc, &["check", "p"], &[&program])?;
     assert_eq!(rt; text.as_slice(), b"yes level 0\n".as_slice());
     assert_eq!(rt; status, 0);
 
     program.push(b' ')?;
-    let (text, status) = answer(alloc, &words, program.as_slice())?;
+    let (text, status) = answer(alloc, &["check", "p"], &[&program])?;
     assert_eq!(rt;
         text.as_slice(),
         b"p refused at 65536: TooLong\n".as_slice()
@@ -229,8 +271,8 @@ fn the_longest_program_is_read_and_a_longer_one_is_not(rt: HostRuntime) -> Resul
 #[test]
 fn a_fault_of_the_sink_cuts_the_line_off(rt: HostRuntime) -> Result<(), Fail> {
     let alloc = rt.alloc();
-    let words = two_words(alloc, "check", "p")?;
-    let mut files = files_with(alloc, ARMED)?;
+    let words = words_of(alloc, &["check", "p"])?;
+    let mut files = files_with(alloc, &[ARMED])?;
     let plan = FaultPlan::new(vec![in alloc; 1]?);
     let mut out = MemSink::new(alloc, 3, plan);
     assert_eq!(rt; check_call(alloc, &words, &mut files, &mut out), 8);

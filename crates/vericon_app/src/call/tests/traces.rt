@@ -1,0 +1,275 @@
+//! Whole outputs of `trace`, worked by hand from the documents of the commands.
+use super::*;
+
+const LEARNING: &[u8] = b"rel conn(SW, PR, HO);
+trans no_black_hole: forall S:SW, A:HO, B:HO, I:PR. S.rcv_this(A->B, I) -> (exists O:PR. S.sent(A->B, I->O));
+pktIn(s, src->dst, i) {
+  conn.insert(s, i, src);
+  pick o:PR where conn(s, o, dst) {
+    s.install(src->dst, i->o);
+    s.forward(src->dst, i->o);
+  } else {
+    s.flood(src->dst, i);
+  }
+}
+";
+
+const BOTH_FALSE: &[u8] = b"safety A: true; safety B: false; trans T: false;";
+
+const ONE_FALSE: &[u8] = b"safety A: true; trans T: true; trans U: false;";
+
+const TWO_PORTS: &[u8] = b"vericon-net 1\nsw 1\nho 1 2\npr 1 2\nend\n";
+
+const ONE_PORT: &[u8] = b"vericon-net 1\nsw 1\nho 1 2\npr 1\nend\n";
+
+/// A rule from port 2 to port 1, and no host that is trusted.
+const A_RULE: &[u8] =
+    b"vericon-net 1\nsw 1\nho 1 2\npr 1 2\nstate\nft 1 2 1 2 1\npacket 1 1 2 1\nend\n";
+
+const EVENTS: &[Call] = &[
+    // no notes: the initial state, or the one that was read, without its packet
+    (
+        &["trace", "p", "n", "j"],
+        &[FIREWALL, TWO_PORTS, b"vericon-journal 1\nend\n"],
+        b"vericon-net 1\nsw 1\nho 1 2\npr 1 2\nstate\nend\n",
+        0,
+    ),
+    (
+        &["trace", "p", "n", "j"],
+        &[FIREWALL, A_RULE, b"vericon-journal 1\nend\n"],
+        b"vericon-net 1\nsw 1\nho 1 2\npr 1 2\nstate\nft 1 2 1 2 1\nend\n",
+        0,
+    ),
+    (
+        &["trace", "p", "n", "j"],
+        &[
+            b"rel r(PR) = {(prt(2)), (prt(1))};",
+            TWO_PORTS,
+            b"vericon-journal 1\nend\n",
+        ],
+        b"vericon-net 1\nsw 1\nho 1 2\npr 1 2\nstate\nt r 1\nt r 2\nend\n",
+        0,
+    ),
+    // a packet from inside, and the rule that it installed
+    (
+        &["trace", "p", "n", "j"],
+        &[
+            FIREWALL,
+            TWO_PORTS,
+            b"vericon-journal 1\npacket 0 1 1 1 2 1\nflow 1 1 2 1 2\nend\n",
+        ],
+        b"1 ok\n2 ok\nvericon-net 1\nsw 1\nho 1 2\npr 1 2\nstate\nt tr 1 2\nft 1 1 2 1 2\nsent 1 1 2 1 2\nend\n",
+        0,
+    ),
+    // a packet from outside is dropped, until its host is trusted
+    (
+        &["trace", "p", "n", "j"],
+        &[
+            FIREWALL,
+            TWO_PORTS,
+            b"vericon-journal 1\njoin 0 1 1\npacket 0 1 1 2 1 2\npacket 0 1 1 1 2 1\npacket 0 1 1 2 1 2\nend\n",
+        ],
+        b"1 ok\n2 ok\n3 ok\n4 ok\nvericon-net 1\nsw 1\nho 1 2\npr 1 2\nstate\nt tr 1 2\nft 1 1 2 1 2\nft 1 2 1 2 1\nsent 1 1 2 1 2\nsent 1 2 1 2 1\nend\n",
+        0,
+    ),
+    // a flood, and then the port that was learned
+    (
+        &["trace", "p", "n", "j"],
+        &[
+            LEARNING,
+            TWO_PORTS,
+            b"vericon-journal 1\npacket 0 1 1 1 2 1\npacket 0 1 1 2 1 2\nend\n",
+        ],
+        b"1 ok\n2 ok\nvericon-net 1\nsw 1\nho 1 2\npr 1 2\nstate\nt conn 1 1 1\nt conn 1 2 2\nft 1 2 1 2 1\nsent 1 1 2 1 2\nsent 1 2 1 2 1\nend\n",
+        0,
+    ),
+];
+
+#[test]
+fn notes_happen_in_order(rt: HostRuntime) -> Result<(), Fail> {
+    prints(&rt, rt.alloc(), EVENTS)
+}
+
+const BROKEN: &[Call] = &[
+    // with one port a flood reaches nobody
+    (
+        &["trace", "p", "n", "j"],
+        &[
+            LEARNING,
+            ONE_PORT,
+            b"vericon-journal 1\npacket 0 1 1 1 2 1\nend\n",
+        ],
+        b"1 broken no_black_hole\nvericon-net 1\nsw 1\nho 1 2\npr 1\nstate\nt conn 1 1 1\nend\n",
+        1,
+    ),
+    // the notes behind go on
+    (
+        &["trace", "p", "n", "j"],
+        &[
+            FIREWALL,
+            A_RULE,
+            b"vericon-journal 1\nflow 1 2 1 2 1\npacket 0 1 1 1 2 1\nend\n",
+        ],
+        b"1 broken guarded\n2 ok\nvericon-net 1\nsw 1\nho 1 2\npr 1 2\nstate\nt tr 1 2\nft 1 1 2 1 2\nft 1 2 1 2 1\nsent 1 1 2 1 2\nsent 1 2 1 2 1\nend\n",
+        1,
+    ),
+    // safety comes before transitions, at which a join doesn't look
+    (
+        &["trace", "p", "n", "j"],
+        &[
+            BOTH_FALSE,
+            ONE_PORT,
+            b"vericon-journal 1\npacket 0 1 1 1 2 1\nend\n",
+        ],
+        b"1 broken B\nvericon-net 1\nsw 1\nho 1 2\npr 1\nstate\nend\n",
+        1,
+    ),
+    (
+        &["trace", "p", "n", "j"],
+        &[
+            ONE_FALSE,
+            ONE_PORT,
+            b"vericon-journal 1\njoin 0 1 1\npacket 0 1 1 1 2 1\njoin 0 1 1\nend\n",
+        ],
+        b"1 ok\n2 broken U\n3 ok\nvericon-net 1\nsw 1\nho 1 2\npr 1\nstate\nend\n",
+        1,
+    ),
+    // a refused note counts more
+    (
+        &["trace", "p", "n", "j"],
+        &[
+            FIREWALL,
+            A_RULE,
+            b"vericon-journal 1\nflow 1 2 1 2 1\njoin 0 1 9\nend\n",
+        ],
+        b"1 broken guarded\nentry 2: stranger\n",
+        3,
+    ),
+];
+
+#[test]
+fn the_first_false_invariant_is_named(rt: HostRuntime) -> Result<(), Fail> {
+    prints(&rt, rt.alloc(), BROKEN)
+}
+
+const REFUSED: &[Call] = &[
+    (
+        &["trace", "p", "n", "j"],
+        &[
+            FIREWALL,
+            TWO_PORTS,
+            b"vericon-journal 1\nflow 1 2 1 2 1\nend\n",
+        ],
+        b"entry 1: not enabled\n",
+        3,
+    ),
+    (
+        &["trace", "p", "n", "j"],
+        &[
+            FIREWALL,
+            TWO_PORTS,
+            b"vericon-journal 1\npacket 0 1 1 1 2 1\nflow 1 1 2 1 1\nend\n",
+        ],
+        b"1 ok\nentry 2: not enabled\n",
+        3,
+    ),
+    (
+        &["trace", "p", "n", "j"],
+        &[FIREWALL, TWO_PORTS, b"vericon-journal 1\njoin 0 1 2\nend\n"],
+        b"entry 1: stranger\n",
+        3,
+    ),
+    (
+        &["trace", "p", "n", "j"],
+        &[
+            FIREWALL,
+            TWO_PORTS,
+            b"vericon-journal 1\npacket 0 1 9 1 2 1\nend\n",
+        ],
+        b"entry 1: stranger\n",
+        3,
+    ),
+    (
+        &["trace", "p", "n", "j"],
+        &[
+            FIREWALL,
+            TWO_PORTS,
+            b"vericon-journal 1\npacket 0 1 1 9 2 1\nend\n",
+        ],
+        b"entry 1: stranger\n",
+        3,
+    ),
+    (
+        &["trace", "p", "n", "j"],
+        &[
+            FIREWALL,
+            TWO_PORTS,
+            b"vericon-journal 1\npacket 0 1 1 1 9 1\nend\n",
+        ],
+        b"entry 1: stranger\n",
+        3,
+    ),
+    (
+        &["trace", "p", "n", "j"],
+        &[
+            FIREWALL,
+            TWO_PORTS,
+            b"vericon-journal 1\npacket 0 1 1 1 2 9\nend\n",
+        ],
+        b"entry 1: stranger\n",
+        3,
+    ),
+    // of two reasons the first
+    (
+        &["trace", "p", "n", "j"],
+        &[
+            FIREWALL,
+            TWO_PORTS,
+            b"vericon-journal 1\nflow 1 1 2 1 9\nend\n",
+        ],
+        b"entry 1: stranger\n",
+        3,
+    ),
+    // a bad line, before any note happens
+    (
+        &["trace", "p", "n", "j"],
+        &[
+            FIREWALL,
+            TWO_PORTS,
+            b"vericon-journal 1\npacket 0 1 1 1 2 1\njoin 0 1\nend\n",
+        ],
+        b"j refused line 3\n",
+        3,
+    ),
+];
+
+#[test]
+fn a_note_may_be_refused(rt: HostRuntime) -> Result<(), Fail> {
+    prints(&rt, rt.alloc(), REFUSED)
+}
+
+const IN_ORDER: &[Call] = &[
+    (
+        &["trace", "p", "n", "j"],
+        &[b"", b"", b"vericon-journal 1\nx\nend\n"],
+        b"p refused at 0: Unexpected\n",
+        3,
+    ),
+    (
+        &["trace", "p", "n", "j"],
+        &[FIREWALL, ONE_PORT, b"vericon-journal 1\nx\nend\n"],
+        b"n refused line 4: NoPort\n",
+        3,
+    ),
+    (
+        &["trace", "p", "n", "j"],
+        &[FIREWALL, TWO_PORTS, b"vericon-journal 1\nx\nend\n"],
+        b"j refused line 2\n",
+        3,
+    ),
+];
+
+#[test]
+fn files_are_refused_in_the_order_of_the_words(rt: HostRuntime) -> Result<(), Fail> {
+    prints(&rt, rt.alloc(), IN_ORDER)
+}
