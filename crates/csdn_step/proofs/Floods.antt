@@ -1,15 +1,11 @@
 -- A flood, port by port.
 use Rattle.std.proofs.Common.{◌≡◌, ◌∙◌, sym, ap, refl, ℕ, ◌==◌, Bool, true, false, not, ◌&&◌, ◌||◌, List, [], ◌∷◌, ◌-◌, ◌≤◌, ◌<◌, length, take, drop, get_or, arith}
 use Rattle.std.proofs.Math.Path.{fun_ext}
-use Rattle.std.proofs.Math.Seq.{take-length}
+use Rattle.general_facts.proofs.Lists.{rest_is}
+use Rattle.csdn_core.proofs.FiniteStates.{unchanged}
 use Rattle.csdn_core.specs.declared.terms.Pred.TheVariants.{Sent}
 use Rattle.csdn_core.specs.Network.{State, same_pred, same_cells}
 use Rattle.csdn_core.specs.Execution.{put, flooded, is_flood}
-
-nothing : (x s : Bool) → (x || (s && false)) ≡ x
-nothing true s = refl
-nothing false true = refl
-nothing false false = refl
 
 own : (x s c b : Bool) → b ≡ true → (x || (s && ((not b && c) || false))) ≡ x
 own true s c b is = refl
@@ -33,7 +29,7 @@ grouped false true false f = refl
 
 module _ (x : State) (s a b i : ℕ) where
   pub flooded-none : flooded x [] (s ∷ a ∷ b ∷ i ∷ []) ≡ x
-  flooded-none = fun_ext (λ q. fun_ext (λ ds. nothing (x q ds) (same_pred q Sent)))
+  flooded-none = fun_ext (λ q. fun_ext (λ ds. unchanged (x q ds) (same_pred q Sent)))
 
   pub flooded-own : (o : ℕ) → (o == i) ≡ true → flooded x (o ∷ []) (s ∷ a ∷ b ∷ i ∷ []) ≡ x
   flooded-own o is = fun_ext (λ q. fun_ext (λ ds. own (x q ds) (same_pred q Sent) (same_cells ds (s ∷ a ∷ b ∷ i ∷ o ∷ [])) (o == i) is))
@@ -43,19 +39,6 @@ module _ (x : State) (s a b i : ℕ) where
 
   pub flooded-more : (o : ℕ) (ports : List ℕ) → flooded (flooded x (o ∷ []) (s ∷ a ∷ b ∷ i ∷ [])) ports (s ∷ a ∷ b ∷ i ∷ []) ≡ flooded x (o ∷ ports) (s ∷ a ∷ b ∷ i ∷ [])
   flooded-more o ports = fun_ext (λ q. fun_ext (λ ds. grouped (x q ds) (same_pred q Sent) (not (o == i) && same_cells ds (s ∷ a ∷ b ∷ i ∷ o ∷ [])) (is_flood ports (s ∷ a ∷ b ∷ i ∷ []) ds)))
-
-equal : (m n : ℕ) → (m == n) ≡ true → m ≡ n
-equal m n h = grind arith
-
-pub apart : (m n : ℕ) → (m ≡ n → ⊥) → (m == n) ≡ false
-apart m n differ = by_test (m == n) (equal m n)
-  where
-    by_test : (b : Bool) → (b ≡ true → m ≡ n) → b ≡ false
-    by_test true is = absurd (differ (is refl))
-    by_test false is = refl
-
-pub rest_is : {X : Type 0} (x : X) (xs : List X) → take (length (x ∷ xs) - 1) (drop 1 (x ∷ xs)) ≡ xs
-rest_is x xs = (let e : length (x ∷ xs) - 1 ≡ length xs = omega arith in ap (λ n. take n xs) e ∙ take-length xs)
 
 -- one port more is passed
 pub flood_goes : (y z whole : State) (s a b i o d : ℕ) (rest : List ℕ) → 1 ≤ length rest → o ≡ get_or rest 0 d → z ≡ flooded y (o ∷ []) (s ∷ a ∷ b ∷ i ∷ []) → flooded y rest (s ∷ a ∷ b ∷ i ∷ []) ≡ whole

@@ -9,7 +9,7 @@ use Rattle.std.specs.declared.cmp.Ordering.TheVariants.{Less}
 use Rattle.std.proofs.lemmas.Map.Keys.{sorted_from_strictly_increasing}
 use Rattle.std.proofs.lemmas.Map.Keys.{below_from_sorted}
 use Rattle.csdn_step.specs.Least.{least, lesser, first_of}
-use Rattle.csdn_step.proofs.Floods.{rest_is}
+use Rattle.general_facts.proofs.Lists.{rest_is}
 
 -- the first of two numbers in order
 two : (m n : ℕ) → nat_cmp m n ≡ Less → IsStrictlySortedBy nat_cmp (m ∷ n ∷ [])

@@ -1,7 +1,8 @@
 -- A well-sorted handler does the same, whether the packets that it sends are kept in the state or not.
-use Rattle.std.proofs.Common.{◌≡◌, ◌∙◌, sym, ap, ap₂, refl, ℕ, Bool, true, false, not, ◌&&◌, ◌||◌, if◌then◌else◌, List, [], ◌∷◌, ◌++◌}
+use Rattle.std.proofs.Common.{◌≡◌, ◌∙◌, sym, ap, ap₂, refl, ℕ, Bool, true, false, not, if◌then◌else◌, List, [], ◌∷◌, ◌++◌}
 use Rattle.std.specs.Prelude.{Option, Some, None}
 use Rattle.std.specs.List.{list_all, list_any}
+use Rattle.std.proofs.Math.Bool.{or-false, and-true}
 use Rattle.std.proofs.Math.Path.{fun_ext}
 use Rattle.csdn_core.specs.declared.terms.RelId.{RelId}
 use Rattle.csdn_core.specs.declared.terms.Term.{Term}
@@ -29,14 +30,6 @@ use Rattle.csdn_step.specs.Least.{least}
 use Rattle.csdn_step.specs.Courses.{Course, executed, chosen, handled, from_state, quieted, with_sent_of, installed, forwarded, flooded_on}
 use Rattle.csdn_step.proofs.Room.{of_fit}
 
-or_false : (b : Bool) → (b || false) ≡ b
-or_false true = refl
-or_false false = refl
-
-and_true : (b : Bool) → (b && true) ≡ b
-and_true true = refl
-and_true false = refl
-
 if_quiet : (x : State) (t u : Bool) (a b k l : Course) → t ≡ u → a ≡ quieted x k → b ≡ quieted x l → (if t then a else b) ≡ quieted x (if u then k else l)
 if_quiet x t true a b k l same is_a is_b = ap (λ (v : Bool). if v then a else b) same ∙ is_a
 if_quiet x t false a b k l same is_a is_b = ap (λ (v : Bool). if v then a else b) same ∙ is_b
@@ -55,7 +48,7 @@ module _ (x : State) where
       at : (q : Pred) (ds : List ℕ) → put (with_sent_of x y) (Stored r) cells q ds ≡ with_sent_of x (put y (Stored r) cells) q ds
       at (Stored q) ds = refl
       at Ft ds = refl
-      at Sent ds = or_false (x Sent ds)
+      at Sent ds = or-false (x Sent ds)
       at RcvThis ds = refl
 
   take-Stored : (y : State) (r : RelId) (cells : List ℕ) → take_out (with_sent_of x y) (Stored r) cells ≡ with_sent_of x (take_out y (Stored r) cells)
@@ -64,7 +57,7 @@ module _ (x : State) where
       at : (q : Pred) (ds : List ℕ) → take_out (with_sent_of x y) (Stored r) cells q ds ≡ with_sent_of x (take_out y (Stored r) cells) q ds
       at (Stored q) ds = refl
       at Ft ds = refl
-      at Sent ds = and_true (x Sent ds)
+      at Sent ds = and-true (x Sent ds)
       at RcvThis ds = refl
 
   put-Ft : (y : State) (cells : List ℕ) → put (with_sent_of x y) Ft cells ≡ with_sent_of x (put y Ft cells)
@@ -73,26 +66,26 @@ module _ (x : State) where
       at : (q : Pred) (ds : List ℕ) → put (with_sent_of x y) Ft cells q ds ≡ with_sent_of x (put y Ft cells) q ds
       at (Stored q) ds = refl
       at Ft ds = refl
-      at Sent ds = or_false (x Sent ds)
+      at Sent ds = or-false (x Sent ds)
       at RcvThis ds = refl
 
   put-Sent : (y : State) (cells : List ℕ) → with_sent_of x y ≡ with_sent_of x (put y Sent cells)
   put-Sent y cells = fun_ext (λ q. fun_ext (λ ds. at q ds))
     where
       at : (q : Pred) (ds : List ℕ) → with_sent_of x y q ds ≡ with_sent_of x (put y Sent cells) q ds
-      at (Stored q) ds = sym (or_false (y (Stored q) ds))
-      at Ft ds = sym (or_false (y Ft ds))
+      at (Stored q) ds = sym (or-false (y (Stored q) ds))
+      at Ft ds = sym (or-false (y Ft ds))
       at Sent ds = refl
-      at RcvThis ds = sym (or_false (y RcvThis ds))
+      at RcvThis ds = sym (or-false (y RcvThis ds))
 
   flood-Sent : (y : State) (ports cells : List ℕ) → with_sent_of x y ≡ with_sent_of x (flooded y ports cells)
   flood-Sent y ports cells = fun_ext (λ q. fun_ext (λ ds. at q ds))
     where
       at : (q : Pred) (ds : List ℕ) → with_sent_of x y q ds ≡ with_sent_of x (flooded y ports cells) q ds
-      at (Stored q) ds = sym (or_false (y (Stored q) ds))
-      at Ft ds = sym (or_false (y Ft ds))
+      at (Stored q) ds = sym (or-false (y (Stored q) ds))
+      at Ft ds = sym (or-false (y Ft ds))
       at Sent ds = refl
-      at RcvThis ds = sym (or_false (y RcvThis ds))
+      at RcvThis ds = sym (or-false (y RcvThis ds))
 
   itself : with_sent_of x x ≡ x
   itself = fun_ext (λ q. fun_ext (λ ds. at q ds))

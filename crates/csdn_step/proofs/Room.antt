@@ -1,66 +1,33 @@
 -- Room for the variables in scope: at most 24.
 use Rattle.std.proofs.Common.{◌≡◌, subst, ℕ, suc, ◌+◌, ◌<◌, ◌≤◌, max, Bool, true, false, List, [], ◌∷◌, ◌++◌, length, All, arith, if◌then◌else◌}
 use Rattle.std.specs.Prelude.{Option, Some}
-use Rattle.std.proofs.lemmas.List.{length-append}
-use Rattle.csdn_core.specs.declared.terms.Place.{Place}
+use Rattle.std.proofs.lemmas.List.{length_push}
 use Rattle.csdn_core.specs.declared.terms.Place.TheVariants.{Handler as InHandler}
 use Rattle.csdn_core.specs.declared.program.Handler.{Handler}
 use Rattle.csdn_core.specs.declared.program.Parts.{Parts}
-use Rattle.csdn_core.specs.declared.syntax.Formula.{Formula}
-use Rattle.csdn_core.specs.declared.syntax.Formula.TheVariants as f
 use Rattle.csdn_core.specs.declared.syntax.Command.{Command}
 use Rattle.csdn_core.specs.declared.syntax.Command.TheVariants as c
-use Rattle.csdn_core.specs.Tree.{negation, conjunction, disjunction, implication, equivalence, universal, existential, sequence, conditional, choice}
+use Rattle.csdn_core.specs.Tree.{sequence, conditional, choice}
 use Rattle.csdn_core.specs.Run.{fits, first_fit}
-use Rattle.csdn_core.specs.Sorted.{Signature, Bind, IsSorted}
+use Rattle.csdn_core.specs.Sorted.{Signature, Bind}
 use Rattle.csdn_core.specs.WellSorted.{OwnPacket, IsCommand, IsWellSorted, signature, own_packet, handler_binds}
 use Rattle.net_structs.specs.Depth.{depth}
+use Rattle.net_structs.proofs.Depths.{greater, shallow}
 use Rattle.csdn_step.specs.CommandDepth.{command_depth}
 
-both : (g a b : ℕ) → g + a ≤ 24 → g + b ≤ 24 → g + max a b ≤ 24
-both g a b fits_a fits_b = omega arith
-
-one_more : (Γ : List Bind) (b : Bind) → length (Γ ++ b ∷ []) ≡ length Γ + 1
-one_more Γ b = length-append Γ (b ∷ [])
-
-within : (g h d : ℕ) → h ≡ g + 1 → h + d ≤ 24 → g + (d + 1) ≤ 24
-within g h d is fits_d = omega arith
-
 module _ (S : Signature) where
-  formula_fits : (place : Place) (Γ : List Bind) (p : Formula) → IsSorted S place Γ p → length Γ ≤ 24 → length Γ + depth p ≤ 24
-  unfolding IsSorted depth
-  formula_fits place Γ f.True sorted few = omega arith
-  formula_fits place Γ f.False sorted few = omega arith
-  formula_fits place Γ (f.Atom r ts) sorted few = omega arith
-  formula_fits place Γ (f.Same t u) sorted few = omega arith
-  formula_fits place Γ (negation p) sorted few = formula_fits place Γ p sorted few
-  formula_fits place Γ (conjunction p q) sorted few = both (length Γ) (depth p) (depth q) (formula_fits place Γ p sorted.0 few) (formula_fits place Γ q sorted.1 few)
-  formula_fits place Γ (disjunction p q) sorted few = both (length Γ) (depth p) (depth q) (formula_fits place Γ p sorted.0 few) (formula_fits place Γ q sorted.1 few)
-  formula_fits place Γ (implication p q) sorted few = both (length Γ) (depth p) (depth q) (formula_fits place Γ p sorted.0 few) (formula_fits place Γ q sorted.1 few)
-  formula_fits place Γ (equivalence p q) sorted few = both (length Γ) (depth p) (depth q) (formula_fits place Γ p sorted.0 few) (formula_fits place Γ q sorted.1 few)
-  formula_fits place Γ (universal v s p) sorted few =
-      let more : List Bind = Γ ++ record { var = v; sort = s } ∷ [] in
-      let is : length more ≡ length Γ + 1 = one_more Γ (record { var = v; sort = s }) in
-      let below : length Γ < 24 = sorted.0 in
-      within (length Γ) (length more) (depth p) is (formula_fits place more p sorted.1 (omega arith))
-  formula_fits place Γ (existential v s p) sorted few =
-      let more : List Bind = Γ ++ record { var = v; sort = s } ∷ [] in
-      let is : length more ≡ length Γ + 1 = one_more Γ (record { var = v; sort = s }) in
-      let below : length Γ < 24 = sorted.0 in
-      within (length Γ) (length more) (depth p) is (formula_fits place more p sorted.1 (omega arith))
-
   pub command_fits : (own : OwnPacket) (Γ : List Bind) (k : Command) → IsCommand S own Γ k → length Γ ≤ 24 → length Γ + command_depth k ≤ 24
   unfolding IsCommand command_depth
   command_fits own Γ c.Skip sorted few = omega arith
-  command_fits own Γ (sequence a b) sorted few = both (length Γ) (command_depth a) (command_depth b) (command_fits own Γ a sorted.0 few) (command_fits own Γ b sorted.1 few)
+  command_fits own Γ (sequence a b) sorted few = greater (length Γ) (command_depth a) (command_depth b) (command_fits own Γ a sorted.0 few) (command_fits own Γ b sorted.1 few)
   command_fits own Γ (conditional p a b) sorted few =
-      both (length Γ) (depth p) (max (command_depth a) (command_depth b)) (formula_fits InHandler Γ p sorted.0 few)
-      (both (length Γ) (command_depth a) (command_depth b) (command_fits own Γ a sorted.1 few) (command_fits own Γ b sorted.2 few))
+      greater (length Γ) (depth p) (max (command_depth a) (command_depth b)) (shallow S InHandler Γ p few sorted.0)
+      (greater (length Γ) (command_depth a) (command_depth b) (command_fits own Γ a sorted.1 few) (command_fits own Γ b sorted.2 few))
   command_fits own Γ (choice v s p a b) sorted few =
       let more : List Bind = Γ ++ record { var = v; sort = s } ∷ [] in
-      let is : length more ≡ length Γ + 1 = one_more Γ (record { var = v; sort = s }) in
+      let is : length more ≡ length Γ + 1 = length_push Γ (record { var = v; sort = s }) in
       let below : length Γ < 24 = sorted.0 in
-      let p_fits : length more + depth p ≤ 24 = formula_fits InHandler more p sorted.1 (omega arith) in
+      let p_fits : length more + depth p ≤ 24 = shallow S InHandler more p (omega arith) sorted.1 in
       let a_fits : length more + command_depth a ≤ 24 = command_fits own more a sorted.2 (omega arith) in
       let b_fits : length Γ + command_depth b ≤ 24 = command_fits own Γ b sorted.3 few in
       pick_fits (length Γ) (length more) (depth p) (command_depth a) (command_depth b) is p_fits a_fits b_fits

@@ -1,7 +1,11 @@
 -- Rows put in one after another make the initial state.
-use Rattle.std.proofs.Common.{◌≡◌, ◌∙◌, sym, ap, ap₂, refl, subst, ℕ, ◌==◌, Bool, true, false, ◌&&◌, ◌||◌, List, [], ◌∷◌, ◌-◌, ◌≤◌, ◌<◌, length, take, drop, get_or, arith}
+use Rattle.std.proofs.Common.{◌≡◌, ◌∙◌, sym, ap, ap₂, refl, ℕ, ◌==◌, Bool, false, ◌&&◌, ◌||◌, List, [], ◌∷◌, ◌-◌, ◌≤◌, ◌<◌, length, take, drop, get_or, arith}
 use Rattle.std.specs.List.{list_any}
+use Rattle.std.proofs.Math.Bool.{or-false, or_assoc}
 use Rattle.std.proofs.Math.Path.{fun_ext}
+use Rattle.general_facts.proofs.Lists.{rest_is}
+use Rattle.general_facts.proofs.Numbers.{eqb-turned}
+use Rattle.csdn_core.proofs.Same.{same_cells-turned}
 use Rattle.csdn_core.specs.declared.terms.Pred.{Pred}
 use Rattle.csdn_core.specs.declared.terms.Pred.TheVariants.{Stored, Ft, Sent, RcvThis}
 use Rattle.csdn_core.specs.declared.event.Packet.TheVariants.{Nothing}
@@ -16,33 +20,6 @@ use Rattle.net_structs.specs.Binds.{assignment}
 use Rattle.net_structs.specs.declared.row.Row.{Row}
 use Rattle.net_structs.specs.Rows.{held}
 use Rattle.csdn_step.specs.Starting.{started}
-use Rattle.csdn_step.proofs.Floods.{rest_is}
-
-equal : (m n : ℕ) → (m == n) ≡ true → m ≡ n
-equal m n h = grind arith
-
-==-sym : (m n : ℕ) → (m == n) ≡ (n == m)
-==-sym m n = elim (m == n) as (λ b. (m == n) ≡ b → b ≡ (n == m)) [
-  | true ↦ λ h. let is : m ≡ n = equal m n h in let Q : ℕ → Type 0 = λ k. true ≡ (k == m) in subst Q is (subst (λ (k : ℕ). true ≡ (m == k)) (sym is) (sym h))
-  | false ↦ λ h. elim (n == m) as (λ b. (n == m) ≡ b → false ≡ b) [
-    | true ↦ λ back. let is : n ≡ m = equal n m back in absurd (let apart : (m == n) ≡ false = h in let Q : ℕ → Type 0 = λ k. (k == n) ≡ false in let same : (n == n) ≡ false = subst Q (sym is) apart in grind arith)
-    | false ↦ λ back. refl
-  ] refl
-] refl
-
-same_cells-sym : (ms ns : List ℕ) → same_cells ms ns ≡ same_cells ns ms
-same_cells-sym [] [] = refl
-same_cells-sym [] (n ∷ ns) = refl
-same_cells-sym (m ∷ ms) [] = refl
-same_cells-sym (m ∷ ms) (n ∷ ns) = rw (==-sym m n, same_cells-sym ms ns)
-
-grouped : (x a b : Bool) → ((x || a) || b) ≡ (x || (a || b))
-grouped true a b = refl
-grouped false a b = refl
-
-or_false : (x : Bool) → (x || false) ≡ x
-or_false true = refl
-or_false false = refl
 
 module _ (P : Parts) (N : Network) (e : Assignment) where
   cells_of : StartRow → List ℕ
@@ -57,18 +34,18 @@ module _ (P : Parts) (N : Network) (e : Assignment) where
   one : (row : StartRow) (rows : List StartRow) (x : State) (q : Pred) (ds : List ℕ) → (put x (Stored row.rel) (cells_of row) q ds || listed rows q ds) ≡ (x q ds || listed (row ∷ rows) q ds)
   unfolding listed
   one row rows x (Stored r) ds =
-      grouped (x (Stored r) ds) ((r.0 == row.rel.0) && same_cells ds (cells_of row)) _
-      ∙ ap (λ b. x (Stored r) ds || (b || listed rows (Stored r) ds)) (ap₂ (λ a b. a && b) (==-sym r.0 row.rel.0) (same_cells-sym ds (cells_of row)))
-  one row rows x Ft ds = ap (λ b. b || false) (or_false (x Ft ds))
-  one row rows x Sent ds = ap (λ b. b || false) (or_false (x Sent ds))
-  one row rows x RcvThis ds = ap (λ b. b || false) (or_false (x RcvThis ds))
+      or_assoc (x (Stored r) ds) ((r.0 == row.rel.0) && same_cells ds (cells_of row)) _
+      ∙ ap (λ b. x (Stored r) ds || (b || listed rows (Stored r) ds)) (ap₂ (λ a b. a && b) (eqb-turned r.0 row.rel.0) (same_cells-turned ds (cells_of row)))
+  one row rows x Ft ds = ap (λ b. b || false) (or-false (x Ft ds))
+  one row rows x Sent ds = ap (λ b. b || false) (or-false (x Sent ds))
+  one row rows x RcvThis ds = ap (λ b. b || false) (or-false (x RcvThis ds))
 
   started-is : (rows : List StartRow) (x : State) (q : Pred) (ds : List ℕ) → started P N e rows x q ds ≡ (x q ds || listed rows q ds)
   unfolding listed cells_of
-  started-is [] x (Stored r) ds = sym (or_false (x (Stored r) ds))
-  started-is [] x Ft ds = sym (or_false (x Ft ds))
-  started-is [] x Sent ds = sym (or_false (x Sent ds))
-  started-is [] x RcvThis ds = sym (or_false (x RcvThis ds))
+  started-is [] x (Stored r) ds = sym (or-false (x (Stored r) ds))
+  started-is [] x Ft ds = sym (or-false (x Ft ds))
+  started-is [] x Sent ds = sym (or-false (x Sent ds))
+  started-is [] x RcvThis ds = sym (or-false (x RcvThis ds))
   started-is (row ∷ rows) x q ds = started-is rows (put x (Stored row.rel) (cells_of row)) q ds ∙ one row rows x q ds
 
 pub started_initial : (P : Parts) (N : Network) → started P N no_values P.start empty_state ≡ initial P N

@@ -1,6 +1,8 @@
 -- What is executed with the least elements is an execution.
-use Rattle.std.proofs.Common.{◌≡◌, ◌∙◌, sym, ap, refl, subst, inl, inr, ◌⊎◌, ℕ, ◌==◌, ◌&&◌, ◌||◌, zero, suc, ◌<◌, min, Bool, true, false, if◌then◌else◌, List, [], ◌∷◌, Contains, IsTrue, IsFalse, arith}
+use Rattle.std.proofs.Common.{◌≡◌, ◌∙◌, sym, ap, refl, subst, inl, inr, ◌⊎◌, ℕ, ◌&&◌, zero, suc, ◌<◌, min, Bool, true, false, if◌then◌else◌, List, [], ◌∷◌, Contains, IsTrue, IsFalse, arith}
 use Rattle.std.specs.Prelude.{Option, Some, None}
+use Rattle.std.proofs.lemmas.Bool.{and_parts, cases_lt}
+use Rattle.general_facts.proofs.Lists.{contains_later}
 use Rattle.csdn_core.specs.declared.program.Parts.{Parts}
 use Rattle.csdn_core.specs.declared.program.Handler.{Handler}
 use Rattle.csdn_core.specs.declared.event.Event.{Event}
@@ -13,6 +15,7 @@ use Rattle.csdn_core.specs.Network.{Network, State, elements}
 use Rattle.csdn_core.specs.Execution.{is_true, Executes}
 use Rattle.csdn_core.specs.Run.{Handles, Step, first_fit, for_packet}
 use Rattle.net_structs.specs.Networks.{has}
+use Rattle.net_structs.proofs.Accepted.{there}
 use Rattle.csdn_step.specs.declared.setting.Sending.TheVariants.{Kept}
 use Rattle.csdn_step.specs.Least.{least, lesser}
 use Rattle.csdn_step.specs.Courses.{Course, executed, chosen, handled, fired, from_state}
@@ -20,23 +23,11 @@ use Rattle.csdn_step.specs.Answers.{is_of_network, is_enabled}
 
 -- the lesser is one of the two
 
-min_zero : (n : ℕ) → min zero n ≡ zero
-min_zero n = omega arith
-
 min_either : (m n : ℕ) → (min m n ≡ m) ⊎ (min m n ≡ n)
-min_either zero n = inl (omega arith)
-min_either (suc m) zero = inr (omega arith)
-min_either (suc m) (suc n) = step (min_either m n)
-  where
-    up_left : min m n ≡ m → min (suc m) (suc n) ≡ suc m
-    up_left is = omega arith
-
-    up_right : min m n ≡ n → min (suc m) (suc n) ≡ suc n
-    up_right is = omega arith
-
-    step : (min m n ≡ m) ⊎ (min m n ≡ n) → (min (suc m) (suc n) ≡ suc m) ⊎ (min (suc m) (suc n) ≡ suc n)
-    step (inl is) = inl (up_left is)
-    step (inr is) = inr (up_right is)
+min_either m n = elim (cases_lt m n) [
+  | inl before ↦ inl (omega (arith, before))
+  | inr from ↦ inr (omega (arith, from))
+]
 
 lesser_is : (m : ℕ) (rest : Option ℕ) → (lesser m rest ≡ m) ⊎ (rest ≡ Some (lesser m rest))
 lesser_is m None = inl refl
@@ -50,14 +41,11 @@ lesser_is m (Some n) = at (min_either m n)
 abbrev IsFound : (ℕ → Bool) → List ℕ → ℕ → Type 0
 IsFound test ms m = Contains ms m × (test m ≡ true)
 
-there : (ms : List ℕ) (n m : ℕ) → Contains ms m → Contains (n ∷ ms) m
-there ms n m (k, inside, is) = (suc k, omega (arith, inside), is)
-
 found_by : (test : ℕ → Bool) (n m : ℕ) (ms : List ℕ) (b : Bool) → test n ≡ b → (least test ms ≡ Some m → IsFound test ms m) → (if b then Some (lesser n (least test ms)) else least test ms) ≡ Some m → IsFound test (n ∷ ms) m
 found_by test n m ms b passes rest found = by_test b passes found
   where
     later : least test ms ≡ Some m → IsFound test (n ∷ ms) m
-    later is = let held : IsFound test ms m = rest is in (there ms n m held.0, held.1)
+    later is = let held : IsFound test ms m = rest is in (contains_later ms n m held.0, held.1)
 
     here : test n ≡ true → n ≡ m → IsFound test (n ∷ ms) m
     here is same = subst (λ k. IsFound test (n ∷ ms) k) same ((zero, omega arith, refl), is)
@@ -114,31 +102,16 @@ module _ (P : Parts) (N : Network) where
   handles None s a b i w = refl
   handles (Some h) s a b i w = executes h.body (for_packet h s a b i) w
 
-  both : (a b : Bool) → (a && b) ≡ true → (a ≡ true) × (b ≡ true)
-  both true b is = (refl, is)
-  both false b is = absurd (cc)
-
-  equal : (k l : ℕ) → (k == l) ≡ true → l ≡ k
-  equal k l h = grind arith
-
-  here_or : (m n : ℕ) (ms : List ℕ) (t : Bool) → (m == n) ≡ t → (has ms m ≡ true → Contains ms m) → (t || has ms m) ≡ true → Contains (n ∷ ms) m
-  here_or m n ms true same rest found = (zero, omega arith, equal m n same)
-  here_or m n ms false same rest found = there ms n m (rest found)
-
-  has_is : (ms : List ℕ) (m : ℕ) → has ms m ≡ true → Contains ms m
-  has_is [] m is = absurd (cc)
-  has_is (n ∷ ms) m is = here_or m n ms (m == n) refl (has_is ms m) is
-
   -- where nothing is to be refused, an event is a step to the state that it comes to
   pub steps : (event : Event) (x : State) → is_of_network N event ≡ true → is_enabled x event ≡ true → Step P N x event (fired P N Kept event (from_state x)).state
   steps (PktIn s a b i) x known enabled =
-      let at_s = both (has N.switches s) (has N.hosts a && (has N.hosts b && has N.ports i)) known in
-      let at_a = both (has N.hosts a) (has N.hosts b && has N.ports i) at_s.1 in
-      let at_b = both (has N.hosts b) (has N.ports i) at_a.1 in
-      (has_is N.switches s at_s.0, has_is N.hosts a at_a.0, has_is N.hosts b at_b.0, has_is N.ports i at_b.1, handles (first_fit P.handlers i) s a b i (from_state x))
+      let at_s = and_parts (has N.switches s) (has N.hosts a && (has N.hosts b && has N.ports i)) known in
+      let at_a = and_parts (has N.hosts a) (has N.hosts b && has N.ports i) at_s.1 in
+      let at_b = and_parts (has N.hosts b) (has N.ports i) at_a.1 in
+      (there N.switches s at_s.0, there N.hosts a at_a.0, there N.hosts b at_b.0, there N.ports i at_b.1, handles (first_fit P.handlers i) s a b i (from_state x))
   steps (PktFlow s a b i o) x known enabled =
-      let at_s = both (has N.switches s) (has N.hosts a && (has N.hosts b && (has N.ports i && has N.ports o))) known in
-      let at_a = both (has N.hosts a) (has N.hosts b && (has N.ports i && has N.ports o)) at_s.1 in
-      let at_b = both (has N.hosts b) (has N.ports i && has N.ports o) at_a.1 in
-      let at_i = both (has N.ports i) (has N.ports o) at_b.1 in
-      (has_is N.switches s at_s.0, has_is N.hosts a at_a.0, has_is N.hosts b at_b.0, has_is N.ports i at_i.0, has_is N.ports o at_i.1, enabled, refl)
+      let at_s = and_parts (has N.switches s) (has N.hosts a && (has N.hosts b && (has N.ports i && has N.ports o))) known in
+      let at_a = and_parts (has N.hosts a) (has N.hosts b && (has N.ports i && has N.ports o)) at_s.1 in
+      let at_b = and_parts (has N.hosts b) (has N.ports i && has N.ports o) at_a.1 in
+      let at_i = and_parts (has N.ports i) (has N.ports o) at_b.1 in
+      (there N.switches s at_s.0, there N.hosts a at_a.0, there N.hosts b at_b.0, there N.ports i at_i.0, there N.ports o at_i.1, enabled, refl)

@@ -1,8 +1,9 @@
 -- A draft with a tuple put in or taken out, and what leads back from it.
-use Rattle.std.proofs.Common.{◌≡◌, ◌∙◌, sym, ap, ap₂, refl, ℕ, Bool, true, false, not, ◌&&◌, ◌||◌, List, [], ◌∷◌, ◌++◌, true≢false, arith}
+use Rattle.std.proofs.Common.{◌≡◌, ◌∙◌, sym, ap, ap₂, refl, ℕ, Bool, true, false, not, ◌&&◌, ◌||◌, List, [], ◌∷◌, ◌++◌, true≢false}
 use Rattle.std.proofs.Math.Path.{fun_ext}
+use Rattle.std.proofs.lemmas.Bool.{and_parts}
+use Rattle.csdn_core.proofs.Same.{same_pred-is, same_cells-is}
 use Rattle.csdn_core.specs.declared.terms.Pred.{Pred}
-use Rattle.csdn_core.specs.declared.terms.Pred.TheVariants.{Stored, Ft, Sent, RcvThis}
 use Rattle.csdn_core.specs.Network.{State, same_pred, same_cells}
 use Rattle.csdn_core.specs.Execution.{put, take_out}
 use Rattle.net_structs.specs.declared.row.Row.{Row}
@@ -15,30 +16,11 @@ use Rattle.net_structs.proofs.Taken.{taken_absent, taken_put}
 use Rattle.csdn_step.specs.Drafts.{without}
 use Rattle.std.specs.Prelude.{Result, Ok, Err, OnOk, OnErr, IfOk}
 
-same_pred_is : (q r : Pred) → same_pred q r ≡ true → q ≡ r
-same_pred_is (Stored a) (Stored b) at = let e : a.0 ≡ b.0 = grind arith in ap (λ n. Stored (record { 0 = n })) e
-same_pred_is Ft Ft at = refl
-same_pred_is Sent Sent at = refl
-same_pred_is RcvThis RcvThis at = refl
-same_pred_is _ _ at = absurd (true≢false (sym at))
-
-both_same : (a b : Bool) → (a && b) ≡ true → (a ≡ true) × (b ≡ true)
-both_same a b h = (grind arith, grind arith)
-
-same_cells_is : (ms ns : List ℕ) → same_cells ms ns ≡ true → ms ≡ ns
-same_cells_is [] [] at = refl
-same_cells_is (m ∷ ms) (n ∷ ns) at =
-    let head : m ≡ n = grind arith in
-    let tails : same_cells ms ns ≡ true = grind arith in
-    ap₂ (λ a b. a ∷ b) head (same_cells_is ms ns tails)
-same_cells_is [] (n ∷ ns) at = absurd (true≢false (sym at))
-same_cells_is (m ∷ ms) [] at = absurd (true≢false (sym at))
-
 -- where the tuple at hand is the one that is looked for
 there : (x : State) (r : Pred) (cells : List ℕ) (b : Bool) → x r cells ≡ b → (q : Pred) (ds : List ℕ) → (same_pred q r && same_cells ds cells) ≡ true → x q ds ≡ b
 there x r cells b is q ds it =
-    let parts = both_same (same_pred q r) (same_cells ds cells) it in
-    ap₂ (λ a c. x a c) (same_pred_is q r parts.0) (same_cells_is ds cells parts.1) ∙ is
+    let parts = and_parts (same_pred q r) (same_cells ds cells) it in
+    ap₂ (λ a c. x a c) (same_pred-is q r parts.0) (same_cells-is ds cells parts.1) ∙ is
 
 back_by : (x g t : Bool) → (t ≡ true → x ≡ true) → (x && not (g && not t)) ≡ ((x && not g) || t)
 back_by true true true to = refl
@@ -122,11 +104,6 @@ noted result added new rows after r copied cells is copy lacks put failed = push
     taken : {E : Type 0} (result : Result Bool E) → IfOk result (λ is_new. after ≡ insert_key row_cmp rows (row_of r cells)) → OnErr result (after ≡ rows) → remove_key (is_at (row_cmp (row_of r cells))) after ≡ rows
     taken (Ok is_new) put failed = ap (remove_key (is_at (row_cmp (row_of r cells)))) put ∙ taken_put (row_of r cells) rows lacks
     taken (Err e) put failed = ap (remove_key (is_at (row_cmp (row_of r cells)))) failed ∙ taken_absent (row_of r cells) rows lacks
-
--- what follows from what an `Ok` tells
-pub on_ok : {A E : Type 0} (r : Result A E) (P Q : Type 0) → (P → Q) → OnOk r P → OnOk r Q
-on_ok (Ok v) P Q to told = to told
-on_ok (Err e) P Q to told = tt
 
 -- what follows from what an `Ok` tells, whatever its value is
 pub if_ok : {A E : Type 0} (r : Result A E) (P Q : Type 0) → (P → Q) → IfOk r (λ v. P) → OnOk r Q

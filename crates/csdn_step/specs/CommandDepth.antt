@@ -1,4 +1,4 @@
--- How many variables are bound at once while a command is executed, and how many nodes it has.
+-- How many variables are bound at once while a command is executed.
 use Rattle.std.specs.Prelude.{◌≡◌, ℕ, ◌+◌, max}
 use Rattle.csdn_core.specs.declared.terms.VarId.{VarId}
 use Rattle.csdn_core.specs.declared.terms.Sort.{Sort}
@@ -31,22 +31,4 @@ pub command_depth-Pick : (v : VarId) (s : Sort) (p : Formula) (a b : Command) �
 unfolding command_depth
 command_depth-Pick v s p a b = rw Pick-is
 
-unfoldable pub command_nodes : Command → ℕ
-command_nodes (sequence a b) = command_nodes a + command_nodes b + 1
-command_nodes (conditional p a b) = command_nodes a + command_nodes b + 1
-command_nodes (choice v s p a b) = command_nodes a + command_nodes b + 1
-command_nodes _ = 1
-
-pub command_nodes-Seq : (a b : Command) → command_nodes (c.Seq a b) ≡ command_nodes a + command_nodes b + 1
-unfolding command_nodes
-command_nodes-Seq a b = rw Seq-is
-
-pub command_nodes-If : (p : Formula) (a b : Command) → command_nodes (c.If p a b) ≡ command_nodes a + command_nodes b + 1
-unfolding command_nodes
-command_nodes-If p a b = rw If-is
-
-pub command_nodes-Pick : (v : VarId) (s : Sort) (p : Formula) (a b : Command) → command_nodes (c.Pick v s p a b) ≡ command_nodes a + command_nodes b + 1
-unfolding command_nodes
-command_nodes-Pick v s p a b = rw Pick-is
-
-pub ruleset command_steps = (command_depth-Seq, command_depth-If, command_depth-Pick, command_nodes-Seq, command_nodes-If, command_nodes-Pick)
+pub ruleset command_steps = (command_depth-Seq, command_depth-If, command_depth-Pick)

@@ -1,5 +1,5 @@
 //! Execution of commands.
-#![tactic(auto, using(crate::specs::CourseSteps::course_steps, crate::specs::CommandDepth::command_steps))]
+#![tactic(auto, using(csdn_core::specs::Nodes::command_node_steps, crate::specs::CourseSteps::course_steps, crate::specs::CommandDepth::command_steps))]
 
 ghost use Rattle.std.specs.Prelude.{◌≡◌, ◌<◌, ◌≤◌, ◌+◌, ℕ, length, OnOk};
 ghost use Rattle.std.specs.List.Sorted.{IsStrictlyIncreasing};

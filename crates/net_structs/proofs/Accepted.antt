@@ -1,9 +1,10 @@
 -- Parts of which none is refused are a network.
-use Rattle.std.proofs.Common.{◌≡◌, ◌≢◌, ◌∙◌, ap, sym, refl, subst, ℕ, zero, suc, ◌+◌, ◌<◌, ◌==◌, Bool, true, false, true≢false, ◌&&◌, ◌||◌, if◌then◌else◌, List, [], ◌∷◌, ◌++◌, length, map, Option, Some, None, Result, Ok, Err, IfOk, slice_get, slice_index, arith}
+use Rattle.std.proofs.Common.{◌≡◌, ◌≢◌, ◌∙◌, ap, sym, refl, subst, ℕ, zero, suc, ◌+◌, ◌==◌, Bool, true, false, true≢false, if◌then◌else◌, List, [], ◌∷◌, ◌++◌, length, Option, Some, None, Result, Ok, Err, IfOk, slice_get, slice_index, arith}
 use Rattle.std.specs.Option.{option_or, option_map}
-use Rattle.std.specs.List.{All, AllByRecursion, AllPairs, Contains, list_any}
+use Rattle.std.specs.List.{All, AllByRecursion, AllPairs, Contains}
 use Rattle.std.specs.Ordering.{nat_cmp}
-use Rattle.std.proofs.lemmas.List.Elements.{All-nil, All-cons, All-map, All-weaker}
+use Rattle.std.proofs.lemmas.Bool.{and_parts, eqb-true}
+use Rattle.std.proofs.lemmas.List.Elements.{All-nil, All-cons, All-map}
 use Rattle.std.proofs.lemmas.Map.Views.{Contains-from_any}
 use Rattle.csdn_core.specs.declared.terms.Sort.{Sort}
 use Rattle.csdn_core.specs.declared.terms.Sort.TheVariants.{Sw, Ho, Pr}
@@ -46,15 +47,8 @@ pub fails_then : {A : Type 0} (b : Bool) (at : A) (rest : Option A) → (if b th
 fails_then true at rest is = absurd cc
 fails_then false at rest is = (refl, is)
 
-pub both : (a b : Bool) → (a && b) ≡ true → (a ≡ true) × (b ≡ true)
-both true b is = (refl, is)
-both false b is = absurd (true≢false (sym is))
-
-equal : (m n : ℕ) → (m == n) ≡ true → m ≡ n
-equal m n is = grind (arith, is)
-
 pub there : (xs : List ℕ) (m : ℕ) → has xs m ≡ true → Contains xs m
-there xs m is = Contains-from_any {eq = λ x y. x == y} equal m xs is
+there xs m is = Contains-from_any {eq = λ x y. x == y} eqb-true m xs is
 
 -- sorts
 
@@ -118,13 +112,13 @@ module _ (N M : Network) (same : (s : Sort) (m : ℕ) → has (elements N s) m �
   cells_of_sorts [] (m ∷ ms) is = absurd (true≢false (sym is))
   cells_of_sorts (s ∷ ss) [] is = absurd (true≢false (sym is))
   cells_of_sorts (s ∷ ss) (m ∷ ms) is =
-      let parts = both (has (elements N s) m) (have_elements N ss ms) is in
+      let parts = and_parts (has (elements N s) m) (have_elements N ss ms) is in
       (there_too s m parts.0, cells_of_sorts ss ms parts.1)
 
   static_row : (P : Parts) (row : FixedRow) (found : Option Relation) → slice_get P.relations row.rel.0 ≡ found → is_static_in N found row.cells ≡ true → IsStaticTuple P M (static_of row)
   static_row P row None is static = absurd (true≢false (sym static))
   static_row P row (Some relation) is static =
-      let parts = both relation.fixed (have_elements N relation.sorts row.cells) static in
+      let parts = and_parts relation.fixed (have_elements N relation.sorts row.cells) static in
       record { relation = relation; declared = is; static = parts.0; cells = cells_of_sorts relation.sorts row.cells parts.1 }
 
   static_rows_of : (P : Parts) (pred : Pred) (cells : List ℕ) → is_static_tuple P N pred cells ≡ true → (rest : List FixedRow) → AllByRecursion (λ row. IsStaticTuple P M (static_of row)) rest → AllByRecursion (λ row. IsStaticTuple P M (static_of row)) (fixed_row pred cells ++ rest)

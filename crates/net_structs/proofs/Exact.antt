@@ -1,26 +1,26 @@
 -- Parts are accepted exactly where they are a network.
-use Rattle.std.proofs.Common.{◌≡◌, ◌≢◌, ◌∙◌, ◌↔◌, ap, sym, refl, subst, ℕ, zero, suc, ◌+◌, ◌<◌, ◌==◌, Bool, true, false, true≢false, ◌&&◌, ◌||◌, if◌then◌else◌, List, [], ◌∷◌, ◌++◌, length, get_or, map, Option, Some, None, slice_get, slice_index, arith}
-use Rattle.std.specs.Option.{option_or, option_map}
-use Rattle.std.specs.List.{All, AllByRecursion, AllPairs, Contains, list_any}
-use Rattle.std.specs.Ordering.{nat_cmp}
+use Rattle.std.proofs.Common.{◌≡◌, ◌≢◌, ◌∙◌, ◌↔◌, ap, sym, refl, subst, ℕ, zero, suc, ◌+◌, ◌<◌, ◌==◌, Bool, true, false, true≢false, ◌||◌, if◌then◌else◌, List, [], ◌∷◌, ◌++◌, length, get_or, map, Option, Some, None, slice_get, slice_index, arith}
+use Rattle.std.specs.Option.{option_map}
+use Rattle.std.specs.List.{All, AllByRecursion, AllPairs, Contains}
+use Rattle.std.proofs.lemmas.Bool.{or_right, or_parts, eqb-true, ne_eqb}
 use Rattle.std.proofs.lemmas.Cmp.{nat_eq_equiv}
 use Rattle.std.proofs.lemmas.List.Elements.{All-head, All-tail, All-map, All-from_recursion, recursion_from_All}
 use Rattle.std.proofs.lemmas.Map.Views.{list_any-from_Contains}
+use Rattle.general_facts.proofs.Lists.{AllPairs-tail}
+use Rattle.general_facts.proofs.Numbers.{self_equal}
 use Rattle.csdn_core.specs.declared.terms.Sort.{Sort}
 use Rattle.csdn_core.specs.declared.terms.Sort.TheVariants.{Sw, Ho, Pr}
 use Rattle.csdn_core.specs.declared.terms.Pred.{Pred}
 use Rattle.csdn_core.specs.declared.terms.Pred.TheVariants.{Stored, Ft, Sent, RcvThis}
 use Rattle.csdn_core.specs.declared.program.Parts.{Parts}
-use Rattle.csdn_core.specs.declared.program.Relation.{Relation}
 use Rattle.csdn_core.specs.declared.program.Constant.{Constant}
-use Rattle.csdn_core.specs.Network.{Network, StaticRow, elements, HaveElements, IsStaticTuple, IsNetwork}
+use Rattle.csdn_core.specs.Network.{Network, elements, HaveElements, IsStaticTuple, IsNetwork}
 use Rattle.net_structs.specs.declared.row.Row.{Row}
 use Rattle.net_structs.specs.declared.network.FixedRow.{FixedRow}
 use Rattle.net_structs.specs.declared.read.NetParts.{NetParts}
-use Rattle.net_structs.specs.declared.read.NetRefusal.{NetRefusal}
 use Rattle.net_structs.specs.declared.read.NetRefusal.TheVariants as refusal
-use Rattle.net_structs.specs.Networks.{has, in_order, fixed_row, fixed_rows, static_of, network_of, as_listed, IsDeclared}
-use Rattle.net_structs.specs.Refusals.{is_empty, empty_sort, repeated_from, first_repeated, missing_port, strange_const_from, have_elements, is_static_in, is_static_tuple, strange_row_from, repeated_in, fault_in, first_refusal}
+use Rattle.net_structs.specs.Networks.{has, fixed_row, fixed_rows, static_of, network_of, as_listed, IsDeclared}
+use Rattle.net_structs.specs.Refusals.{is_empty, repeated_from, first_repeated, missing_port, strange_const_from, have_elements, is_static_in, is_static_tuple, strange_row_from, repeated_in, first_refusal}
 use Rattle.net_structs.proofs.Ordered.{has-in_order}
 use Rattle.net_structs.proofs.Accepted.{none_left, none_right, none_mapped, fails_then, some_switches, some_hosts, some_ports, all_ports, of_their_sorts, as_many_values, all_static, after_empty, no_empty, no_missing, no_strange_const, no_strange_row}
 
@@ -29,23 +29,9 @@ same_elements parts Sw m = has-in_order parts.sw m
 same_elements parts Ho m = has-in_order parts.ho m
 same_elements parts Pr m = has-in_order parts.pr m
 
-equal : (m n : ℕ) → (m == n) ≡ true → m ≡ n
-equal m n is = grind (arith, is)
-
-itself : (m : ℕ) → (m == m) ≡ true
-itself m = grind arith
-
-or_right : (a b : Bool) → b ≡ true → (a || b) ≡ true
-or_right true b is = refl
-or_right false b is = is
-
-or_parts : (a b : Bool) → (a || b) ≡ false → (a ≡ false) × (b ≡ false)
-or_parts true b is = absurd (true≢false is)
-or_parts false b is = (refl, is)
-
 has_at : (xs : List ℕ) (k d : ℕ) → k < length xs → has xs (get_or xs k d) ≡ true
 has_at [] k d within = absurd (omega (arith, within))
-has_at (x ∷ xs) zero d within = rw (itself x) refl
+has_at (x ∷ xs) zero d within = rw (self_equal x) refl
 has_at (x ∷ xs) (suc k) d within = or_right (get_or xs k d == x) (has xs (get_or xs k d)) (has_at xs k d (omega (arith, within)))
 
 -- no element is repeated
@@ -55,16 +41,13 @@ apart-cons x xs other apart i zero d before within = absurd (omega (arith, befor
 apart-cons x xs other apart zero (suc j) d before within = other (get_or xs j d) (has_at xs j d (omega (arith, within)))
 apart-cons x xs other apart (suc i) (suc j) d before within = apart i j d (omega (arith, before)) (omega (arith, within))
 
-apart-tail : (x : ℕ) (xs : List ℕ) → AllPairs (λ m n. m ≢ n) (x ∷ xs) → AllPairs (λ m n. m ≢ n) xs
-apart-tail x xs apart i j d before within = apart (suc i) (suc j) d (omega (arith, before)) (omega (arith, within))
-
 -- none of the elements was seen
 abbrev AreNew : (ℕ → Bool) → List ℕ → Type 0
 AreNew seen xs = (m : ℕ) → has xs m ≡ true → seen m ≡ false
 
 new-cons : (seen : ℕ → Bool) (x : ℕ) (xs : List ℕ) → seen x ≡ false → AreNew (λ n. seen n || n == x) xs → AreNew seen (x ∷ xs)
 new-cons seen x xs first rest m there = elim (m == x) as (λ b. (m == x) ≡ b → (b || has xs m) ≡ true → seen m ≡ false) [
-  | true ↦ λ is at. subst (λ n. seen n ≡ false) (sym (equal m x is)) first
+  | true ↦ λ is at. subst (λ n. seen n ≡ false) (sym (eqb-true m x is)) first
   | false ↦ λ is at. (or_parts (seen m) (m == x) (rest m at)).0
 ] refl there
 
@@ -76,20 +59,14 @@ apart_from seen (x ∷ xs) none =
     (apart-cons x xs (λ m there is. differs x m ((or_parts (seen m) (m == x) (more.1 m there)).1) is) more.0, new-cons seen x xs parts.0 more.1)
   where
     differs : (x m : ℕ) → (m == x) ≡ false → x ≡ m → ⊥
-    differs x m apart is = true≢false (sym (itself m) ∙ ap (λ n. m == n) (sym is) ∙ apart)
-
-not_equal : (x m : ℕ) → x ≢ m → (m == x) ≡ false
-not_equal x m apart = elim (m == x) as (λ b. (m == x) ≡ b → b ≡ false) [
-  | true ↦ λ is. absurd (apart (sym (equal m x is)))
-  | false ↦ λ is. refl
-] refl
+    differs x m apart is = true≢false (sym (self_equal m) ∙ ap (λ n. m == n) (sym is) ∙ apart)
 
 none_repeated : (seen : ℕ → Bool) (xs : List ℕ) → AllPairs (λ m n. m ≢ n) xs → ((k : ℕ) (d : ℕ) → k < length xs → seen (get_or xs k d) ≡ false) → repeated_from seen xs ≡ None
 none_repeated seen [] apart new = refl
 none_repeated seen (x ∷ xs) apart new =
     ap (λ b. if b then Some x else repeated_from (λ n. seen n || n == x) xs) (new 0 0 (omega arith))
-    ∙ none_repeated (λ n. seen n || n == x) xs (apart-tail x xs apart) (λ k d within.
-    rw (new (suc k) d (omega (arith, within)), not_equal x (get_or xs k d) (apart 0 (suc k) d (omega arith) (omega (arith, within)))) refl)
+    ∙ none_repeated (λ n. seen n || n == x) xs (AllPairs-tail (λ m n. m ≢ n) x xs apart) (λ k d within.
+    rw (new (suc k) d (omega (arith, within)), ne_eqb (get_or xs k d) x (λ is. apart 0 (suc k) d (omega arith) (omega (arith, within)) (sym is))) refl)
 
 -- what a network has passes the tests
 

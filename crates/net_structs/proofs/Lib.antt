@@ -1,5 +1,6 @@
 pub mod Tied
 pub mod Binding
+pub mod Depths
 pub mod Searched
 pub mod Ordered
 pub mod Accepted

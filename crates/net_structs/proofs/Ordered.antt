@@ -1,13 +1,14 @@
 -- Lists that are put in order.
-use Rattle.std.proofs.Common.{◌≡◌, ◌≢◌, ◌∙◌, ap, ap₂, sym, refl, ℕ, ◌<◌, ◌==◌, Bool, true, false, ◌||◌, List, [], ◌∷◌, ◌++◌, length, map, arith}
-use Rattle.std.specs.List.{All, AllByRecursion, AllPairs, list_any}
+use Rattle.std.proofs.Common.{◌≡◌, ◌≢◌, ◌∙◌, ap, sym, refl, ℕ, ◌==◌, Bool, true, false, ◌||◌, List, [], ◌∷◌, ◌++◌, arith}
+use Rattle.std.specs.List.{All, AllByRecursion, AllPairs}
 use Rattle.std.specs.Ordering.{match_ordering, nat_cmp, is_eq, ordering_reverse}
 use Rattle.std.specs.declared.cmp.Ordering.{Ordering}
 use Rattle.std.specs.declared.cmp.Ordering.TheVariants.{Less, Equal, Greater}
 use Rattle.std.specs.Cmp.{IsTotalOrder, nat_cmp_total}
 use Rattle.std.specs.BTreeSet.{insert_key}
 use Rattle.std.specs.List.Sorted.{IsStrictlySortedBy}
-use Rattle.std.proofs.lemmas.List.{append_assoc}
+use Rattle.std.proofs.Math.Bool.{or-false}
+use Rattle.std.proofs.lemmas.Bool.{eqb-true}
 use Rattle.std.proofs.lemmas.Map.Views.{All-insert_key}
 use Rattle.std.proofs.lemmas.Map.Keys.{below_from_sorted}
 use Rattle.net_structs.specs.Networks.{has, put_in_order, in_order}
@@ -72,7 +73,7 @@ or_moved false true c = refl
 or_moved false false c = refl
 
 same_number : (x y m : ℕ) → nat_cmp x y ≡ Equal → (m == x) ≡ (m == y)
-same_number x y m is = let equal : (x == y) ≡ true = sym (is_eq-nat_cmp x y) ∙ ap is_eq is in let e : x ≡ y = grind (arith, equal) in ap (λ n. m == n) e
+same_number x y m is = ap (λ n. m == n) (eqb-true x y (sym (is_eq-nat_cmp x y) ∙ ap is_eq is))
 
 has-insert : (xs : List ℕ) (x m : ℕ) → has (insert_key nat_cmp xs x) m ≡ ((m == x) || has xs m)
 has-insert [] x m = refl
@@ -83,11 +84,7 @@ has-insert (y ∷ ys) x m = elim (nat_cmp x y) as (λ r. nat_cmp x y ≡ r → h
 ] refl
 
 has-put : (done xs : List ℕ) (m : ℕ) → has (put_in_order nat_cmp done xs) m ≡ (has done m || has xs m)
-has-put done [] m = or_none (has done m)
-  where
-    or_none : (a : Bool) → a ≡ (a || false)
-    or_none true = refl
-    or_none false = refl
+has-put done [] m = sym (or-false (has done m))
 has-put done (x ∷ xs) m = has-put (insert_key nat_cmp done x) xs m ∙ ap (λ b. b || has xs m) (has-insert done x m) ∙ or_moved (m == x) (has done m) (has xs m)
 
 -- a list in order has the same elements

@@ -1,5 +1,6 @@
 -- Rows taken out of an ordered list of rows.
 use Rattle.std.proofs.Common.{◌≡◌, ◌∙◌, ap, sym, refl, Bool, true, false, not, cond, ◌&&◌, ◌||◌, List, [], ◌∷◌, true≢false}
+use Rattle.std.proofs.Math.Bool.{and-true}
 use Rattle.std.proofs.Math.Path.{fun_ext}
 use Rattle.std.specs.List.{list_any}
 use Rattle.std.specs.Ordering.{is_eq, match_ordering}
@@ -24,15 +25,11 @@ one_more true false h = refl
 one_more false true h = refl
 one_more false false h = refl
 
-all_kept : (x : Bool) → (x && not false) ≡ x
-all_kept true = refl
-all_kept false = refl
-
 pub but-row : (x : State) (row : Row) (rows : List Row) → but (take_out x row.pred row.cells) (held rows) ≡ but x (held (row ∷ rows))
 but-row x row rows = fun_ext (λ q. fun_ext (λ ds. one_more (x q ds) (same_pred q row.pred && same_cells ds row.cells) (held rows q ds)))
 
 pub but-none : (x : State) → but x (held []) ≡ x
-but-none x = fun_ext (λ q. fun_ext (λ ds. all_kept (x q ds)))
+but-none x = fun_ext (λ q. fun_ext (λ ds. and-true (x q ds)))
 
 -- one more of the rows that go is taken out
 pub row_goes : (y z whole : State) (row : Row) (rest more : List Row) → rest ≡ row ∷ more → z ≡ take_out y row.pred row.cells → but y (held rest) ≡ whole → but z (held more) ≡ whole

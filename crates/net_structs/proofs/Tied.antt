@@ -1,5 +1,6 @@
 -- The queries of an ordered set of rows, and what the rows hold.
 use Rattle.std.proofs.Common.{◌≡◌, ◌∙◌, ap, ap₂, sym, refl, ℕ, ◌==◌, Bool, true, false, not, cond, ◌&&◌, ◌||◌, List, [], ◌∷◌, ◌++◌, map}
+use Rattle.std.proofs.Math.Bool.{and_assoc}
 use Rattle.std.proofs.Math.Path.{fun_ext}
 use Rattle.std.specs.List.{list_any, filter}
 use Rattle.std.specs.Ordering.{is_eq, nat_cmp, ordering_then}
@@ -52,10 +53,6 @@ same_place RcvThis Ft = refl
 same_place RcvThis Sent = refl
 same_place RcvThis RcvThis = refl
 
-and_grouped : (a b c : Bool) → (a && (b && c)) ≡ ((a && b) && c)
-and_grouped true b c = refl
-and_grouped false b c = refl
-
 -- whether two rows are one
 pub row_is : (q row : Row) → is_eq (row_cmp q row) ≡ (same_pred q.pred row.pred && same_cells q.cells row.cells)
 row_is q row =
@@ -63,7 +60,7 @@ row_is q row =
     ∙ ap₂ (λ a b. a && b) (is_eq-nat_cmp (kind_of q.pred) (kind_of row.pred))
     (is_eq-then (nat_cmp (number_of q.pred) (number_of row.pred)) (slice_cmp nat_cmp q.cells row.cells)
     ∙ ap₂ (λ a b. a && b) (is_eq-nat_cmp (number_of q.pred) (number_of row.pred)) (is_eq-cells q.cells row.cells))
-    ∙ and_grouped (kind_of q.pred == kind_of row.pred) (number_of q.pred == number_of row.pred) (same_cells q.cells row.cells)
+    ∙ sym (and_assoc (kind_of q.pred == kind_of row.pred) (number_of q.pred == number_of row.pred) (same_cells q.cells row.cells))
     ∙ ap (λ a. a && same_cells q.cells row.cells) (same_place q.pred row.pred)
 
 row_flip : (q row : Row) → is_eq (row_cmp q row) ≡ is_eq (row_cmp row q)

@@ -1,5 +1,5 @@
 -- What a list of pairs of variables and elements stands for.
-use Rattle.std.specs.Prelude.{ℕ, ◌==◌, if◌then◌else◌, List, [], ◌∷◌, Option, Some, None}
+use Rattle.std.specs.Prelude.{ℕ, ◌==◌, if◌then◌else◌, List, [], ◌∷◌, Option, Some}
 use Rattle.csdn_core.specs.declared.terms.VarId.{VarId}
 use Rattle.csdn_core.specs.Truth.{Assignment, with_var}
 use Rattle.csdn_core.specs.Run.{no_values}

@@ -6,7 +6,6 @@ use Rattle.std.specs.declared.cmp.Ordering.{Ordering}
 use Rattle.std.specs.Cmp.{IsTotalOrder, nat_cmp_total, on_total, then_total}
 use Rattle.std.specs.Cmp.Lexicographic.{nat_list_cmp_total, slice_cmp}
 use Rattle.std.specs.BTreeSet.{insert_key}
-use Rattle.csdn_core.specs.declared.terms.RelId.{RelId}
 use Rattle.csdn_core.specs.declared.terms.Pred.{Pred}
 use Rattle.csdn_core.specs.declared.terms.Pred.TheVariants.{Stored, Ft, Sent, RcvThis}
 use Rattle.csdn_core.specs.Network.{Network, StaticRow}

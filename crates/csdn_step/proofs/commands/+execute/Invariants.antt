@@ -1,5 +1,5 @@
 use Rattle.std.proofs.Common.{◌+◌, ◌*◌}
-use Rattle.csdn_step.specs.CommandDepth.{command_nodes}
+use Rattle.csdn_core.specs.Nodes.{command_nodes}
 use Rattle.csdn_step.proofs.commands.+execute.Given as goal
 
 abbrev pub decreases-execute : goal.decreases-execute
