@@ -1,51 +1,26 @@
 -- Tests on sorts, terms and lists.
-use Rattle.std.proofs.Common.{Bool, List, [], ap, arith, cond, eq-eqb, eqb-true, false, get_or, inl, inr, length, refl, subst, suc, sym, true, zero, ℕ, ◌&&◌, ◌+◌, ◌<◌, ◌||◌, ◌∙◌, ◌∷◌, ◌≡◌, ◌≤◌}
-use Rattle.std.proofs.lemmas.Bool.{and_from, and_parts, cases_eq, false≢true, or_cases}
+use Rattle.std.proofs.Common.{Bool, List, [], arith, cond, false, get_or, inl, inr, length, refl, subst, suc, sym, true, zero, ℕ, ◌+◌, ◌<◌, ◌||◌, ◌∙◌, ◌∷◌, ◌≡◌, ◌≤◌}
+use Rattle.std.proofs.lemmas.Bool.{and_from, and_parts, cases_eq, false≢true, or_cases, or_left, or_right}
 use Rattle.std.specs.List.{list_all, list_any}
+use Rattle.std.proofs.Math.Bool.{and-true}
+use Rattle.csdn_core.proofs.Same.{same_term-is, same_term-refl, same_pred-is}
+use Rattle.csdn_core.specs.Same.{same_term}
 use Rattle.csdn_core.specs.declared.terms.Sort.{Sort}
 use Rattle.csdn_core.specs.declared.terms.Sort.TheVariants.{Ho, Pr, Sw}
 use Rattle.csdn_core.specs.declared.terms.Term.{Term}
-use Rattle.csdn_core.specs.declared.terms.Term.TheVariants.{Const, Port, Var}
+use Rattle.csdn_core.specs.declared.terms.Term.TheVariants.{Port}
 use Rattle.csdn_core.specs.declared.terms.Pred.{Pred}
-use Rattle.csdn_core.specs.declared.terms.Pred.TheVariants.{Ft, RcvThis, Sent, Stored}
 use Rattle.csdn_core.specs.Truth.{Structure, value}
-use Rattle.csdn_core.specs.Network.{elements, same_pred}
+use Rattle.csdn_core.specs.Network.{same_pred}
 use Rattle.csdn_core.specs.Run.{no_values}
 use Rattle.decision_laws.specs.Copies.{Copy, Fact, each, index_of, judge}
-use Rattle.decision_laws.specs.Forms.{And, Atom, Fixed, ForAll, ForSome, Form, Or, Same, in_fragment, is_universal, need, one_if, same_sort}
-use Rattle.decision_laws.specs.Vocabulary.{IsIn, Vocabulary, fits, has_term, places_from, same_term, term_fits, vocabulary}
-
-pub same_sort-refl : (s : Sort) → same_sort s s ≡ true
-same_sort-refl Sw = refl
-same_sort-refl Ho = refl
-same_sort-refl Pr = refl
-
-pub same_sort-true : (s t : Sort) → same_sort s t ≡ true → s ≡ t
-same_sort-true Sw Sw e = refl
-same_sort-true Sw Ho e = absurd (false≢true e)
-same_sort-true Sw Pr e = absurd (false≢true e)
-same_sort-true Ho Sw e = absurd (false≢true e)
-same_sort-true Ho Ho e = refl
-same_sort-true Ho Pr e = absurd (false≢true e)
-same_sort-true Pr Sw e = absurd (false≢true e)
-same_sort-true Pr Ho e = absurd (false≢true e)
-same_sort-true Pr Pr e = refl
+use Rattle.decision_laws.specs.Forms.{And, Atom, Fixed, ForAll, ForSome, Form, Or, Same, in_fragment, is_universal, need, one_if}
+use Rattle.decision_laws.specs.Vocabulary.{IsIn, Vocabulary, fits, has_term, places_from, term_fits}
 
 pub one_if-same : (s : Sort) → one_if s s ≡ 1
 one_if-same Sw = refl
 one_if-same Ho = refl
 one_if-same Pr = refl
-
-pub same_term-true : (t u : Term) → same_term t u ≡ true → t ≡ u
-same_term-true (Var v) (Var w) e = ap (λ k. Var (record { 0 = k })) (eqb-true v.0 w.0 e)
-same_term-true (Var v) (Const w) e = absurd (false≢true e)
-same_term-true (Var v) (Port w) e = absurd (false≢true e)
-same_term-true (Const v) (Var w) e = absurd (false≢true e)
-same_term-true (Const v) (Const w) e = ap (λ k. Const (record { 0 = k })) (eqb-true v.0 w.0 e)
-same_term-true (Const v) (Port w) e = absurd (false≢true e)
-same_term-true (Port v) (Var w) e = absurd (false≢true e)
-same_term-true (Port v) (Const w) e = absurd (false≢true e)
-same_term-true (Port v) (Port w) e = ap Port (eqb-true v w e)
 
 index_step : (b : Bool) (t u d : Term) (us : List Term) (n : ℕ) → (b ≡ true → t ≡ u) → (b || has_term t us) ≡ true → (has_term t us ≡ true → get_or us n d ≡ t) → get_or (u ∷ us) (cond b 0 (suc n)) d ≡ t
 index_step true t u d us n e h k = sym (e refl)
@@ -54,7 +29,7 @@ index_step false t u d us n e h k = k h
 -- what stands at a term's place is the term
 pub get_or-index_of : (t d : Term) (ts : List Term) → has_term t ts ≡ true → get_or ts (index_of t ts) d ≡ t
 get_or-index_of t d [] h = absurd (false≢true h)
-get_or-index_of t d (u ∷ us) h = index_step (same_term t u) t u d us (index_of t us) (same_term-true t u) h (get_or-index_of t d us)
+get_or-index_of t d (u ∷ us) h = index_step (same_term t u) t u d us (index_of t us) (same_term-is t u) h (get_or-index_of t d us)
 
 below_step : (b rest : Bool) (n k : ℕ) → (b || rest) ≡ true → (rest ≡ true → n < k) → cond b 0 (suc n) < suc k
 below_step true rest n k h f = omega arith
@@ -78,18 +53,10 @@ any_gives p [] h = absurd (false≢true h)
 any_gives p (y ∷ ys) h =
     elim (or_cases (p y) (list_any p ys) h) [ inl e ↦ (y, inl refl, e) | inr r ↦ (let w = any_gives p ys r in (w.0, inr w.1, w.2)) ]
 
-pub or_from_left : (x y : Bool) → x ≡ true → (x || y) ≡ true
-or_from_left true y e = refl
-or_from_left false y e = absurd (false≢true e)
-
-pub or_from_right : (x y : Bool) → y ≡ true → (x || y) ≡ true
-or_from_right true y e = refl
-or_from_right false y e = e
-
 pub any_from : {X : Type 0} (p : X → Bool) (xs : List X) (x : X) → IsIn x xs → p x ≡ true → list_any p xs ≡ true
 any_from p [] x i h = elim i [ ]
 any_from p (y ∷ ys) x i h =
-    elim i [ inl e ↦ or_from_left (p y) (list_any p ys) (subst (λ z. p z ≡ true) e h) | inr r ↦ or_from_right (p y) (list_any p ys) (any_from p ys x r h) ]
+    elim i [ inl e ↦ or_left (p y) (list_any p ys) (subst (λ z. p z ≡ true) e h) | inr r ↦ or_right (p y) (list_any p ys) (any_from p ys x r h) ]
 
 pub universal-need : (f : Form) (s : Sort) → is_universal f ≡ true → need f s ≡ 0
 universal-need (Fixed b) s h = refl
@@ -121,10 +88,6 @@ universal_inside (Or l r) h =
 universal_inside (ForAll v t body) h = h
 universal_inside (ForSome v t body) h = absurd (false≢true h)
 
-and-true : (b : Bool) → (b && true) ≡ b
-and-true true = refl
-and-true false = refl
-
 pub place_in : (i n k : ℕ) → i ≤ k → k < i + n → IsIn k (places_from i n)
 place_in i zero k a b = absurd (omega arith)
 place_in i (suc n) k a b = elim (cases_eq k i) [ inl e ↦ inl e | inr ne ↦ inr (place_in (suc i) n k (omega arith) (omega arith)) ]
@@ -146,52 +109,23 @@ judge_each_from j n c f = judge-each j n c ∙ all_from (λ i. judge j (c i)) (p
 pub judge_each_at : (j : Fact → Bool) (n : ℕ) (c : ℕ → Copy) (k : ℕ) → k < n → judge j (each n c) ≡ true → judge j (c k) ≡ true
 judge_each_at j n c k l h = all_at (λ i. judge j (c i)) (places_from 0 n) k (place_in 0 n k (omega arith) (omega arith)) (sym (judge-each j n c) ∙ h)
 
-pub same_term-refl : (t : Term) → same_term t t ≡ true
-same_term-refl (Var v) = eq-eqb v.0 v.0 refl
-same_term-refl (Const v) = eq-eqb v.0 v.0 refl
-same_term-refl (Port v) = eq-eqb v v refl
-
 pub has_term_at : (ts : List Term) (a : ℕ) (d : Term) → a < length ts → has_term (get_or ts a d) ts ≡ true
 has_term_at [] a d l = absurd (omega arith)
-has_term_at (t ∷ ts) zero d l = or_from_left (same_term t t) (has_term t ts) (same_term-refl t)
-has_term_at (t ∷ ts) (suc a) d l = or_from_right (same_term (get_or ts a d) t) (has_term (get_or ts a d) ts) (has_term_at ts a d (omega arith))
-
-pub same_bool : (b c : Bool) → (b ≡ true → c ≡ true) → (c ≡ true → b ≡ true) → b ≡ c
-same_bool true c f g = sym (f refl)
-same_bool false true f g = g refl
-same_bool false false f g = refl
-
-pub same_pred-true : (r q : Pred) → same_pred r q ≡ true → r ≡ q
-same_pred-true (Stored r) (Stored q) e = ap (λ k. Stored (record { 0 = k })) (eqb-true r.0 q.0 e)
-same_pred-true (Stored r) Ft e = absurd (false≢true e)
-same_pred-true (Stored r) Sent e = absurd (false≢true e)
-same_pred-true (Stored r) RcvThis e = absurd (false≢true e)
-same_pred-true Ft (Stored q) e = absurd (false≢true e)
-same_pred-true Ft Ft e = refl
-same_pred-true Ft Sent e = absurd (false≢true e)
-same_pred-true Ft RcvThis e = absurd (false≢true e)
-same_pred-true Sent (Stored q) e = absurd (false≢true e)
-same_pred-true Sent Ft e = absurd (false≢true e)
-same_pred-true Sent Sent e = refl
-same_pred-true Sent RcvThis e = absurd (false≢true e)
-same_pred-true RcvThis (Stored q) e = absurd (false≢true e)
-same_pred-true RcvThis Ft e = absurd (false≢true e)
-same_pred-true RcvThis Sent e = absurd (false≢true e)
-same_pred-true RcvThis RcvThis e = refl
-
-pub same_pred-refl : (r : Pred) → same_pred r r ≡ true
-same_pred-refl (Stored r) = eq-eqb r.0 r.0 refl
-same_pred-refl Ft = refl
-same_pred-refl Sent = refl
-same_pred-refl RcvThis = refl
+has_term_at (t ∷ ts) zero d l = or_left (same_term t t) (has_term t ts) (same_term-refl t)
+has_term_at (t ∷ ts) (suc a) d l = or_right (same_term (get_or ts a d) t) (has_term (get_or ts a d) ts) (has_term_at ts a d (omega arith))
 
 pub relation_in : (r : Pred) (rs : List Pred) → list_any (same_pred r) rs ≡ true → IsIn r rs
-relation_in r rs h = (let w = any_gives (same_pred r) rs h in subst (λ z. IsIn z rs) (sym (same_pred-true r w.0 w.2)) w.1)
+relation_in r rs h = (let w = any_gives (same_pred r) rs h in subst (λ z. IsIn z rs) (sym (same_pred-is r w.0 w.2)) w.1)
 
 -- no sort is empty, and the value of each name is an element of its sort
 pub record IsStructure (voc : Vocabulary) (m : Structure) : Type 0 where
   pub filled : (s : Sort) → (x : ℕ) × IsIn x (m.elements s)
   pub named : (s : Sort) (t : Term) → has_term t (voc.names s) ≡ true → IsIn (value m no_values t) (m.elements s)
+
+-- of two values that are elements one is chosen
+pub inside_step : (m : Structure) (s : Sort) (b : Bool) (x y : ℕ) → (b ≡ true → IsIn x (m.elements s)) → IsIn y (m.elements s) → IsIn (cond b x y) (m.elements s)
+inside_step m s true x y i k = i refl
+inside_step m s false x y i k = k
 
 -- each name has its sort, and the numerals are the ports among the names
 pub record IsVocabulary (voc : Vocabulary) : Type 0 where

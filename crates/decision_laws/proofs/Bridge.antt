@@ -15,7 +15,6 @@ use Rattle.decision_laws.specs.Copies.{Fact, judge, known}
 use Rattle.decision_laws.specs.Laws.{HasModel, HasNetwork, IsJudgement, IsSentence, IsTiedTo, NamesFacts, clause_names, complete_clauses, counts, form_of, sentence_copies, words}
 use Rattle.decision_laws.specs.Numbers.{fact_count, fact_number, numbered_fact}
 use Rattle.decision_laws.specs.Sublists.{ArePart}
-use Rattle.decision_laws.specs.Tied.{turned}
 use Rattle.decision_laws.specs.Vocabulary.{IsIn}
 
 module _ (P : Parts) (F : Formula) (first : ℕ) (num : Fact → ℕ) (fact_at : ℕ → Fact) (is : IsSentence P F) (o : NamesFacts P F first num fact_at) where

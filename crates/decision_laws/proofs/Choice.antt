@@ -1,15 +1,16 @@
 -- Where a sentence is true, constants can be chosen for its existential quantifiers.
 use Rattle.std.proofs.Common.{Bool, [], ap, ap₂, arith, cond, eq-eqb, false, inl, inr, nat_eq, ne_eqb, refl, subst, sym, true, ℕ, ◌&&◌, ◌+◌, ◌<◌, ◌∙◌, ◌∷◌, ◌≡◌, ◌≤◌, ◌⊎◌}
-use Rattle.std.proofs.lemmas.Bool.{and_from, and_parts, or_cases}
+use Rattle.std.proofs.lemmas.Bool.{and_from, and_parts, or_cases, or_left, or_right}
+use Rattle.csdn_core.specs.Same.{same_sort}
+use Rattle.csdn_core.proofs.Same.{same_sort-refl, same_sort-is}
 use Rattle.csdn_core.specs.declared.terms.Sort.{Sort}
 use Rattle.csdn_core.specs.Truth.{Structure, with_var}
-use Rattle.csdn_core.specs.Network.{elements}
 use Rattle.decision_laws.proofs.Agree.{IsRanged, Models, assigned, scope_sorts}
-use Rattle.decision_laws.proofs.Basics.{any_gives, one_if-same, or_from_left, or_from_right, same_sort-refl, same_sort-true}
+use Rattle.decision_laws.proofs.Basics.{any_gives, one_if-same, inside_step}
 use Rattle.decision_laws.proofs.Walks.{IsHome, universal_true}
 use Rattle.decision_laws.specs.Classes.{Meaning}
 use Rattle.decision_laws.specs.Copies.{Fact, Scope, copies, judge}
-use Rattle.decision_laws.specs.Forms.{And, Atom, Fixed, ForAll, ForSome, Form, Or, Same, form_truth, in_fragment, need, one_if, same_sort}
+use Rattle.decision_laws.specs.Forms.{And, Atom, Fixed, ForAll, ForSome, Form, Or, Same, form_truth, in_fragment, need, one_if}
 use Rattle.decision_laws.specs.Vocabulary.{IsIn, Vocabulary, fits}
 
 -- the sentence is true with its existential quantifiers given to the constants from base on
@@ -81,16 +82,12 @@ sort_other s t a b x y false e k = ap (λ z. cond (z && nat_eq a b) x y) e
 
 put-other : (ρ : Meaning) (base : Sort → ℕ) (s : Sort) (x : ℕ) → AgreeBelow base ρ (put ρ s (base s) x)
 put-other ρ base s x t b l =
-    sym (sort_other s t (base s) b x (ρ t b) (same_sort s t) refl (λ e. ne_eqb (base s) b (λ q. (let r = ap base (same_sort-true s t e) in omega arith))))
-
-inside_step : (m : Structure) (t : Sort) (c : Bool) (x y : ℕ) → (c ≡ true → IsIn x (m.elements t)) → IsIn y (m.elements t) → IsIn (cond c x y) (m.elements t)
-inside_step m t true x y i k = i refl
-inside_step m t false x y i k = k
+    sym (sort_other s t (base s) b x (ρ t b) (same_sort s t) refl (λ e. ne_eqb (base s) b (λ q. (let r = ap base (same_sort-is s t e) in omega arith))))
 
 put_inside : (m : Structure) (ρ : Meaning) (s : Sort) (a x : ℕ) → IsInside m ρ → IsIn x (m.elements s) → IsInside m (put ρ s a x)
 put_inside m ρ s a x k i t b =
     inside_step m t (same_sort s t && nat_eq a b) x (ρ t b)
-    (λ e. subst (λ z. IsIn x (m.elements z)) (same_sort-true s t (and_parts (same_sort s t) (nat_eq a b) e).0) i)
+    (λ e. subst (λ z. IsIn x (m.elements z)) (same_sort-is s t (and_parts (same_sort s t) (nat_eq a b) e).0) i)
     (k t b)
 
 pub choose : (m : Structure) (f : Form) (env : Scope) (base : Sort → ℕ) (ρ : Meaning) → IsRanged base env → IsInside m ρ → form_truth m f (assigned ρ env) ≡ true → (σ : Meaning) × AgreeBelow base ρ σ × IsInside m σ × IsMet m σ env base f
@@ -138,8 +135,8 @@ met_true voc n m ρ j o home (Or f g) env base l h u room e =
     let one = judge j (copies voc n f env base) in
     let two = judge j (copies voc n g env base) in
     elim e [
-      | inl a ↦ or_from_left one two (met_true voc n m ρ j o home f env base l p.0 q.0 (λ s. omega (arith, room s)) a)
-      | inr b ↦ or_from_right one two (met_true voc n m ρ j o home g env base l p.1 q.1 (λ s. omega (arith, room s)) b)
+      | inl a ↦ or_left one two (met_true voc n m ρ j o home f env base l p.0 q.0 (λ s. omega (arith, room s)) a)
+      | inr b ↦ or_right one two (met_true voc n m ρ j o home g env base l p.1 q.1 (λ s. omega (arith, room s)) b)
     ]
 met_true voc n m ρ j o home (ForAll v s body) env base l h u room e = universal_true voc n m ρ j o home (ForAll v s body) env base l h u e
 met_true voc n m ρ j o home (ForSome v s body) env base l h u room e =

@@ -6,7 +6,7 @@ use Rattle.csdn_core.specs.declared.terms.Sort.TheVariants.{Ho, Pr, Sw}
 use Rattle.csdn_core.specs.declared.terms.Term.TheVariants.{Port}
 use Rattle.csdn_core.specs.declared.terms.Pred.{Pred}
 use Rattle.decision_laws.proofs.Basics.{IsClosed, IsVocabulary, in_place, index_of-below}
-use Rattle.decision_laws.proofs.Lists.{flat_in, in_both, in_flat, in_left, in_right, in_tuples, map_in}
+use Rattle.decision_laws.proofs.Lists.{flat_in, in_both, in_flat, in_left, in_right, in_tuples, map_in, one_in}
 use Rattle.decision_laws.proofs.Made.{AllOver, copies_over, copies_simple}
 use Rattle.decision_laws.proofs.Read.{IsPlain, IsSimple, below_append}
 use Rattle.decision_laws.proofs.Simplify.{fits-simplified, inside-simplified, need-simplified}
@@ -45,9 +45,6 @@ top_is n voc whole name num r k (Literal sign f) i o a w = (refl, r.facts f o)
 top_is n voc whole name num r k (Both p q) i o a w = (refl, a.0, w (Both p q) (inl refl))
 top_is n voc whole name num r k (Either p q) i o a w = (refl, a.0, w (Either p q) (inl refl))
 top_is n voc whole name num r k (Each m c) i o a w = (refl, a.0, w (Each m c) (inl refl))
-
-one_in : {X : Type 0} (x y : X) → IsIn x (y ∷ []) → x ≡ y
-one_in x y h = elim h [ inl e ↦ e | inr r ↦ elim r [ ] ]
 
 -- a disjunction of one literal twice
 twice : (n : Sort → ℕ) (voc : Vocabulary) (whole : Copy) (name : ℕ → Copy) (p q : Copy) (x a b : Lit) → a ≡ b → IsLitOf n voc whole name (Either p q) x → IsLitOf n voc whole name p a → IsLitOf n voc whole name q b → IsTied n voc whole name (negated x ∷ a ∷ [])

@@ -7,7 +7,7 @@ use Rattle.csdn_core.specs.declared.terms.Pred.{Pred}
 use Rattle.csdn_core.specs.declared.program.Parts.{Parts}
 use Rattle.csdn_core.specs.declared.syntax.Formula.{Formula}
 use Rattle.decision_laws.proofs.Basics.{in_place}
-use Rattle.decision_laws.proofs.Lists.{flat_in, in_both, in_tuples, map_in}
+use Rattle.decision_laws.proofs.Lists.{flat_in, in_both, in_tuples, map_in, one_in}
 use Rattle.decision_laws.proofs.Made.{AllOver, copies_over, copies_simple}
 use Rattle.decision_laws.proofs.Networks.{in_if}
 use Rattle.decision_laws.proofs.Read.{IsPlain, IsSimple, below_append}
@@ -79,9 +79,6 @@ three_apart x y z h k l = ((λ i. elim i [ inl e ↦ h e | inr r ↦ two_apart x
 
 moved : (c d : List Lit) → c ≡ d → AtomsDiffer d → AtomsDiffer c
 moved c d e h = subst AtomsDiffer (sym e) h
-
-one_in : {X : Type 0} (x y : X) → IsIn x (y ∷ []) → x ≡ y
-one_in x y h = elim h [ inl e ↦ e | inr r ↦ elim r [ ] ]
 
 single : (c : List Lit) (l : Lit) → IsIn c ((l ∷ []) ∷ []) → AtomsDiffer c
 single c l h = moved c (l ∷ []) (one_in c (l ∷ []) h) ((λ z. z), tt)

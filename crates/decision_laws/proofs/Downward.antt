@@ -6,7 +6,7 @@ use Rattle.csdn_core.specs.declared.terms.Term.TheVariants.{Const, Port}
 use Rattle.csdn_core.specs.declared.event.Packet.TheVariants.{Nothing}
 use Rattle.csdn_core.specs.declared.program.Parts.{Parts}
 use Rattle.csdn_core.specs.declared.syntax.Formula.{Formula}
-use Rattle.csdn_core.specs.Truth.{Structure, value, values}
+use Rattle.csdn_core.specs.Truth.{Structure, value}
 use Rattle.csdn_core.specs.Network.{Network, State, elements, structure}
 use Rattle.csdn_core.specs.Run.{no_values}
 use Rattle.decision_laws.proofs.Agree.{Interprets, Models}

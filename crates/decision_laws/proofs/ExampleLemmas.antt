@@ -1,18 +1,17 @@
 -- The judgement of the worked example is fair.
 use Rattle.std.proofs.Common.{Bool, List, [], eq-eqb, eqb-true, false, inl, inr, nat_eq, refl, subst, sym, true, ℕ, ◌&&◌, ◌||◌, ◌∙◌, ◌∷◌, ◌≡◌}
 use Rattle.std.proofs.lemmas.Bool.{false≢true}
+use Rattle.std.specs.Cmp.{both_ways}
 use Rattle.csdn_core.specs.declared.terms.Sort.{Sort}
 use Rattle.csdn_core.specs.declared.terms.Sort.TheVariants.{Ho}
 use Rattle.csdn_core.specs.declared.terms.Pred.{Pred}
-use Rattle.decision_laws.proofs.Basics.{same_bool}
 use Rattle.decision_laws.specs.Copies.{AreAlike, IsFair, Tuple}
 use Rattle.decision_laws.specs.Example.{example_judgement, example_meaning, host_of, program, r, sentence}
 use Rattle.decision_laws.specs.Forms.{normal_form}
 use Rattle.decision_laws.specs.Laws.{counts, words}
-use Rattle.decision_laws.specs.Tied.{replaced, same, turned}
 
 pub nat_eq-turned : (a b : ℕ) → nat_eq a b ≡ nat_eq b a
-nat_eq-turned a b = same_bool (nat_eq a b) (nat_eq b a) (λ e. eq-eqb b a (sym (eqb-true a b e))) (λ e. eq-eqb a b (sym (eqb-true b a e)))
+nat_eq-turned a b = both_ways (nat_eq a b) (nat_eq b a) (λ e. eq-eqb b a (sym (eqb-true a b e))) (λ e. eq-eqb a b (sym (eqb-true b a e)))
 
 or_same : (b : Bool) → ((b && true) || false) ≡ b
 or_same true = refl

@@ -2,16 +2,15 @@
 use Rattle.std.proofs.Common.{Bool, List, [], ap, ap₂, arith, cond, false, inl, inr, le-ltb, lt-ltb, map, max, min, mul-le-mul_right, nat_lt, refl, subst, suc, suc-mul, sym, true, ℕ, ◌*◌, ◌+◌, ◌-◌, ◌<◌, ◌∙◌, ◌∷◌, ◌≡◌, ◌≤◌, ◌⊎◌}
 use Rattle.std.proofs.lemmas.Bool.{cases_lt, false≢true}
 use Rattle.std.proofs.lemmas.Nat.{div-mul-add, mod-mul-add}
+use Rattle.csdn_core.specs.Same.{same_sort}
+use Rattle.csdn_core.proofs.Same.{same_sort-is, same_pred-is, same_pred-refl}
 use Rattle.csdn_core.specs.declared.terms.Sort.{Sort}
 use Rattle.csdn_core.specs.declared.terms.Sort.TheVariants.{Ho, Pr, Sw}
 use Rattle.csdn_core.specs.declared.terms.Pred.{Pred}
 use Rattle.csdn_core.specs.Network.{same_pred}
-use Rattle.decision_laws.proofs.Basics.{same_pred-refl, same_pred-true, same_sort-true}
 use Rattle.decision_laws.specs.Clauses.{IsNaming, IsOver, mirror}
 use Rattle.decision_laws.specs.Copies.{AreBelow, Equation, Fact, Tuple}
-use Rattle.decision_laws.specs.Forms.{same_sort}
 use Rattle.decision_laws.specs.Numbers.{Block, Equations, Tuples, arguments, blocks_of, columns_of, fact_in, fact_of, is_of, number_in, total, tuple_count, tuple_number, tuple_of}
-use Rattle.decision_laws.specs.Tied.{turned}
 use Rattle.decision_laws.specs.Vocabulary.{IsIn, Vocabulary}
 
 tuple_number-below : (n : Sort → ℕ) (ss : List Sort) (xs : List ℕ) → AreBelow n ss xs → tuple_number n ss xs < tuple_count n ss
@@ -34,10 +33,10 @@ tuple_of-number n (s ∷ ss) (x ∷ xs) h =
 -- the arguments of a fact over the constants fit its block
 fitting : (n : Sort → ℕ) (voc : Vocabulary) (b : Block) (f : Fact) → IsOver n voc f → is_of b f ≡ true → AreBelow n (columns_of voc b) (arguments f)
 fitting n voc (Equations s) (Equation t x y) o h =
-    subst (λ z. AreBelow n (z ∷ z ∷ []) (min x y ∷ max x y ∷ [])) (sym (same_sort-true s t h)) (omega (arith, o.0, o.1), (omega (arith, o.0, o.1), tt))
+    subst (λ z. AreBelow n (z ∷ z ∷ []) (min x y ∷ max x y ∷ [])) (sym (same_sort-is s t h)) (omega (arith, o.0, o.1), (omega (arith, o.0, o.1), tt))
 fitting n voc (Equations s) (Tuple rel xs) o h = absurd (false≢true h)
 fitting n voc (Tuples rel) (Equation t x y) o h = absurd (false≢true h)
-fitting n voc (Tuples rel) (Tuple q xs) o h = subst (λ z. AreBelow n (voc.columns z) xs) (sym (same_pred-true rel q h)) o.1
+fitting n voc (Tuples rel) (Tuple q xs) o h = subst (λ z. AreBelow n (voc.columns z) xs) (sym (same_pred-is rel q h)) o.1
 
 ordered : (s : Sort) (x y : ℕ) → (Equation s (min x y) (max x y) ≡ Equation s x y) ⊎ (Equation s (min x y) (max x y) ≡ Equation s y x)
 ordered s x y =
@@ -48,14 +47,14 @@ ordered s x y =
 
 made_back : (b : Block) (f : Fact) → is_of b f ≡ true → (fact_of b (arguments f) ≡ f) ⊎ (fact_of b (arguments f) ≡ mirror f)
 made_back (Equations s) (Equation t x y) h =
-    let e = same_sort-true s t h in
+    let e = same_sort-is s t h in
     elim (ordered s x y) [
       | inl q ↦ inl (q ∙ ap (λ z. Equation z x y) e)
       | inr q ↦ inr (q ∙ ap (λ z. Equation z y x) e)
     ]
 made_back (Equations s) (Tuple rel xs) h = absurd (false≢true h)
 made_back (Tuples rel) (Equation t x y) h = absurd (false≢true h)
-made_back (Tuples rel) (Tuple q xs) h = inl (ap (λ z. Tuple z xs) (same_pred-true rel q h))
+made_back (Tuples rel) (Tuple q xs) h = inl (ap (λ z. Tuple z xs) (same_pred-is rel q h))
 
 -- some block of the list has the fact
 abbrev pub HasBlock : List Block → Fact → Type 0

@@ -1,12 +1,14 @@
 -- Members of lists.
 use Rattle.std.proofs.Common.{Bool, Contains, List, [], ap, arith, cond, false, filter, flat_map, inl, inr, map, refl, subst, suc, sym, true, zero, ℕ, ◌++◌, ◌<◌, ◌∙◌, ◌∷◌, ◌≡◌, ◌⊎◌}
 use Rattle.std.proofs.lemmas.Bool.{false≢true}
+use Rattle.csdn_core.specs.Same.{same_term}
+use Rattle.csdn_core.proofs.Same.{same_term-is, same_term-refl}
 use Rattle.csdn_core.specs.declared.terms.Sort.{Sort}
 use Rattle.csdn_core.specs.declared.terms.Term.{Term}
-use Rattle.decision_laws.proofs.Basics.{any_from, any_gives, in_place, place_in, same_term-refl, same_term-true}
+use Rattle.decision_laws.proofs.Basics.{any_from, any_gives, in_place, place_in}
 use Rattle.decision_laws.specs.Classes.{all_tuples}
 use Rattle.decision_laws.specs.Copies.{AreBelow}
-use Rattle.decision_laws.specs.Vocabulary.{IsIn, has_term, places_from, same_term}
+use Rattle.decision_laws.specs.Vocabulary.{IsIn, has_term, places_from}
 
 pub in_map : {X Y : Type 0} (f : X → Y) (xs : List X) (x : X) → IsIn x xs → IsIn (f x) (map f xs)
 in_map f [] x h = elim h [ ]
@@ -15,6 +17,9 @@ in_map f (y ∷ ys) x h = elim h [ inl e ↦ inl (ap f e) | inr r ↦ inr (in_ma
 pub map_in : {X Y : Type 0} (f : X → Y) (xs : List X) (y : Y) → IsIn y (map f xs) → (x : X) × IsIn x xs × (y ≡ f x)
 map_in f [] y h = elim h [ ]
 map_in f (x ∷ xs) y h = elim h [ inl e ↦ (x, inl refl, e) | inr r ↦ (let w = map_in f xs y r in (w.0, inr w.1, w.2)) ]
+
+pub one_in : {X : Type 0} (x y : X) → IsIn x (y ∷ []) → x ≡ y
+one_in x y h = elim h [ inl e ↦ e | inr r ↦ elim r [ ] ]
 
 pub in_left : {X : Type 0} (xs ys : List X) (x : X) → IsIn x xs → IsIn x (xs ++ ys)
 in_left [] ys x h = elim h [ ]
@@ -90,7 +95,7 @@ in_contains [] x i = elim i [ ]
 in_contains (y ∷ ys) x i = elim i [ inl e ↦ (0, omega arith, sym e) | inr r ↦ (let w = in_contains ys x r in (suc w.0, omega (arith, w.1), w.2)) ]
 
 pub term_in : (t : Term) (ts : List Term) → has_term t ts ≡ true → IsIn t ts
-term_in t ts h = (let w = any_gives (same_term t) ts h in subst (λ z. IsIn z ts) (sym (same_term-true t w.0 w.2)) w.1)
+term_in t ts h = (let w = any_gives (same_term t) ts h in subst (λ z. IsIn z ts) (sym (same_term-is t w.0 w.2)) w.1)
 
 pub in_term : (t : Term) (ts : List Term) → IsIn t ts → has_term t ts ≡ true
 in_term t ts i = any_from (same_term t) ts t i (same_term-refl t)

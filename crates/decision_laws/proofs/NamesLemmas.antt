@@ -9,11 +9,11 @@ use Rattle.csdn_core.specs.declared.program.Parts.{Parts}
 use Rattle.csdn_core.specs.declared.program.Constant.{Constant}
 use Rattle.std.proofs.lemmas.List.{length-map, length-take-le, map-append, take-append-drop, take_all, take_min, take_more}
 use Rattle.std.specs.Prelude.{drop, take}
-use Rattle.decision_laws.proofs.Basics.{same_sort-refl}
-use Rattle.decision_laws.specs.Copies.{constants, index_of}
-use Rattle.decision_laws.specs.Example.{r}
-use Rattle.decision_laws.specs.Forms.{one_if, same_sort}
-use Rattle.decision_laws.specs.Vocabulary.{constants_from, names_of, numerals_of, same_term, sort_of_constant, sort_or}
+use Rattle.csdn_core.specs.Same.{same_sort, same_term}
+use Rattle.csdn_core.proofs.Same.{same_sort-refl}
+use Rattle.decision_laws.specs.Copies.{index_of}
+use Rattle.decision_laws.specs.Forms.{one_if}
+use Rattle.decision_laws.specs.Vocabulary.{constants_from, names_of, numerals_of, sort_of_constant, sort_or}
 
 append_step : (b : Bool) (n m p q : ℕ) → cond b 0 (suc n) ≡ suc m → (n ≡ m → p ≡ m + q) → cond b 0 (suc p) ≡ suc m + q
 append_step true n m p q e h = absurd (omega arith)

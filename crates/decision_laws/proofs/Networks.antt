@@ -13,23 +13,24 @@ use Rattle.csdn_core.specs.declared.program.Parts.{Parts}
 use Rattle.csdn_core.specs.declared.program.Constant.{Constant}
 use Rattle.csdn_core.specs.declared.program.Relation.{Relation}
 use Rattle.csdn_core.specs.declared.syntax.Formula.{Formula}
-use Rattle.csdn_core.specs.Truth.{values}
 use Rattle.csdn_core.specs.Network.{HaveElements, IsNetwork, IsStaticTuple, StaticRow, elements, holds_in, is_fixed, is_fixed_in, is_static_row, same_cells, same_pred}
 use Rattle.std.specs.Prelude.{is_some, option_map}
 use Rattle.std.proofs.lemmas.List.{length-map}
 use Rattle.std.proofs.lemmas.Option.{slice_get_within}
-use Rattle.decision_laws.proofs.Basics.{any_from, any_gives, in_place, index_of-below, same_bool, same_pred-refl, same_sort-refl}
+use Rattle.std.specs.Cmp.{both_ways}
+use Rattle.csdn_core.specs.Same.{same_sort}
+use Rattle.csdn_core.proofs.Same.{same_sort-refl, same_pred-refl, same_cells-refl}
+use Rattle.decision_laws.proofs.Basics.{any_from, any_gives, in_place, index_of-below}
 use Rattle.decision_laws.proofs.Distinct.{apart_at, filter_distinct, length-places, map_distinct, member_at, places_distinct, counted_off}
 use Rattle.decision_laws.proofs.Downward.{law_down}
 use Rattle.decision_laws.proofs.Lists.{contains_in, filter_in, flat_in, in_both, in_contains, in_filter, in_flat, in_left, in_map, in_term, in_tuples, kept_first, kept_later, map_in, tuple_in}
 use Rattle.decision_laws.proofs.Numbering.{IsReadable, class_below, class_first, first_of-alike, first_of-below, first_of-same, first_of_in, is_readable, numbering_of, numeral_below}
 use Rattle.decision_laws.proofs.Words.{is_vocabulary}
 use Rattle.decision_laws.specs.Classes.{AreOfJudgement, IsNumbering, Meaning, all_tuples, class_elements, classes_of, constant_value, first_of, network_of, number, sizes, state_of, static_rows, true_tuples, values_of, position_in}
-use Rattle.decision_laws.specs.Copies.{AreAlike, AreBelow, Equation, Fact, IsFair, Tuple, constants, index_of, known, numeral_place}
-use Rattle.decision_laws.specs.Forms.{Form, same_sort}
+use Rattle.decision_laws.specs.Copies.{AreAlike, AreBelow, Equation, Fact, IsFair, Tuple, index_of, known, numeral_place}
+use Rattle.decision_laws.specs.Forms.{Form}
 use Rattle.decision_laws.specs.Laws.{IsJudgement, IsSentence, IsTrueIn, form_of}
 use Rattle.decision_laws.specs.Clauses.{AreDistinct}
-use Rattle.decision_laws.specs.Tied.{replaced, same}
 use Rattle.decision_laws.specs.Vocabulary.{IsIn, all_relations, constants_from, has_term, numerals_of, places_from, sort_or, sorts_or, uses, vocabulary}
 
 -- Lists of declarations.
@@ -89,10 +90,6 @@ no_packet P f i =
         | inr b ↦ elim b [ inl e ↦ false≢true (sym (ap (same_pred RcvThis) e)) | inr c ↦ elim c [ ] ]
       ]
     ]
-
-same_cells-refl : (xs : List ℕ) → same_cells xs xs ≡ true
-same_cells-refl [] = refl
-same_cells-refl (x ∷ xs) = and_from (nat_eq x x) (same_cells xs xs) (eq-eqb x x refl) (same_cells-refl xs)
 
 -- tuples of constants with the same elements are judged equal one by one
 alike : (n : Sort → ℕ) (j : Fact → Bool) (ρ : Meaning) → ((s : Sort) (a b : ℕ) → a < n s → b < n s → j (Equation s a b) ≡ nat_eq (ρ s a) (ρ s b)) → (ss : List Sort) (xs ys : List ℕ) → AreBelow n ss xs → AreBelow n ss ys → same_cells (values_of ρ ss xs) (values_of ρ ss ys) ≡ true → AreAlike n j ss xs ys
@@ -208,7 +205,7 @@ module _ (P : Parts) (f : Form) (j : Fact → Bool) (fair : IsFair (vocabulary P
       let voc = vocabulary P f in
       let cells = values_of (number P f j) (voc.columns r) xs in
       let test : List ℕ → Bool = λ ys. same_cells (values_of (number P f j) (voc.columns r) ys) cells in
-      same_bool (state_of P f j r cells) (j (Tuple r xs))
+      both_ways (state_of P f j r cells) (j (Tuple r xs))
       (λ e. (let w = any_gives test (true_tuples P f j r) (and_parts (list_any (same_pred r) voc.relations) (list_any test (true_tuples P f j r)) e).1 in same_tuple r w.0 xs i w.1 l w.2))
       (λ e. and_from (list_any (same_pred r) voc.relations) (list_any test (true_tuples P f j r)) (any_from (same_pred r) voc.relations r i (same_pred-refl r)) (any_from test (true_tuples P f j r) xs (tuple_true r xs l e) (same_cells-refl cells)))
 
@@ -235,7 +232,7 @@ module _ (P : Parts) (f : Form) (j : Fact → Bool) (fair : IsFair (vocabulary P
       let cells = values_of (number P f j) (voc.columns (Stored r)) xs in
       let test : StaticRow → Bool = λ row. nat_eq row.rel r.0 && same_cells row.cells cells in
       let rows = (network_of P f j).rows in
-      same_bool (list_any test rows) (j (Tuple (Stored r) xs))
+      both_ways (list_any test rows) (j (Tuple (Stored r) xs))
       (λ e.
       let w = any_gives test rows e in
       let p = and_parts (nat_eq w.0.rel r.0) (same_cells w.0.cells cells) w.2 in

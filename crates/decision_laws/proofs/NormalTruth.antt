@@ -1,18 +1,14 @@
 -- A normal form is true where the formula is, or where it isn't.
-use Rattle.std.proofs.Common.{Bool, List, [], ap, ap₂, false, not, refl, true, ℕ, ◌&&◌, ◌||◌, ◌∙◌, ◌∷◌, ◌≡◌}
+use Rattle.std.proofs.Common.{Bool, List, [], ap, ap₂, false, not, refl, true, ℕ, ◌&&◌, ◌||◌, ◌∙◌, ◌∷◌, ◌≡◌, sym}
 use Rattle.std.proofs.Math.Path.{fun_ext}
 use Rattle.std.specs.List.{list_all, list_any}
+use Rattle.std.proofs.Math.Bool.{not-not}
 use Rattle.csdn_core.specs.declared.syntax.Formula.{Formula}
 use Rattle.csdn_core.specs.declared.syntax.Formula.TheVariants as f
 use Rattle.csdn_core.specs.Tree.{conjunction, disjunction, equivalence, existential, implication, negation, universal}
 use Rattle.csdn_core.specs.Truth.{Assignment, Structure, same_truth, truth, with_var}
-use Rattle.csdn_core.specs.Network.{elements}
-use Rattle.decision_laws.specs.Forms.{Atom, Same, form_truth, normal_form, signed}
+use Rattle.decision_laws.specs.Forms.{form_truth, normal_form, signed}
 use Rattle.decision_laws.specs.Laws.{form_of}
-
-twice : (b : Bool) → b ≡ not (not b)
-twice true = refl
-twice false = refl
 
 not_and : (a b : Bool) → (not a || not b) ≡ not (a && b)
 not_and true b = refl
@@ -37,6 +33,12 @@ differ true false = refl
 differ false true = refl
 differ false false = refl
 
+-- truth values that are the same are equal
+pub same_truth-is : (a b : Bool) → same_truth a b ≡ true → a ≡ b
+same_truth-is true b h = sym h
+same_truth-is false true h = h
+same_truth-is false false h = refl
+
 not_all : (p : ℕ → Bool) (xs : List ℕ) → list_any (λ m. not (p m)) xs ≡ not (list_all p xs)
 not_all p [] = refl
 not_all p (x ∷ xs) = ap (λ b. not (p x) || b) (not_all p xs) ∙ not_and (p x) (list_all p xs)
@@ -55,7 +57,7 @@ module _ (M : Structure) where
   truth-normal sign (f.Atom r ts) e = refl
   truth-normal sign (f.Same t u) e = refl
   truth-normal true (negation p) e = truth-normal false p e
-  truth-normal false (negation p) e = truth-normal true p e ∙ twice (truth M p e)
+  truth-normal false (negation p) e = truth-normal true p e ∙ sym (not-not (truth M p e))
   truth-normal true (conjunction p q) e = ap₂ (λ a b. a && b) (truth-normal true p e) (truth-normal true q e)
   truth-normal false (conjunction p q) e = ap₂ (λ a b. a || b) (truth-normal false p e) (truth-normal false q e) ∙ not_and _ _
   truth-normal true (disjunction p q) e = ap₂ (λ a b. a || b) (truth-normal true p e) (truth-normal true q e)

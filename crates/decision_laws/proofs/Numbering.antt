@@ -2,17 +2,17 @@
 use Rattle.std.proofs.Common.{Bool, List, None, Option, Some, [], ap, ap₂, arith, cond, eq-eqb, eqb-true, false, inl, inr, is_none, length, nat_eq, not, refl, slice_index_or, subst, suc, sym, true, zero, ℕ, ◌+◌, ◌<◌, ◌∙◌, ◌∷◌, ◌≡◌, ◌≤◌}
 use Rattle.std.proofs.lemmas.Bool.{cases_eq, false≢true}
 use Rattle.std.specs.List.{list_any}
+use Rattle.std.specs.Cmp.{both_ways}
 use Rattle.csdn_core.specs.declared.terms.Sort.{Sort}
 use Rattle.csdn_core.specs.declared.terms.Sort.TheVariants.{Ho, Pr, Sw}
 use Rattle.csdn_core.specs.declared.terms.Term.TheVariants.{Port}
-use Rattle.decision_laws.proofs.Basics.{IsVocabulary, any_from, in_place, index_of-below, place_in, same_bool}
+use Rattle.decision_laws.proofs.Basics.{IsVocabulary, any_from, in_place, index_of-below, place_in}
 use Rattle.decision_laws.proofs.Distinct.{enough_left, filter_distinct, length-places, member_at, no_more, places_distinct, position_in-below, position_in-one, same_place}
 use Rattle.decision_laws.proofs.Lists.{filter_in, in_filter}
 use Rattle.decision_laws.specs.Classes.{IsNumbering, class_number, classes_of, first_from, first_of, free_numbers, numeral_among, numeral_of, port_number, position_in, unnumbered}
-use Rattle.decision_laws.specs.Clauses.{AreDistinct, no}
+use Rattle.decision_laws.specs.Clauses.{AreDistinct}
 use Rattle.decision_laws.specs.Copies.{Equation, Fact, IsFair, known, numeral_place}
-use Rattle.decision_laws.specs.Tied.{same, turned}
-use Rattle.decision_laws.specs.Vocabulary.{IsIn, Vocabulary, places_from, vocabulary}
+use Rattle.decision_laws.specs.Vocabulary.{IsIn, Vocabulary, places_from}
 
 step_same : (b c : Bool) (i x y : ℕ) → b ≡ c → x ≡ y → cond b i x ≡ cond c i y
 step_same b c i x y e f = ap₂ (λ z w. cond z i w) e f
@@ -37,7 +37,7 @@ first_found t i (suc n) k a b h =
 
 alike_rows : (voc : Vocabulary) (n : Sort → ℕ) (j : Fact → Bool) → IsFair voc n j → (s : Sort) (a b c : ℕ) → a < n s → b < n s → c < n s → j (Equation s a b) ≡ true → j (Equation s c a) ≡ j (Equation s c b)
 alike_rows voc n j fair s a b c la lb lc e =
-    same_bool (j (Equation s c a)) (j (Equation s c b))
+    both_ways (j (Equation s c a)) (j (Equation s c b))
     (λ h. fair.chained s c a b lc la lb h e)
     (λ h. fair.chained s c b a lc lb la h (fair.turned s a b la lb e))
 
@@ -56,7 +56,7 @@ first_of_joins voc n j fair s a b la lb e =
 
 first_of-classes : (voc : Vocabulary) (n : Sort → ℕ) (j : Fact → Bool) → IsFair voc n j → (s : Sort) (a b : ℕ) → a < n s → b < n s → j (Equation s a b) ≡ nat_eq (first_of voc n j s a) (first_of voc n j s b)
 first_of-classes voc n j fair s a b la lb =
-    same_bool (j (Equation s a b)) (nat_eq (first_of voc n j s a) (first_of voc n j s b))
+    both_ways (j (Equation s a b)) (nat_eq (first_of voc n j s a) (first_of voc n j s b))
     (λ e. eq-eqb (first_of voc n j s a) (first_of voc n j s b) (first_of-same voc n j fair s a b la lb e))
     (λ e. first_of_joins voc n j fair s a b la lb (eqb-true (first_of voc n j s a) (first_of voc n j s b) e))
 
@@ -137,7 +137,7 @@ module _ (voc : Vocabulary) (n : Sort → ℕ) (j : Fact → Bool) (r : IsReadab
       let x = first_of voc n j s a in
       let y = first_of voc n j s b in
       let cs = classes_of voc n j s in
-      same_bool (j (Equation s a b)) (nat_eq (suc (position_in x cs)) (suc (position_in y cs)))
+      both_ways (j (Equation s a b)) (nat_eq (suc (position_in x cs)) (suc (position_in y cs)))
       (λ e. eq-eqb (suc (position_in x cs)) (suc (position_in y cs)) (ap (λ z. suc (position_in z cs)) (first_of-same voc n j r.fair s a b la lb e)))
       (λ e. first_of_joins voc n j r.fair s a b la lb (position_in-one x y cs (first_of_in s a la) (first_of_in s b lb) (let q = eqb-true (suc (position_in x cs)) (suc (position_in y cs)) e in omega (arith, q))))
 
@@ -199,7 +199,7 @@ module _ (voc : Vocabulary) (n : Sort → ℕ) (j : Fact → Bool) (r : IsReadab
   class_number-classes Sw a b la lb = counted Sw a b la lb
   class_number-classes Ho a b la lb = counted Ho a b la lb
   class_number-classes Pr a b la lb =
-      same_bool (j (Equation Pr a b)) (nat_eq (class_number voc n j Pr a) (class_number voc n j Pr b))
+      both_ways (j (Equation Pr a b)) (nat_eq (class_number voc n j Pr a) (class_number voc n j Pr b))
       (λ e. eq-eqb (class_number voc n j Pr a) (class_number voc n j Pr b) (same_port a b la lb e))
       (λ e. one_port a b (numeral_of voc n j a) (numeral_of voc n j b) la lb refl refl (eqb-true (class_number voc n j Pr a) (class_number voc n j Pr b) e))
 

@@ -1,15 +1,14 @@
 -- A model of all clauses is a fair judgement that makes the copies true.
 use Rattle.std.proofs.Common.{Bool, List, [], ap, append-nil, append_assoc, arith, cond, eqb-true, false, flat_map, inl, inr, lt-ltb, nat_eq, nat_lt, ne_eqb, not, refl, subst, suc, sym, true, ℕ, ◌&&◌, ◌++◌, ◌+◌, ◌<◌, ◌||◌, ◌∙◌, ◌∷◌, ◌≡◌}
-use Rattle.std.proofs.lemmas.Bool.{and_from, cases_eq, cases_order, false≢true, or_cases}
+use Rattle.std.proofs.lemmas.Bool.{and_from, cases_eq, cases_order, false≢true, or_cases, or_left, or_right}
 use Rattle.csdn_core.specs.declared.terms.Sort.{Sort}
 use Rattle.csdn_core.specs.declared.terms.Sort.TheVariants.{Ho, Pr, Sw}
 use Rattle.csdn_core.specs.declared.terms.Pred.{Pred}
-use Rattle.decision_laws.proofs.Basics.{all_from, in_place, or_from_left, or_from_right, place_in}
+use Rattle.decision_laws.proofs.Basics.{all_from, in_place, place_in}
 use Rattle.decision_laws.proofs.Lists.{in_flat, in_left, in_map, in_right, tuple_in}
 use Rattle.decision_laws.specs.Classes.{all_tuples}
 use Rattle.decision_laws.specs.Clauses.{Lit, chain_clause, chain_clauses, clause_true, either_clauses, equality_clauses, is_chain, lit_true, member_clause, no, node_clauses, numeral_clauses, replace_clause, replace_clauses, replace_from, same_clauses, size, sum_from, top, whole_clauses, yes}
 use Rattle.decision_laws.specs.Copies.{AreAlike, AreBelow, Both, Copy, Each, Either, Equation, Fact, IsFair, Known, Literal, Tuple, judge, numeral_place}
-use Rattle.decision_laws.specs.Tied.{replaced, same, turned}
 use Rattle.decision_laws.specs.Vocabulary.{IsIn, Vocabulary, places_from}
 
 -- no truth value in it
@@ -50,10 +49,10 @@ not_either true = refl
 not_either false = refl
 
 either_same : (b : Bool) → b ≡ true → (b || b) ≡ true
-either_same b e = or_from_left b b e
+either_same b e = or_left b b e
 
 either_tt : (v : ℕ → Bool) (x a b : ℕ) (t : Bool) → nat_eq a b ≡ t → AllTrue v (cond t ((no x ∷ yes a ∷ []) ∷ []) ((no x ∷ yes a ∷ yes b ∷ []) ∷ [])) → v x ≡ true → (v a || v b) ≡ true
-either_tt v x a b true q h e = or_from_left (v a) (v b) (two_step (v x) (v a) (h (no x ∷ yes a ∷ []) (inl refl)) e)
+either_tt v x a b true q h e = or_left (v a) (v b) (two_step (v x) (v a) (h (no x ∷ yes a ∷ []) (inl refl)) e)
 either_tt v x a b false q h e = three_step (v x) (v a) (v b) (h (no x ∷ yes a ∷ yes b ∷ []) (inl refl)) e
 
 either_tf : (v : ℕ → Bool) (x a b : ℕ) (t : Bool) → nat_eq a b ≡ t → AllTrue v (cond t [] ((no x ∷ yes a ∷ no b ∷ []) ∷ [])) → v x ≡ true → (v a || not (v b)) ≡ true
@@ -65,7 +64,7 @@ either_ft v x a b true q h e = subst (λ z. (not (v a) || v z) ≡ true) (eqb-tr
 either_ft v x a b false q h e = three_step (v x) (not (v a)) (v b) (h (no x ∷ no a ∷ yes b ∷ []) (inl refl)) e
 
 either_ff : (v : ℕ → Bool) (x a b : ℕ) (t : Bool) → nat_eq a b ≡ t → AllTrue v (cond t ((no x ∷ no a ∷ []) ∷ []) ((no x ∷ no a ∷ no b ∷ []) ∷ [])) → v x ≡ true → (not (v a) || not (v b)) ≡ true
-either_ff v x a b true q h e = or_from_left (not (v a)) (not (v b)) (two_step (v x) (not (v a)) (h (no x ∷ no a ∷ []) (inl refl)) e)
+either_ff v x a b true q h e = or_left (not (v a)) (not (v b)) (two_step (v x) (not (v a)) (h (no x ∷ no a ∷ []) (inl refl)) e)
 either_ff v x a b false q h e = three_step (v x) (not (v a)) (not (v b)) (h (no x ∷ no a ∷ no b ∷ []) (inl refl)) e
 
 either_read : (v : ℕ → Bool) (x : ℕ) (a b : Lit) → AllTrue v (either_clauses x a b) → v x ≡ true → (lit_true v a || lit_true v b) ≡ true
@@ -98,8 +97,8 @@ node_read num v k (Either p q) i h e =
     let later = right_true v (node_clauses num (suc k) p) (node_clauses num (suc k + size p) q ++ either_clauses k a b) h in
     let last = right_true v (node_clauses num (suc k + size p) q) (either_clauses k a b) later in
     elim (or_cases (lit_true v a) (lit_true v b) (either_read v k a b last e)) [
-      | inl t ↦ or_from_left (judge (λ f. v (num f)) p) (judge (λ f. v (num f)) q) (node_read num v (suc k) p i.0 (left_true v (node_clauses num (suc k) p) (node_clauses num (suc k + size p) q ++ either_clauses k a b) h) t)
-      | inr t ↦ or_from_right (judge (λ f. v (num f)) p) (judge (λ f. v (num f)) q) (node_read num v (suc k + size p) q i.1 (left_true v (node_clauses num (suc k + size p) q) (either_clauses k a b) later) t)
+      | inl t ↦ or_left (judge (λ f. v (num f)) p) (judge (λ f. v (num f)) q) (node_read num v (suc k) p i.0 (left_true v (node_clauses num (suc k) p) (node_clauses num (suc k + size p) q ++ either_clauses k a b) h) t)
+      | inr t ↦ or_right (judge (λ f. v (num f)) p) (judge (λ f. v (num f)) q) (node_read num v (suc k + size p) q i.1 (left_true v (node_clauses num (suc k + size p) q) (either_clauses k a b) later) t)
     ]
 node_read num v k (Each n c) i h e =
     all_from (λ x. judge (λ f. v (num f)) (c x)) (places_from 0 n) (λ x o.

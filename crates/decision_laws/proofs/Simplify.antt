@@ -2,10 +2,10 @@
 use Rattle.std.proofs.Common.{Bool, List, None, Option, Some, [], ap, ap₂, arith, false, max, refl, sym, true, ℕ, ◌&&◌, ◌+◌, ◌||◌, ◌∙◌, ◌∷◌, ◌≡◌, ◌≤◌}
 use Rattle.std.proofs.lemmas.Bool.{and_from, and_parts, false≢true}
 use Rattle.std.specs.List.{list_all, list_any}
+use Rattle.std.proofs.Math.Bool.{and-true, and-false, or-true, or-false}
 use Rattle.csdn_core.specs.declared.terms.VarId.{VarId}
 use Rattle.csdn_core.specs.declared.terms.Sort.{Sort}
 use Rattle.csdn_core.specs.Truth.{Assignment, Structure, with_var}
-use Rattle.csdn_core.specs.Network.{elements}
 use Rattle.decision_laws.proofs.Basics.{IsStructure}
 use Rattle.decision_laws.specs.Forms.{And, Atom, Fixed, ForAll, ForSome, Form, Or, Same, all_by, and_by, fixed_of, form_truth, in_fragment, is_universal, need, one_if, or_by, simplified, some_by}
 use Rattle.decision_laws.specs.Vocabulary.{IsIn, Vocabulary, fits}
@@ -28,22 +28,6 @@ fixed_is (And l r) b e = cc
 fixed_is (Or l r) b e = cc
 fixed_is (ForAll v s body) b e = cc
 fixed_is (ForSome v s body) b e = cc
-
-and-true : (b : Bool) → (b && true) ≡ b
-and-true true = refl
-and-true false = refl
-
-and-false : (b : Bool) → (b && false) ≡ false
-and-false true = refl
-and-false false = refl
-
-or-true : (b : Bool) → (b || true) ≡ true
-or-true true = refl
-or-true false = refl
-
-or-false : (b : Bool) → (b || false) ≡ b
-or-false true = refl
-or-false false = refl
 
 form_truth-and_by : (m : Structure) (e : Assignment) (o u : Option Bool) (f g : Form) → fixed_of f ≡ o → fixed_of g ≡ u → form_truth m (and_by o u f g) e ≡ (form_truth m f e && form_truth m g e)
 form_truth-and_by m e (Some true) u f g p q = sym (ap (λ h. form_truth m h e && form_truth m g e) (fixed_is f true p))

@@ -1,21 +1,18 @@
 -- What one step of the walk over a tree adds.
-use Rattle.std.proofs.Common.{Bool, IsSome, List, None, Option, Some, [], ap, append-nil, append_assoc, ap₂, arith, cond, false, flat_map, get_or, inl, inr, length, map, max, option_to_list, refl, suc, sym, true, zero, ℕ, ◌++◌, ◌+◌, ◌<◌, ◌==◌, ◌↔◌, ◌∙◌, ◌∷◌, ◌≡◌}
+use Rattle.std.proofs.Common.{Bool, IsSome, List, None, Option, Some, [], ap, append-nil, append_assoc, ap₂, arith, cond, false, flat_map, get_or, inl, inr, length, max, option_to_list, refl, suc, sym, true, zero, ℕ, ◌++◌, ◌+◌, ◌<◌, ◌==◌, ◌↔◌, ◌∙◌, ◌∷◌, ◌≡◌}
 use Rattle.std.proofs.lemmas.Bool.{cases_eq, false≢true}
 use Rattle.std.proofs.Math.Path.{fun_ext}
 use Rattle.csdn_core.specs.declared.terms.VarId.{VarId}
 use Rattle.csdn_core.specs.declared.terms.Sort.{Sort}
-use Rattle.csdn_core.specs.declared.terms.Term.{Term}
-use Rattle.csdn_core.specs.declared.terms.Term.TheVariants.{Const, Port, Var}
-use Rattle.csdn_core.specs.declared.program.Parts.{Parts}
 use Rattle.std.proofs.lemmas.List.{take_more}
 use Rattle.std.specs.Prelude.{take}
 use Rattle.decision_laws.specs.declared.copies.Bind.{Bind}
-use Rattle.decision_laws.specs.Copies.{Both, Copy, Either, Equation, Fact, Literal, Scope, Tuple, copies, each, nothing, place, place_sort}
-use Rattle.decision_laws.specs.Example.{one, r}
-use Rattle.decision_laws.specs.Forms.{And, Atom, Fixed, ForAll, ForSome, Form, Or, Same, need, one_if}
+use Rattle.decision_laws.specs.Copies.{Copy, Fact, Scope, copies, each, nothing}
+use Rattle.decision_laws.specs.Example.{r}
+use Rattle.decision_laws.specs.Forms.{And, ForAll, ForSome, Form, Or, need, one_if}
 use Rattle.decision_laws.specs.Leaves.{leaves}
-use Rattle.decision_laws.specs.Vocabulary.{Vocabulary, find_or, places_from, vocabulary}
-use Rattle.decision_laws.specs.Walk.{AddsCopy, AddsEach, AddsLeaves, State, copies_at, copy_at, names_alone, scope_of, scope_over}
+use Rattle.decision_laws.specs.Vocabulary.{Vocabulary, find_or, places_from}
+use Rattle.decision_laws.specs.Walk.{AddsCopy, AddsEach, AddsLeaves, State, copies_at, copy_at, scope_of, scope_over}
 
 abbrev pub entry : Bind → ℕ × (Sort × ℕ)
 entry b = (b.var.0, (b.sort, b.place))

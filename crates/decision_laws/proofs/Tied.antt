@@ -1,9 +1,11 @@
 -- Each tied clause is true where a fair judgement makes the copies true.
 use Rattle.std.proofs.Common.{Bool, List, [], ap, ap₂, arith, false, inl, inr, not, refl, subst, sym, true, ℕ, ◌++◌, ◌<◌, ◌||◌, ◌∙◌, ◌∷◌, ◌≡◌}
-use Rattle.std.proofs.lemmas.Bool.{and_parts, false≢true, or_cases}
+use Rattle.std.proofs.lemmas.Bool.{and_parts, false≢true, or_cases, or_left, or_right}
+use Rattle.std.specs.Cmp.{both_ways}
+use Rattle.std.proofs.Math.Bool.{not-not}
 use Rattle.csdn_core.specs.declared.terms.Sort.{Sort}
 use Rattle.csdn_core.specs.declared.terms.Sort.TheVariants.{Pr}
-use Rattle.decision_laws.proofs.Basics.{all_at, any_from, any_gives, or_from_left, or_from_right, place_in, same_bool}
+use Rattle.decision_laws.proofs.Basics.{all_at, any_from, any_gives, place_in}
 use Rattle.decision_laws.specs.Clauses.{IsOver, Lit, clause_true, lit_true, mirror}
 use Rattle.decision_laws.specs.Copies.{AreAlike, Both, Copy, Each, Either, Equation, Fact, IsFair, Known, Literal, Tuple, judge, numeral_place}
 use Rattle.decision_laws.specs.Forms.{signed}
@@ -13,7 +15,7 @@ use Rattle.decision_laws.specs.Vocabulary.{Vocabulary, places_from}
 mirror-same : (voc : Vocabulary) (n : Sort → ℕ) (j : Fact → Bool) → IsFair voc n j → (f : Fact) → IsOver n voc f → j (mirror f) ≡ j f
 mirror-same voc n j fair (Tuple rel xs) o = refl
 mirror-same voc n j fair (Equation s a b) o =
-    same_bool (j (Equation s b a)) (j (Equation s a b)) (λ e. fair.turned s b a o.1 o.0 e) (λ e. fair.turned s a b o.0 o.1 e)
+    both_ways (j (Equation s b a)) (j (Equation s a b)) (λ e. fair.turned s b a o.1 o.0 e) (λ e. fair.turned s a b o.0 o.1 e)
 
 -- a literal says what its node is judged
 pub lit_judged : (voc : Vocabulary) (n : Sort → ℕ) (j : Fact → Bool) → IsFair voc n j → (whole : Copy) (name : ℕ → Copy) (v : ℕ → Bool) → ((x : ℕ) → v x ≡ judge j (name x)) → (p : Copy) (l : Lit) → IsLitOf n voc whole name p l → lit_true v l ≡ judge j p
@@ -34,13 +36,9 @@ member_judged j (Both l r) q i h =
 member_judged j (Either l r) q i h = elim i [ ]
 member_judged j (Each n c) q i h = ap (judge j) i.2 ∙ all_at (λ k. judge j (c k)) (places_from 0 n) i.0 (place_in 0 n i.0 (omega arith) (omega (arith, i.1))) h
 
-not_twice : (b : Bool) → b ≡ not (not b)
-not_twice true = refl
-not_twice false = refl
-
 pub negated-true : (v : ℕ → Bool) (l : Lit) → lit_true v (negated l) ≡ not (lit_true v l)
 negated-true v (true, x) = refl
-negated-true v (false, x) = not_twice (v x)
+negated-true v (false, x) = sym (not-not (v x))
 
 -- a clause with a premise: its rest is true where the premise is
 premise_step : (b c d : Bool) → d ≡ not b → (b ≡ true → c ≡ true) → (d || c) ≡ true
@@ -51,7 +49,7 @@ pub premise : (v : ℕ → Bool) (l : Lit) (c : List Lit) → (lit_true v l ≡ 
 premise v l c f = premise_step (lit_true v l) (clause_true v c) (lit_true v (negated l)) (negated-true v l) f
 
 pub one_true : (v : ℕ → Bool) (l : Lit) (c : List Lit) → lit_true v l ≡ true → clause_true v (l ∷ c) ≡ true
-one_true v l c e = or_from_left (lit_true v l) (clause_true v c) e
+one_true v l c e = or_left (lit_true v l) (clause_true v c) e
 
 -- the rest is true where all equations are
 differences_true : (voc : Vocabulary) (n : Sort → ℕ) (j : Fact → Bool) → IsFair voc n j → (whole : Copy) (name : ℕ → Copy) (v : ℕ → Bool) → ((x : ℕ) → v x ≡ judge j (name x)) → (c : List Lit) (ss : List Sort) (xs ys : List ℕ) (ls : List Lit) → AreDifferences n voc whole name ss xs ys ls → (AreAlike n j ss xs ys → clause_true v c ≡ true) → clause_true v (ls ++ c) ≡ true
@@ -76,7 +74,7 @@ form_true voc n j fair whole w name v h c (choice p q x a b o k l) =
     premise v x (a ∷ b ∷ []) (λ t.
     elim (or_cases (judge j p) (judge j q) (sym (lit_judged voc n j fair whole name v h (Either p q) x o) ∙ t)) [
       | inl e ↦ one_true v a (b ∷ []) (lit_judged voc n j fair whole name v h p a k ∙ e)
-      | inr e ↦ or_from_right (lit_true v a) (clause_true v (b ∷ [])) (one_true v b [] (lit_judged voc n j fair whole name v h q b l ∙ e))
+      | inr e ↦ or_right (lit_true v a) (clause_true v (b ∷ [])) (one_true v b [] (lit_judged voc n j fair whole name v h q b l ∙ e))
     ])
 form_true voc n j fair whole w name v h c (same s a x o) =
     one_true v x [] (lit_judged voc n j fair whole name v h (Literal true (Equation s a a)) x o ∙ fair.same s a o.1.0.0)

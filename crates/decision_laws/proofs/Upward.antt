@@ -1,21 +1,19 @@
 -- A sentence that is true in a structure has a fair judgement that makes its copies true.
-use Rattle.std.proofs.Common.{Bool, List, [], ap, ap₂, arith, cond, eq-eqb, eqb-true, false, get_or, lt-ltb, ltb-true, nat_eq, nat_lt, ne_eqb, refl, sym, true, ℕ, ◌∙◌, ◌∷◌, ◌≡◌}
+use Rattle.std.proofs.Common.{Bool, List, [], ap, ap₂, arith, cond, eq-eqb, eqb-true, get_or, lt-ltb, ltb-true, nat_eq, nat_lt, ne_eqb, refl, sym, true, ℕ, ◌∙◌, ◌∷◌, ◌≡◌}
 use Rattle.csdn_core.specs.declared.terms.Sort.{Sort}
 use Rattle.csdn_core.specs.declared.terms.Sort.TheVariants.{Pr}
 use Rattle.csdn_core.specs.declared.terms.Term.{Term}
 use Rattle.csdn_core.specs.declared.terms.Term.TheVariants.{Port}
 use Rattle.csdn_core.specs.Truth.{Structure, value}
-use Rattle.csdn_core.specs.Network.{elements}
 use Rattle.csdn_core.specs.Run.{no_values}
 use Rattle.decision_laws.proofs.Agree.{Interprets, Models}
-use Rattle.decision_laws.proofs.Basics.{IsClosed, IsStructure, IsVocabulary, get_or-index_of, has_term_at, index_of-below}
+use Rattle.decision_laws.proofs.Basics.{IsClosed, IsStructure, IsVocabulary, get_or-index_of, has_term_at, index_of-below, inside_step}
 use Rattle.decision_laws.proofs.Choice.{IsInside, choose, met_true}
 use Rattle.decision_laws.proofs.Simplify.{fits-simplified, form_truth-simplified, inside-simplified, need-simplified}
 use Rattle.decision_laws.specs.Classes.{Meaning, values_of}
 use Rattle.decision_laws.specs.Copies.{AreAlike, Equation, Fact, IsFair, Tuple, constants, copies_of, index_of, judge, known, numeral_place}
 use Rattle.decision_laws.specs.Forms.{Form, form_truth, simplified}
-use Rattle.decision_laws.specs.Tied.{replaced, same, turned}
-use Rattle.decision_laws.specs.Vocabulary.{IsIn, Vocabulary, has_term, vocabulary}
+use Rattle.decision_laws.specs.Vocabulary.{Vocabulary, has_term}
 
 -- what the names denote, and some element for each further constant
 abbrev pub start : Vocabulary → Structure → (Sort → ℕ) → Meaning
@@ -25,10 +23,6 @@ start-known : (voc : Vocabulary) (m : Structure) (d : Sort → ℕ) (s : Sort) (
 start-known voc m d s t h =
     let a = index_of t (voc.names s) in
     sym (ap (λ b. cond b (value m no_values (get_or (voc.names s) a (Port 0))) (d s)) (lt-ltb a (known voc s) (index_of-below t (voc.names s) h)) ∙ ap (value m no_values) (get_or-index_of t (Port 0) (voc.names s) h))
-
-inside_step : (m : Structure) (s : Sort) (b : Bool) (x y : ℕ) → (b ≡ true → IsIn x (m.elements s)) → IsIn y (m.elements s) → IsIn (cond b x y) (m.elements s)
-inside_step m s true x y i k = i refl
-inside_step m s false x y i k = k
 
 start_inside : (voc : Vocabulary) (m : Structure) → (o : IsStructure voc m) → IsInside m (start voc m (λ s. (o.filled s).0))
 start_inside voc m o s a =

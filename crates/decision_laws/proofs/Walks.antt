@@ -1,11 +1,10 @@
 -- From copies to the sentence, and for formulas without existential quantifiers back.
 use Rattle.std.proofs.Common.{Bool, ap, arith, inl, inr, subst, sym, true, ℕ, ◌+◌, ◌<◌, ◌∙◌, ◌∷◌, ◌≡◌, ◌≤◌}
-use Rattle.std.proofs.lemmas.Bool.{and_from, and_parts, false≢true, or_cases}
+use Rattle.std.proofs.lemmas.Bool.{and_from, and_parts, false≢true, or_cases, or_left, or_right}
 use Rattle.csdn_core.specs.declared.terms.Sort.{Sort}
 use Rattle.csdn_core.specs.Truth.{Structure, with_var}
-use Rattle.csdn_core.specs.Network.{elements}
 use Rattle.decision_laws.proofs.Agree.{IsRanged, Models, assigned, atom_agrees, equation_agrees, scope_sorts}
-use Rattle.decision_laws.proofs.Basics.{all_at, all_from, any_from, judge_each_at, judge_each_from, one_if-same, or_from_left, or_from_right, universal-need, universal_inside}
+use Rattle.decision_laws.proofs.Basics.{all_at, all_from, any_from, judge_each_at, judge_each_from, one_if-same, universal-need, universal_inside}
 use Rattle.decision_laws.specs.Classes.{Meaning}
 use Rattle.decision_laws.specs.Copies.{Fact, Scope, copies, judge}
 use Rattle.decision_laws.specs.Forms.{And, Atom, Fixed, ForAll, ForSome, Form, Or, Same, form_truth, in_fragment, is_universal, need, one_if, signed}
@@ -38,8 +37,8 @@ copies_true voc n m ρ j o cover home (Or f g) env base l h inside room e =
     let p = and_parts (fits voc (scope_sorts env) f) (fits voc (scope_sorts env) g) h in
     let q = and_parts (in_fragment f) (in_fragment g) inside in
     elim (or_cases (judge j (copies voc n f env base)) (judge j (copies voc n g env base)) e) [
-      | inl a ↦ or_from_left (form_truth m f (assigned ρ env)) (form_truth m g (assigned ρ env)) (copies_true voc n m ρ j o cover home f env base l p.0 q.0 (λ s. omega (arith, room s)) a)
-      | inr b ↦ or_from_right (form_truth m f (assigned ρ env)) (form_truth m g (assigned ρ env)) (copies_true voc n m ρ j o cover home g env base l p.1 q.1 (λ s. omega (arith, room s)) b)
+      | inl a ↦ or_left (form_truth m f (assigned ρ env)) (form_truth m g (assigned ρ env)) (copies_true voc n m ρ j o cover home f env base l p.0 q.0 (λ s. omega (arith, room s)) a)
+      | inr b ↦ or_right (form_truth m f (assigned ρ env)) (form_truth m g (assigned ρ env)) (copies_true voc n m ρ j o cover home g env base l p.1 q.1 (λ s. omega (arith, room s)) b)
     ]
 copies_true voc n m ρ j o cover home (ForAll v s body) env base l h inside room e =
     all_from (λ x. form_truth m body (with_var (assigned ρ env) v x)) (m.elements s) (λ x i.
@@ -74,8 +73,8 @@ universal_true voc n m ρ j o home (Or f g) env base l h u e =
     let one = judge j (copies voc n f env base) in
     let two = judge j (copies voc n g env base) in
     elim (or_cases (form_truth m f (assigned ρ env)) (form_truth m g (assigned ρ env)) e) [
-      | inl a ↦ or_from_left one two (universal_true voc n m ρ j o home f env base l p.0 q.0 a)
-      | inr b ↦ or_from_right one two (universal_true voc n m ρ j o home g env base l p.1 q.1 b)
+      | inl a ↦ or_left one two (universal_true voc n m ρ j o home f env base l p.0 q.0 a)
+      | inr b ↦ or_right one two (universal_true voc n m ρ j o home g env base l p.1 q.1 b)
     ]
 universal_true voc n m ρ j o home (ForAll v s body) env base l h u e =
     judge_each_from j (n s) (λ a. copies voc n body ((v.0, (s, a)) ∷ env) base) (λ a here.

@@ -13,12 +13,14 @@ use Rattle.csdn_core.specs.Truth.{value}
 use Rattle.csdn_core.specs.Network.{IsNetwork, Network, State, elements, structure}
 use Rattle.csdn_core.specs.Run.{no_values}
 use Rattle.std.proofs.lemmas.List.Elements.{All-contains}
-use Rattle.decision_laws.proofs.Basics.{IsClosed, IsStructure, IsVocabulary, same_sort-refl, same_sort-true}
+use Rattle.csdn_core.specs.Same.{same_sort}
+use Rattle.csdn_core.proofs.Same.{same_sort-refl, same_sort-is}
+use Rattle.decision_laws.proofs.Basics.{IsClosed, IsStructure, IsVocabulary}
 use Rattle.decision_laws.proofs.Lists.{contains_in, in_both, in_contains, in_map, in_right, in_term, map_in, term_in}
 use Rattle.decision_laws.proofs.NormalTruth.{form_truth-form_of}
 use Rattle.decision_laws.proofs.Upward.{judged}
-use Rattle.decision_laws.specs.Copies.{Fact, constants}
-use Rattle.decision_laws.specs.Forms.{Form, form_truth, same_sort}
+use Rattle.decision_laws.specs.Copies.{Fact}
+use Rattle.decision_laws.specs.Forms.{Form, form_truth}
 use Rattle.decision_laws.specs.Laws.{AgreesOnNames, IsJudgement, IsSentence, IsTrueIn, form_of, words}
 use Rattle.decision_laws.specs.Vocabulary.{IsIn, constants_from, has_term, numerals_of, sort_or, term_fits, vocabulary}
 
@@ -34,7 +36,7 @@ among_later s k c cs t h =
 among_step : (b : Bool) (s : Sort) (k : ℕ) (c : Constant) (cs : List Constant) (t : Term) → same_sort c.sort s ≡ b → IsIn t (cond b (Const (record { 0 = k }) ∷ constants_from s (suc k) cs) (constants_from s (suc k) cs)) → (IsIn t (constants_from s (suc k) cs) → IsAmong s (suc k) cs t) → IsAmong s k (c ∷ cs) t
 among_step true s k c cs t q i f =
     elim i [
-      | inl e ↦ (let z : k ≡ k + 0 = omega arith in (0, c, refl, same_sort-true c.sort s q, e ∙ ap (λ y. Const (record { 0 = y })) z))
+      | inl e ↦ (let z : k ≡ k + 0 = omega arith in (0, c, refl, same_sort-is c.sort s q, e ∙ ap (λ y. Const (record { 0 = y })) z))
       | inr r ↦ among_later s k c cs t (f r)
     ]
 among_step false s k c cs t q i f = among_later s k c cs t (f i)

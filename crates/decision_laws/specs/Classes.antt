@@ -1,5 +1,5 @@
 -- The network and the state of a fair judgement: their elements are the classes of equal constants.
-use Rattle.std.specs.Prelude.{◌≡◌, ℕ, zero, suc, ◌+◌, ◌<◌, ◌==◌, Bool, true, false, not, ◌&&◌, List, [], ◌∷◌, map, flat_map, filter, length, slice_get, slice_index, slice_index_or, if◌then◌else◌, Option, Some, None, is_none, Contains}
+use Rattle.std.specs.Prelude.{◌≡◌, ℕ, zero, suc, ◌+◌, ◌<◌, ◌==◌, Bool, not, ◌&&◌, List, [], ◌∷◌, map, flat_map, filter, length, slice_get, slice_index, slice_index_or, if◌then◌else◌, Option, Some, None, is_none, Contains}
 use Rattle.std.specs.List.{list_any}
 use Rattle.csdn_core.specs.declared.terms.Sort.{Sort}
 use Rattle.csdn_core.specs.declared.terms.Sort.TheVariants.{Sw, Ho, Pr}

@@ -1,13 +1,14 @@
 -- Copies of a sentence over finitely many constants, and judgements of them.
-use Rattle.std.specs.Prelude.{◌≡◌, ◌≢◌, ℕ, zero, suc, ◌+◌, ◌<◌, max, Bool, true, false, ◌&&◌, ◌||◌, List, [], ◌∷◌, map, length, if◌then◌else◌, IsTrue, IsFalse}
+use Rattle.std.specs.Prelude.{◌≢◌, ℕ, zero, suc, ◌+◌, ◌<◌, max, Bool, true, ◌&&◌, ◌||◌, List, [], ◌∷◌, map, length, if◌then◌else◌, IsTrue, IsFalse}
 use Rattle.std.specs.List.{list_all}
+use Rattle.csdn_core.specs.Same.{same_term}
 use Rattle.csdn_core.specs.declared.terms.Sort.{Sort}
 use Rattle.csdn_core.specs.declared.terms.Sort.TheVariants.{Sw, Pr}
 use Rattle.csdn_core.specs.declared.terms.Term.{Term}
 use Rattle.csdn_core.specs.declared.terms.Term.TheVariants.{Var, Const, Port}
 use Rattle.csdn_core.specs.declared.terms.Pred.{Pred}
 use Rattle.decision_laws.specs.Forms.{Form, Fixed, Atom, Same, And, Or, ForAll, ForSome, signed, one_if, need, simplified}
-use Rattle.decision_laws.specs.Vocabulary.{Vocabulary, IsIn, same_term, find_or, places_from}
+use Rattle.decision_laws.specs.Vocabulary.{Vocabulary, IsIn, find_or, places_from}
 
 -- A constant is a sort and a place: the declared ones come first, for the ports then the numerals, then those that the
 -- `exists` need.

@@ -7,7 +7,6 @@ use Rattle.std.specs.Prelude.{ℕ, Bool, true, false, ◌==◌, if◌then◌else
 use Rattle.csdn_core.specs.declared.terms.VarId.{VarId}
 use Rattle.csdn_core.specs.declared.terms.Sort.{Sort}
 use Rattle.csdn_core.specs.declared.terms.Sort.TheVariants.{Sw, Ho, Pr}
-use Rattle.csdn_core.specs.declared.terms.Term.{Term}
 use Rattle.csdn_core.specs.declared.terms.Term.TheVariants.{Var}
 use Rattle.csdn_core.specs.declared.terms.Pred.{Pred}
 use Rattle.csdn_core.specs.declared.terms.Pred.TheVariants.{Stored}

@@ -1,9 +1,9 @@
 -- Normal forms: formulas whose negations stand on atoms and equations alone, as a tree of their own.
 use Rattle.std.specs.Prelude.{ℕ, ◌+◌, ◌==◌, max, Bool, true, false, not, ◌&&◌, ◌||◌, List, if◌then◌else◌, Option, Some, None}
 use Rattle.std.specs.List.{list_all, list_any}
+use Rattle.csdn_core.specs.Same.{same_sort}
 use Rattle.csdn_core.specs.declared.terms.VarId.{VarId}
 use Rattle.csdn_core.specs.declared.terms.Sort.{Sort}
-use Rattle.csdn_core.specs.declared.terms.Sort.TheVariants.{Sw, Ho, Pr}
 use Rattle.csdn_core.specs.declared.terms.Term.{Term}
 use Rattle.csdn_core.specs.declared.terms.Pred.{Pred}
 use Rattle.csdn_core.specs.declared.syntax.Formula.{Formula}
@@ -59,12 +59,6 @@ form_truth M (And p q) e = form_truth M p e && form_truth M q e
 form_truth M (Or p q) e = form_truth M p e || form_truth M q e
 form_truth M (ForAll v s p) e = list_all (λ m. form_truth M p (with_var e v m)) (M.elements s)
 form_truth M (ForSome v s p) e = list_any (λ m. form_truth M p (with_var e v m)) (M.elements s)
-
-abbrev pub same_sort : Sort → Sort → Bool
-same_sort Sw Sw = true
-same_sort Ho Ho = true
-same_sort Pr Pr = true
-same_sort _ _ = false
 
 -- one where the sorts are the same
 abbrev pub one_if : Sort → Sort → ℕ

@@ -1,5 +1,5 @@
 -- The atoms and equations of copies, from left to right.
-use Rattle.std.specs.Prelude.{ℕ, min, max, Bool, List, [], ◌∷◌, ◌++◌, flat_map}
+use Rattle.std.specs.Prelude.{min, max, Bool, List, [], ◌∷◌, ◌++◌, flat_map}
 use Rattle.csdn_core.specs.declared.program.Parts.{Parts}
 use Rattle.decision_laws.specs.Forms.{Form}
 use Rattle.decision_laws.specs.Vocabulary.{Vocabulary, vocabulary, places_from}

@@ -1,11 +1,11 @@
 -- Numbers for facts that need no table: the equations of each sort come first, and then the tuples of each relation.
 use Rattle.std.specs.Prelude.{ℕ, ◌+◌, ◌-◌, ◌*◌, ◌/◌, ◌%◌, min, max, Bool, false, List, [], ◌∷◌, map, nat_lt, if◌then◌else◌}
+use Rattle.csdn_core.specs.Same.{same_sort}
 use Rattle.csdn_core.specs.declared.terms.Sort.{Sort}
 use Rattle.csdn_core.specs.declared.terms.Sort.TheVariants.{Sw, Ho, Pr}
 use Rattle.csdn_core.specs.declared.terms.Pred.{Pred}
 use Rattle.csdn_core.specs.declared.terms.Pred.TheVariants.{Ft}
 use Rattle.csdn_core.specs.Network.{same_pred}
-use Rattle.decision_laws.specs.Forms.{same_sort}
 use Rattle.decision_laws.specs.Vocabulary.{Vocabulary}
 use Rattle.decision_laws.specs.Copies.{Fact, Tuple, Equation}
 

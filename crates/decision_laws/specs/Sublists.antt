@@ -1,5 +1,5 @@
 -- Clauses of a finite list that are there already, and how many are left.
-use Rattle.std.specs.Prelude.{◌≡◌, ℕ, ◌-◌, Bool, false, List, [], ◌∷◌, length, IsFalse}
+use Rattle.std.specs.Prelude.{ℕ, ◌-◌, Bool, List, length, IsFalse}
 use Rattle.decision_laws.specs.Vocabulary.{IsIn}
 use Rattle.decision_laws.specs.Clauses.{Lit, AreDistinct, clause_true}
 

@@ -10,8 +10,8 @@ use crate::tree::is_same_sort;
 use csdn_core::program::{Constant, Parts};
 use csdn_core::terms::{ConstId, Sort};
 
-// One where the sorts are the same.
-fn one_if(a: Sort, b: Sort) -> usize
+/// One where the sorts are the same.
+pub fn one_if(a: Sort, b: Sort) -> usize
     ensures { result ≡ one_if_same a b }
 {
     if is_same_sort(a, b) { 1 } else { 0 }

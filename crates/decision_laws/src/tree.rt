@@ -1,6 +1,7 @@
 //! Normal forms as a tree, and how many constants one needs: what the definitions say, tried on a given tree.
 ghost use Rattle.std.specs.Prelude.{◌≡◌, ◌+◌, ◌-◌, ◌^◌, min, max};
-ghost use Rattle.decision_laws.specs.Forms.{need as need_of, same_sort};
+ghost use Rattle.csdn_core.specs.Same.{same_sort};
+ghost use Rattle.decision_laws.specs.Forms.{need as need_of};
 ghost use Rattle.decision_laws.specs.Trees.{tree_form};
 
 use csdn_core::terms::{Pred, Sort, Term, Terms, VarId};

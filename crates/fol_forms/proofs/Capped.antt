@@ -1,9 +1,7 @@
 -- Sums and products of counts.
-use Rattle.std.proofs.Common.{◌≡◌, ◌≢◌, ◌⊎◌, inl, inr, ℕ, zero, suc, ◌+◌, ◌*◌, ◌^◌, ◌-◌, ◌<◌, ◌≤◌, min, max, arith, refl, sym, subst, ◌∙◌, ap}
+use Rattle.std.proofs.Common.{◌≡◌, ◌⊎◌, inl, inr, ℕ, zero, suc, ◌+◌, ◌*◌, ◌^◌, ◌-◌, ◌<◌, ◌≤◌, max, arith, refl, sym, subst, ◌∙◌, ap}
 use Rattle.std.proofs.Math.Nat.{mul_comm, le-mul_of_pos_right, zero-mul}
-use Rattle.csdn_core.specs.declared.terms.Sort.{Sort}
-use Rattle.decision_laws.specs.Forms.{one_if}
-use Rattle.fol_forms.specs.Limits.{capped, most_nodes}
+use Rattle.fol_forms.specs.Limits.{capped}
 
 pub capped-zero : 0 ≡ capped 0
 unfolding capped
@@ -69,7 +67,7 @@ capped-product_left m b = ap capped (mul_comm (capped m) b) ∙ capped-product_r
 pub ruleset capped_sums = (capped-one, capped-two, capped-sum_and_one, capped-and_one)
 
 -- how many constants a sort has
-pub capped-constants : (k n : ℕ) → max (capped (capped k + capped n)) 1 ≡ capped (max 1 (k + n))
+pub capped-constants : (k n : ℕ) → max (capped (k + capped n)) 1 ≡ capped (max 1 (k + n))
 unfolding capped
 capped-constants k n = omega arith
 

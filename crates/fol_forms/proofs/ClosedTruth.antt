@@ -1,45 +1,34 @@
 -- A closed formula is true where the formula is for all values of its binds.
-use Rattle.std.proofs.Common.{◌≡◌, ◌↔◌, ℕ, zero, suc, ◌+◌, ◌-◌, ◌<◌, ◌≤◌, Bool, true, false, ◌&&◌, List, [], ◌∷◌, length, drop, get_or, Contains, IsTrue, refl, sym, ap, subst, ◌∙◌, arith}
+use Rattle.std.proofs.Common.{◌≡◌, ◌↔◌, ℕ, ◌+◌, ◌-◌, ◌<◌, ◌≤◌, Bool, true, List, [], ◌∷◌, length, drop, get_or, Contains, IsTrue, refl, sym, ap, subst, ◌∙◌, arith}
 use Rattle.std.proofs.lemmas.List.{drop_more}
 use Rattle.std.specs.List.{list_all}
+use Rattle.general_facts.proofs.Lists.{list_all-from}
+use Rattle.std.proofs.lemmas.List.Sums.{AllPass-from_list_all}
+use Rattle.std.proofs.lemmas.List.Elements.{All-contains}
 use Rattle.csdn_core.specs.declared.syntax.Formula.{Formula}
 use Rattle.csdn_core.specs.declared.syntax.Formula.TheVariants as f
-use Rattle.csdn_core.specs.Tree.{universal, Forall-is}
+use Rattle.csdn_core.specs.Tree.{Forall-is}
 use Rattle.csdn_core.specs.Truth.{Structure, Assignment, truth, with_var}
 use Rattle.csdn_core.specs.Nodes.{nodes}
 use Rattle.fol_forms.specs.declared.close.Bind.{Bind}
-use Rattle.fol_forms.specs.Closed.{closed, GivesBinds, IsTrueForAll}
+use Rattle.fol_forms.specs.Closed.{closed, IsTrueForAll}
 
-both_true : (a b : Bool) → a ≡ true → b ≡ true → (a && b) ≡ true
-both_true a b h k = grind arith
-
-first_true : (a b : Bool) → (a && b) ≡ true → a ≡ true
-first_true a b h = grind arith
-
-second_true : (a b : Bool) → (a && b) ≡ true → b ≡ true
-second_true a b h = grind arith
-
-all_pass : (test : ℕ → Bool) (xs : List ℕ) → ((m : ℕ) → Contains xs m → test m ≡ true) → list_all test xs ≡ true
-all_pass test [] each = refl
-all_pass test (x ∷ xs) each = both_true _ _ (each x (0, omega arith, refl)) (all_pass test xs (λ m (k, within, is). each m (suc k, omega arith, is)))
-
-each_passes : (test : ℕ → Bool) (xs : List ℕ) → list_all test xs ≡ true → (m : ℕ) → Contains xs m → test m ≡ true
-each_passes test [] h m (k, within, is) = absurd (omega arith)
-each_passes test (x ∷ xs) h m (zero, within, is) = sym (ap test is) ∙ first_true _ _ h
-each_passes test (x ∷ xs) h m (suc k, within, is) = each_passes test xs (second_true _ _ h) m (k, omega arith, is)
+-- a list of which each element passes, at an element
+pub all_at : (test : ℕ → Bool) (xs : List ℕ) (m : ℕ) → Contains xs m → list_all test xs ≡ true → test m ≡ true
+all_at test xs m there all = All-contains (λ k. test k ≡ true) xs m (AllPass-from_list_all test xs all) there
 
 module _ (M : Structure) where
   closed_true : (bs : List Bind) (p : Formula) (e : Assignment) → IsTrueForAll M bs p e → IsTrue (truth M (closed bs p) e)
   unfolding truth
   closed_true [] p e true_for = true_for e refl
   closed_true (b ∷ bs) p e true_for =
-      all_pass _ (M.elements b.sort) (λ m there. closed_true bs p (with_var e b.var m) (λ d gives. true_for d (m, there, gives)))
+      list_all-from _ (M.elements b.sort) (λ m there. closed_true bs p (with_var e b.var m) (λ d gives. true_for d (m, there, gives)))
 
   true_for_all : (bs : List Bind) (p : Formula) (e : Assignment) → IsTrue (truth M (closed bs p) e) → IsTrueForAll M bs p e
   unfolding truth
   true_for_all [] p e h d is = subst (λ z. IsTrue (truth M p z)) (sym is) h
   true_for_all (b ∷ bs) p e h d (m, there, gives) =
-      true_for_all bs p (with_var e b.var m) (each_passes (λ z. truth M (closed bs p) (with_var e b.var z)) (M.elements b.sort) h m there) d gives
+      true_for_all bs p (with_var e b.var m) (all_at (λ z. truth M (closed bs p) (with_var e b.var z)) (M.elements b.sort) m there h) d gives
 
   pub truth-closed : (bs : List Bind) (p : Formula) (e : Assignment) → IsTrue (truth M (closed bs p) e) ↔ IsTrueForAll M bs p e
   truth-closed bs p e = (true_for_all bs p e, closed_true bs p e)

@@ -1,7 +1,10 @@
 -- Truth once a packet was flooded, where the fifth terms of `sent` are ports.
-use Rattle.std.proofs.Common.{◌≡◌, ◌⊎◌, inl, inr, true≢false, ℕ, zero, suc, ◌==◌, Bool, true, false, not, ◌&&◌, ◌||◌, List, [], ◌∷◌, refl, ap, sym, ◌∙◌, IsTrue, Contains, arith}
+use Rattle.std.proofs.Common.{◌≡◌, ℕ, ◌==◌, Bool, true, false, not, ◌&&◌, ◌||◌, List, [], ◌∷◌, refl, ap, sym, ◌∙◌, IsTrue, Contains, arith}
 use Rattle.std.proofs.Math.Bool.{or-false}
 use Rattle.std.specs.List.{list_any}
+use Rattle.std.specs.Cmp.{both_ways}
+use Rattle.decision_laws.proofs.Lists.{contains_in}
+use Rattle.decision_laws.proofs.Basics.{any_from, any_gives}
 use Rattle.csdn_core.specs.declared.terms.Sort.TheVariants.{Pr}
 use Rattle.csdn_core.specs.declared.terms.Term.{Term}
 use Rattle.csdn_core.specs.declared.terms.Term.TheVariants.{Var, Const, Port}
@@ -15,31 +18,6 @@ use Rattle.csdn_core.specs.Variables.{vars_of, BindsOutside}
 use Rattle.fol_forms.specs.Replace.{floods, or_flood, add_flood}
 use Rattle.fol_forms.specs.Substitution.{Agrees, Scope, KeepsSorts, IsPort, HasEgress, SendsToPorts, with_flood}
 use Rattle.fol_forms.proofs.Replaced.{values-Agrees, AllAtoms-map, IsRight, truth-replace}
-
-either_true : (a b : Bool) → (a || b) ≡ true → (a ≡ true) ⊎ (b ≡ true)
-either_true true b h = inl refl
-either_true false b h = inr h
-
--- some element passes the test
-found_in : (test : ℕ → Bool) (xs : List ℕ) → list_any test xs ≡ true → (m : ℕ) × (test m ≡ true)
-found_in test [] h = absurd (true≢false (sym h))
-found_in test (x ∷ xs) h = elim (either_true (test x) (list_any test xs) h) [ inl here ↦ (x, here) | inr later ↦ found_in test xs later ]
-
-same_truth_from : (a b : Bool) → (a ≡ true → b ≡ true) → (b ≡ true → a ≡ true) → a ≡ b
-same_truth_from true b to from = sym (to refl)
-same_truth_from false true to from = from refl
-same_truth_from false false to from = refl
-
-or_left : (a b : Bool) → a ≡ true → (a || b) ≡ true
-or_left a b h = grind arith
-
-or_right : (a b : Bool) → b ≡ true → (a || b) ≡ true
-or_right a b h = grind arith
-
-any_at : (test : ℕ → Bool) (xs : List ℕ) (m : ℕ) → Contains xs m → test m ≡ true → list_any test xs ≡ true
-any_at test [] m (k, within, is) passes = absurd (omega arith)
-any_at test (x ∷ xs) m (zero, within, is) passes = or_left (test x) _ (ap test is ∙ passes)
-any_at test (x ∷ xs) m (suc k, within, is) passes = or_right (test x) _ (any_at test xs m (k, omega arith, is) passes)
 
 module _ (u v w j o s a b i : ℕ) where
   test_of : ℕ → Bool
@@ -57,9 +35,9 @@ module _ (u v w j o s a b i : ℕ) where
   from_test p h = grind arith
 
   flood_test : (ports : List ℕ) → Contains ports o → its_own ≡ list_any test_of ports
-  flood_test ports there = same_truth_from its_own (list_any test_of ports)
-      (λ h. any_at test_of ports o there (at_own h))
-      (λ h. let m = found_in test_of ports h in from_test m.0 m.1)
+  flood_test ports there = both_ways its_own (list_any test_of ports)
+      (λ h. any_from test_of ports o (contains_in ports o there) (at_own h))
+      (λ h. let m = any_gives test_of ports h in from_test m.0 m.2)
 
 port_value : (M : Structure) (Γ : Scope) (d : Assignment) (t : Term) → KeepsSorts M Γ d → IsPort M Γ t → Contains (M.elements Pr) (value M d t)
 port_value M Γ d (Var v) keeps ported = keeps v.0 Pr ported

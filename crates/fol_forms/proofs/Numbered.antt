@@ -1,7 +1,6 @@
 -- Renumbering keeps the number of nodes, and gives the numbers from the first one on.
-use Rattle.std.proofs.Common.{◌≡◌, ℕ, suc, ◌+◌, ◌==◌, if◌then◌else◌, Bool, true, false, List, [], ◌∷◌, ◌++◌, refl, ap, ap₂, sym, ◌∙◌, arith}
+use Rattle.std.proofs.Common.{◌≡◌, ℕ, ◌+◌, ◌==◌, if◌then◌else◌, List, [], ◌∷◌, ◌++◌, refl, ap, ap₂}
 use Rattle.std.proofs.Math.Path.{fun_ext}
-use Rattle.csdn_core.specs.declared.terms.VarId.{VarId}
 use Rattle.csdn_core.specs.declared.syntax.Formula.{Formula}
 use Rattle.csdn_core.specs.declared.syntax.Formula.TheVariants as f
 use Rattle.csdn_core.specs.Tree.{negation, conjunction, disjunction, implication, equivalence, universal, existential}

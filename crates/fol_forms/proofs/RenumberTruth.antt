@@ -1,8 +1,9 @@
 -- New numbers of bound variables keep the truth.
-use Rattle.std.proofs.Common.{◌≡◌, ℕ, ◌+◌, ◌<◌, ◌≤◌, ◌==◌, Bool, true, false, not, ◌&&◌, ◌||◌, cond, List, [], ◌∷◌, map, refl, ap, ap₂, sym, IsTrue, IsFalse, arith, length, subst}
+use Rattle.std.proofs.Common.{◌≡◌, ℕ, ◌+◌, ◌<◌, ◌==◌, Bool, true, false, not, ◌&&◌, ◌||◌, cond, List, [], ◌∷◌, map, refl, ap, ap₂, IsTrue, arith}
 use Rattle.std.proofs.Math.Path.{fun_ext}
-use Rattle.std.proofs.lemmas.List.{length-map}
 use Rattle.std.specs.List.{list_all, list_any}
+use Rattle.std.proofs.lemmas.Bool.{or_left, or_right}
+use Rattle.general_facts.proofs.Numbers.{self_equal}
 use Rattle.csdn_core.specs.declared.terms.VarId.{VarId}
 use Rattle.csdn_core.specs.declared.terms.Term.{Term}
 use Rattle.csdn_core.specs.declared.terms.Term.TheVariants.{Var, Const, Port}
@@ -12,15 +13,6 @@ use Rattle.csdn_core.specs.Tree.{negation, conjunction, disjunction, implication
 use Rattle.csdn_core.specs.Truth.{Structure, Assignment, truth, value, values, with_var, same_truth}
 use Rattle.csdn_core.specs.Variables.{Variables, vars_of, is_var, free_in}
 use Rattle.fol_forms.specs.Renumber.{binders, renamed, renumbered, renumber}
-
-or_left : (a b : Bool) → a ≡ true → (a || b) ≡ true
-or_left a b h = grind arith
-
-or_right : (a b : Bool) → b ≡ true → (a || b) ≡ true
-or_right a b h = grind arith
-
-pub self_equal : (n : ℕ) → (n == n) ≡ true
-self_equal n = grind arith
 
 -- the new numbers of the variables of a set are below k, and they stand for what the old ones do
 pub record Follows (s : Variables) (new : ℕ → ℕ) (k : ℕ) (e d : Assignment) : Type 0 where
@@ -77,5 +69,3 @@ module _ (M : Structure) where
   -- no free variable has a number from k on
   pub truth-renumber : (p : Formula) (k : ℕ) (e : Assignment) → ((v : ℕ) → IsTrue (free_in p v) → v < k) → truth M (renumber p k) e ≡ truth M p e
   truth-renumber p k e below = truth-renumbered p (λ v. v) k e e (record { below = below; same = λ v h. refl })
-
--- the new numbers are k and more

@@ -1,11 +1,12 @@
 -- Truth of a formula in which atoms were replaced, by induction.
-use Rattle.std.proofs.Common.{◌≡◌, ℕ, zero, suc, ◌==◌, Bool, true, false, not, ◌&&◌, ◌||◌, cond, List, [], ◌∷◌, length, Option, Some, None, Contains, IsTrue, refl, ap, ap₂, sym, subst, ◌∙◌, IsFalse, arith, true≢false}
-use Rattle.std.proofs.Math.Path.{fun_ext}
+use Rattle.std.proofs.Common.{◌≡◌, ℕ, ◌==◌, Bool, true, false, not, ◌&&◌, ◌||◌, cond, List, [], ◌∷◌, length, Some, Contains, refl, ap, ap₂, sym, subst, ◌∙◌, IsFalse, arith, true≢false}
 use Rattle.std.proofs.Math.Bool.{and-true, or-false}
-use Rattle.std.specs.List.{list_all, list_any}
+use Rattle.std.proofs.lemmas.Bool.{or_left, or_right}
+use Rattle.general_facts.proofs.Lists.{list_all-same, list_any-same}
+use Rattle.general_facts.proofs.Numbers.{self_equal}
+use Rattle.std.proofs.lemmas.Option.{same_Some, none-some}
 use Rattle.csdn_core.specs.declared.terms.VarId.{VarId}
 use Rattle.csdn_core.specs.declared.terms.Sort.{Sort}
-use Rattle.csdn_core.specs.declared.terms.Sort.TheVariants.{Sw}
 use Rattle.csdn_core.specs.declared.terms.Term.{Term}
 use Rattle.csdn_core.specs.declared.terms.Term.TheVariants.{Var, Const, Port}
 use Rattle.csdn_core.specs.declared.terms.Pred.{Pred}
@@ -36,15 +37,6 @@ pub values-with_relations : (M : Structure) (h : Pred → List ℕ → Bool) (d 
 values-with_relations M h d [] = refl
 values-with_relations M h d (t ∷ ts) = ap₂ (λ a b. a ∷ b) (value-with_relations M h d t) (values-with_relations M h d ts)
 
-or_left : (a b : Bool) → a ≡ true → (a || b) ≡ true
-or_left a b h = grind arith
-
-or_right : (a b : Bool) → b ≡ true → (a || b) ≡ true
-or_right a b h = grind arith
-
-self_equal : (n : ℕ) → (n == n) ≡ true
-self_equal n = grind arith
-
 -- the value of a term depends on its variables alone
 pub value-Agrees : (M : Structure) (e d : Assignment) (t : Term) → Agrees (is_var t) e d → value M d t ≡ value M e t
 value-Agrees M e d (Var v) same = same v.0 (self_equal v.0)
@@ -56,43 +48,16 @@ values-Agrees M e d [] same = refl
 values-Agrees M e d (t ∷ ts) same =
     ap₂ (λ a b. a ∷ b) (value-Agrees M e d t (λ v in_t. same v (or_left _ _ in_t))) (values-Agrees M e d ts (λ v in_ts. same v (or_right _ _ in_ts)))
 
--- x is in x ∷ xs, and what is in xs is too
-here_in : (xs : List ℕ) (m : ℕ) → Contains (m ∷ xs) m
-here_in xs m = (0, omega arith, refl)
-
-later_in : (xs : List ℕ) (x m : ℕ) → Contains xs m → Contains (x ∷ xs) m
-later_in xs x m (k, within, is) = (suc k, omega arith, is)
-
-pub list_all-same : (p q : ℕ → Bool) (xs : List ℕ) → ((m : ℕ) → Contains xs m → p m ≡ q m) → list_all p xs ≡ list_all q xs
-list_all-same p q [] each = refl
-list_all-same p q (x ∷ xs) each = ap₂ (λ a b. a && b) (each x (here_in xs x)) (list_all-same p q xs (λ m there. each m (later_in xs x m there)))
-
-pub list_any-same : (p q : ℕ → Bool) (xs : List ℕ) → ((m : ℕ) → Contains xs m → p m ≡ q m) → list_any p xs ≡ list_any q xs
-list_any-same p q [] each = refl
-list_any-same p q (x ∷ xs) each = ap₂ (λ a b. a || b) (each x (here_in xs x)) (list_any-same p q xs (λ m there. each m (later_in xs x m there)))
-
-sort_in : Option Sort → Sort
-sort_in (Some s) = s
-sort_in None = Sw
-
-same_sort_in : (s k : Sort) → Some s ≡ Some k → s ≡ k
-unfolding sort_in
-same_sort_in s k is = ap sort_in is
-
 -- an element of its sort keeps the sorts in scope
 pub KeepsSorts-with : (M : Structure) (Γ : Scope) (d : Assignment) (v : VarId) (s : Sort) (m : ℕ) → KeepsSorts M Γ d → Contains (M.elements s) m → KeepsSorts M (with_sort Γ v s) (with_var d v m)
 KeepsSorts-with M Γ d v s m keeps there w k = go (w == v.0)
   where
     go : (b : Bool) → cond b (Some s) (Γ w) ≡ Some k → Contains (M.elements k) (cond b m (d w))
-    go true is = subst (λ z. Contains (M.elements z) m) (same_sort_in s k is) there
+    go true is = subst (λ z. Contains (M.elements z) m) (same_Some s k is) there
     go false is = keeps w k is
 
 pub KeepsSorts-none : (M : Structure) (e : Assignment) → KeepsSorts M no_scope e
-KeepsSorts-none M e v s is = absurd (true≢false (ap is_some (sym is)))
-  where
-    is_some : Option Sort → Bool
-    is_some (Some s) = true
-    is_some None = false
+KeepsSorts-none M e v s is = absurd (none-some s is)
 
 module _ (M : Structure) (g : Pred → List Term → Formula) (h : Pred → List ℕ → Bool) (s : Variables) (e : Assignment) where
   -- what g gives for an atom is true where h holds of its tuple

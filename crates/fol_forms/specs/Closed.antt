@@ -1,7 +1,5 @@
 -- Formulas under a row of universal quantifiers.
 use Rattle.std.specs.Prelude.{◌≡◌, ℕ, List, [], ◌∷◌, IsTrue, Contains}
-use Rattle.csdn_core.specs.declared.terms.VarId.{VarId}
-use Rattle.csdn_core.specs.declared.terms.Sort.{Sort}
 use Rattle.csdn_core.specs.declared.syntax.Formula.{Formula}
 use Rattle.csdn_core.specs.Tree.{universal}
 use Rattle.csdn_core.specs.Truth.{Structure, Assignment, truth, with_var}

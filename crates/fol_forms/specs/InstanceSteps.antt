@@ -1,5 +1,5 @@
 -- The instances of a normal form, at what the code reads.
-use Rattle.std.specs.Prelude.{◌≡◌, ℕ, ◌+◌, ◌*◌, max, Bool, true, false, not, ◌&&◌, List, if◌then◌else◌, refl}
+use Rattle.std.specs.Prelude.{◌≡◌, ℕ, ◌+◌, ◌*◌, Bool, true, false, not, List, if◌then◌else◌, refl}
 use Rattle.decision_laws.specs.Forms.{normal_form}
 use Rattle.fol_forms.specs.Written.{normal_instances}
 use Rattle.csdn_core.specs.declared.terms.VarId.{VarId}

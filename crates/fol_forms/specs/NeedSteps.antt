@@ -1,5 +1,5 @@
 -- What a normal form needs, at what the code reads.
-use Rattle.std.specs.Prelude.{◌≡◌, ℕ, ◌+◌, ◌*◌, max, Bool, true, false, not, ◌&&◌, List, if◌then◌else◌, refl}
+use Rattle.std.specs.Prelude.{◌≡◌, ◌+◌, max, Bool, true, false, not, List, if◌then◌else◌, refl}
 use Rattle.decision_laws.specs.Forms.{normal_form, one_if}
 use Rattle.fol_forms.specs.Written.{normal_need}
 use Rattle.csdn_core.specs.declared.terms.VarId.{VarId}

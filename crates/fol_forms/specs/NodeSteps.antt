@@ -1,5 +1,5 @@
 -- The nodes of normal forms, at what the code reads.
-use Rattle.std.specs.Prelude.{◌≡◌, ℕ, ◌+◌, ◌*◌, max, Bool, true, false, not, ◌&&◌, List, if◌then◌else◌, refl}
+use Rattle.std.specs.Prelude.{◌≡◌, ◌+◌, Bool, true, false, not, List, if◌then◌else◌, refl}
 use Rattle.csdn_core.specs.Nodes.{nodes}
 use Rattle.decision_laws.specs.Forms.{normal_form}
 use Rattle.fol_forms.specs.Written.{normal, normal_nodes}

@@ -1,5 +1,5 @@
 -- Normal forms, at what the code writes.
-use Rattle.std.specs.Prelude.{◌≡◌, ℕ, ◌+◌, ◌*◌, max, Bool, true, false, not, ◌&&◌, List, if◌then◌else◌, refl}
+use Rattle.std.specs.Prelude.{◌≡◌, Bool, true, false, not, List, refl}
 use Rattle.decision_laws.specs.Forms.{normal_form}
 use Rattle.fol_forms.specs.Written.{normal}
 use Rattle.fol_forms.specs.Signed.{truth_value, literal, joined, quantified}

@@ -1,19 +1,18 @@
 //! How often atoms and equations are copied.
 #![tactic(auto)]
 
-ghost use Rattle.std.specs.Prelude.{◌≡◌, ◌+◌, ◌*◌, ◌≤◌, max, true, length};
+ghost use Rattle.std.specs.Prelude.{◌≡◌, ◌+◌, ◌*◌, max, true};
 ghost use Rattle.decision_laws.specs.Forms.{one_if as one_if_same};
 ghost use Rattle.decision_laws.specs.Laws.{form_of, counts as counts_of};
-ghost use Rattle.decision_laws.specs.Vocabulary.{constants_from, names_of, numerals_of};
 ghost use Rattle.fol_forms.specs.Counts.{count_of};
 ghost use Rattle.fol_forms.specs.Limits.{capped};
 ghost use Rattle.fol_forms.specs.Written.{instances as instances_of, normal_need, normal_instances};
 
 use crate::count::sum;
-use csdn_core::program::{Constant, Parts, Program};
+use csdn_core::program::{Parts, Program};
 use csdn_core::syntax::Formula;
 use csdn_core::terms::Sort;
-use decision_laws::tree::is_same_sort;
+use decision_laws::names;
 
 /// How many atoms and equations the normal form of a formula has when each `forall` is replaced by one copy per constant of
 /// its sort: those that the program names, and those that the normal form needs; at least one. 2^64 - 1 where there are more.
@@ -53,46 +52,14 @@ impl Counts {
 fn one_if(a: Sort, b: Sort) -> u64
     ensures { result ≡ one_if_same a b }
 {
-    if is_same_sort(a, b) { 1 } else { 0 }
-}
-
-// How many constants of a sort the program declares.
-fn declared(constants: &[Constant], sort: Sort) -> u64
-    ensures count { result ≡ length (constants_from sort 0 constants.now) }
-    ensures few { result ≤ length constants.now }
-{
-    let mut count = 0;
-    for constant in constants {
-        count += one_if(constant.sort, sort);
-    }
-    count
-}
-
-// How many numerals stand for elements of a sort.
-fn numerals(parts: &Parts, sort: Sort) -> u64
-    ensures { result ≡ length (numerals_of sort parts.now.numerals) }
-{
-    match sort {
-        Sort::Sw => 0,
-        Sort::Ho => 0,
-        Sort::Pr => parts.numerals.as_slice().len() as u64,
-    }
-}
-
-// How many names a sort has.
-fn known(parts: &Parts, sort: Sort) -> u64
-    ensures { result ≡ capped (length (names_of parts.now sort)) }
-{
-    let declared = declared(parts.constants.as_slice(), sort);
-    let numerals = numerals(parts, sort);
-    sum(declared, numerals)
+    names::one_if(a, b) as u64
 }
 
 // How many constants a sort has.
 fn constants(parts: &Parts, formula: &Formula, sort: Sort) -> u64
     ensures { result ≡ capped (counts_of parts.now formula.now sort) }
 {
-    let known = known(parts, sort);
+    let known = names::known(parts, sort) as u64;
     let need = need(formula, true, sort);
     sum(known, need).max(1)
 }

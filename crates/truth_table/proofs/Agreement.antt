@@ -1,8 +1,8 @@
 -- What formulas and commands without arguments do to a state is what they do to the truth values of the relations.
-use Rattle.std.proofs.Common.{◌≡◌, ℕ, ◌<◌, nat_lt, Bool, true, false, not, ◌&&◌, arith, ◌⊎◌, inl, inr, List, [], ◌∷◌, length, map, IsTrue, IsFalse, ◌∙◌, ap, refl, if◌then◌else◌}
+use Rattle.std.proofs.Common.{◌≡◌, ℕ, ◌<◌, Bool, true, false, not, ◌⊎◌, inl, inr, List, [], ◌∷◌, length, map, IsTrue, IsFalse, ◌∙◌, ap, refl, if◌then◌else◌}
 use Rattle.std.specs.Prelude.{slice_set}
-use Rattle.std.proofs.lemmas.Bool.Decides.{nat_tests}
 use Rattle.std.proofs.lemmas.List.{length-set}
+use Rattle.std.proofs.lemmas.Bool.{and_parts, false≢true, ltb-true}
 use Rattle.csdn_core.specs.declared.terms.RelId.{RelId}
 use Rattle.csdn_core.specs.declared.terms.Term.{Term}
 use Rattle.csdn_core.specs.declared.terms.Pred.{Pred}
@@ -23,18 +23,7 @@ use Rattle.truth_table.specs.FirstForm.{is_proposition, is_propositional_atom, i
 use Rattle.truth_table.proofs.Writes.{value_put, value_taken}
 
 never : {A : Type 0} → IsTrue false → A
-never h = absurd (let e : false ≡ true = h in cc)
-
-and_left : (a b : Bool) → IsTrue (a && b) → IsTrue a
-and_left true b is = refl
-and_left false b is = is
-
-and_right : (a b : Bool) → IsTrue (a && b) → IsTrue b
-and_right true b is = is
-and_right false b is = never is
-
-below : (r k : ℕ) → IsTrue (nat_lt r k) → r < k
-below r k is = grind (arith, nat_tests)
+never h = absurd (false≢true h)
 
 -- the values are those of the first k relations in the state
 abbrev pub HasValues : ℕ → State → List Bool → Type 0
@@ -42,7 +31,7 @@ HasValues k x values = (r : RelId) → r.0 < k → x (Stored r) [] ≡ value_at 
 
 module _ (P : Parts) (N : Network) (k : ℕ) (free : (r : ℕ) → is_fixed P r ≡ false) where
   atom : (x : State) (values : List Bool) (packet : Packet) → HasValues k x values → (e : Assignment) (r : Pred) (ts : List Term) → IsTrue (is_propositional_atom k r ts) → holds_in P N x packet r (map (value (structure P N x packet) e) ts) ≡ atom_value values r
-  atom x values packet agrees e (Stored r) [] prop = rw (free r.0) (agrees r (below r.0 k prop))
+  atom x values packet agrees e (Stored r) [] prop = rw (free r.0) (agrees r (ltb-true r.0 k prop))
   atom x values packet agrees e (Stored r) (t ∷ ts) prop = never prop
   atom x values packet agrees e Ft ts prop = never prop
   atom x values packet agrees e Sent ts prop = never prop
@@ -55,9 +44,9 @@ module _ (P : Parts) (N : Network) (k : ℕ) (free : (r : ℕ) → is_fixed P r 
   truth-propositional x values packet agrees e (Atom r ts) prop = atom x values packet agrees e r ts prop
   truth-propositional x values packet agrees e (Same t u) prop = never prop
   truth-propositional x values packet agrees e (negation p) prop = ap not (truth-propositional x values packet agrees e p prop)
-  truth-propositional x values packet agrees e (conjunction p q) prop = rw (truth-propositional x values packet agrees e p (and_left (is_propositional k p) (is_propositional k q) prop), truth-propositional x values packet agrees e q (and_right (is_propositional k p) (is_propositional k q) prop))
-  truth-propositional x values packet agrees e (disjunction p q) prop = rw (truth-propositional x values packet agrees e p (and_left (is_propositional k p) (is_propositional k q) prop), truth-propositional x values packet agrees e q (and_right (is_propositional k p) (is_propositional k q) prop))
-  truth-propositional x values packet agrees e (implication p q) prop = rw (truth-propositional x values packet agrees e p (and_left (is_propositional k p) (is_propositional k q) prop), truth-propositional x values packet agrees e q (and_right (is_propositional k p) (is_propositional k q) prop))
+  truth-propositional x values packet agrees e (conjunction p q) prop = rw (truth-propositional x values packet agrees e p (and_parts (is_propositional k p) (is_propositional k q) prop).0, truth-propositional x values packet agrees e q (and_parts (is_propositional k p) (is_propositional k q) prop).1)
+  truth-propositional x values packet agrees e (disjunction p q) prop = rw (truth-propositional x values packet agrees e p (and_parts (is_propositional k p) (is_propositional k q) prop).0, truth-propositional x values packet agrees e q (and_parts (is_propositional k p) (is_propositional k q) prop).1)
+  truth-propositional x values packet agrees e (implication p q) prop = rw (truth-propositional x values packet agrees e p (and_parts (is_propositional k p) (is_propositional k q) prop).0, truth-propositional x values packet agrees e q (and_parts (is_propositional k p) (is_propositional k q) prop).1)
   truth-propositional x values packet agrees e (equivalence p q) prop = never prop
   truth-propositional x values packet agrees e (universal v s p) prop = never prop
   truth-propositional x values packet agrees e (existential v s p) prop = never prop
@@ -73,11 +62,11 @@ module _ (P : Parts) (N : Network) (k : ℕ) (free : (r : ℕ) → is_fixed P r 
   chosen t false y ones others same (inr (is, h)) = h
 
   HasValues-put : (x y : State) (values : List Bool) (e : Assignment) (r : RelId) (ts : List Term) → length values ≡ k → HasValues k x values → IsTrue (is_proposition k r ts) → y ≡ put x (Stored r) (map (value (structure P N x Nothing) e) ts) → HasValues k y (slice_set values r.0 true)
-  HasValues-put x y values e r [] len agrees prop is = λ q lt. rw (is, agrees q lt) (let within : r.0 < length values = rw len (below r.0 k prop) in value_put values r.0 q.0 within)
+  HasValues-put x y values e r [] len agrees prop is = λ q lt. rw (is, agrees q lt) (let within : r.0 < length values = rw len (ltb-true r.0 k prop) in value_put values r.0 q.0 within)
   HasValues-put x y values e r (t ∷ ts) len agrees prop is = never prop
 
   HasValues-take_out : (x y : State) (values : List Bool) (e : Assignment) (r : RelId) (ts : List Term) → length values ≡ k → HasValues k x values → IsTrue (is_proposition k r ts) → y ≡ take_out x (Stored r) (map (value (structure P N x Nothing) e) ts) → HasValues k y (slice_set values r.0 false)
-  HasValues-take_out x y values e r [] len agrees prop is = λ q lt. rw (is, agrees q lt) (let within : r.0 < length values = rw len (below r.0 k prop) in value_taken values r.0 q.0 within)
+  HasValues-take_out x y values e r [] len agrees prop is = λ q lt. rw (is, agrees q lt) (let within : r.0 < length values = rw len (ltb-true r.0 k prop) in value_taken values r.0 q.0 within)
   HasValues-take_out x y values e r (t ∷ ts) len agrees prop is = never prop
 
   pub length-values_after : (values : List Bool) (c : Command) → length (values_after values c) ≡ length values
@@ -97,11 +86,11 @@ module _ (P : Parts) (N : Network) (k : ℕ) (free : (r : ℕ) → is_fixed P r 
   unfolding Executes values_after is_propositional_command
   HasValues-after x y values e Skip len agrees prop is = rw is agrees
   HasValues-after x y values e (sequence a b) len agrees prop (z, to_z, to_y) =
-      HasValues-after z y (values_after values a) e b (length-values_after values a ∙ len) (HasValues-after x z values e a len agrees (and_left _ _ prop) to_z) (and_right _ _ prop) to_y
+      HasValues-after z y (values_after values a) e b (length-values_after values a ∙ len) (HasValues-after x z values e a len agrees (and_parts _ _ prop).0 to_z) (and_parts _ _ prop).1 to_y
   HasValues-after x y values e (conditional p a b) len agrees prop (inl (is, to_y)) =
-      chosen _ _ y (values_after values a) (values_after values b) (truth-propositional x values Nothing agrees e p (and_left _ _ prop)) (inl (is, HasValues-after x y values e a len agrees (and_left _ _ (and_right _ _ prop)) to_y))
+      chosen _ _ y (values_after values a) (values_after values b) (truth-propositional x values Nothing agrees e p (and_parts _ _ prop).0) (inl (is, HasValues-after x y values e a len agrees (and_parts _ _ (and_parts _ _ prop).1).0 to_y))
   HasValues-after x y values e (conditional p a b) len agrees prop (inr (is, to_y)) =
-      chosen _ _ y (values_after values a) (values_after values b) (truth-propositional x values Nothing agrees e p (and_left _ _ prop)) (inr (is, HasValues-after x y values e b len agrees (and_right _ _ (and_right _ _ prop)) to_y))
+      chosen _ _ y (values_after values a) (values_after values b) (truth-propositional x values Nothing agrees e p (and_parts _ _ prop).0) (inr (is, HasValues-after x y values e b len agrees (and_parts _ _ (and_parts _ _ prop).1).1 to_y))
   HasValues-after x y values e (choice v s p a b) len agrees prop runs = never prop
   HasValues-after x y values e (Insert r ts) len agrees prop is = HasValues-put x y values e r ts len agrees prop is
   HasValues-after x y values e (Remove r ts) len agrees prop is = HasValues-take_out x y values e r ts len agrees prop is
@@ -118,10 +107,10 @@ module _ (P : Parts) (N : Network) (k : ℕ) (free : (r : ℕ) → is_fixed P r 
   unfolding Executes is_propositional_command
   ends e Skip prop x = (x, refl)
   ends e (sequence a b) prop x =
-      let first : (y : State) × Executes P N a e x y = ends e a (and_left _ _ prop) x in
-      let second : (y : State) × Executes P N b e first.0 y = ends e b (and_right _ _ prop) first.0 in
+      let first : (y : State) × Executes P N a e x y = ends e a (and_parts _ _ prop).0 x in
+      let second : (y : State) × Executes P N b e first.0 y = ends e b (and_parts _ _ prop).1 first.0 in
       (second.0, (first.0, first.1, second.1))
-  ends e (conditional p a b) prop x = branch (is_true P N p e x) (λ y. Executes P N a e x y) (λ y. Executes P N b e x y) (ends e a (and_left _ _ (and_right _ _ prop)) x) (ends e b (and_right _ _ (and_right _ _ prop)) x)
+  ends e (conditional p a b) prop x = branch (is_true P N p e x) (λ y. Executes P N a e x y) (λ y. Executes P N b e x y) (ends e a (and_parts _ _ (and_parts _ _ prop).1).0 x) (ends e b (and_parts _ _ (and_parts _ _ prop).1).1 x)
   ends e (choice v s p a b) prop x = never prop
   ends e (Insert r ts) prop x = (_, refl)
   ends e (Remove r ts) prop x = (_, refl)

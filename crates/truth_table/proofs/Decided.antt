@@ -1,7 +1,8 @@
 -- A program of the first form keeps an invariant exactly where every row of the table does.
-use Rattle.std.proofs.Common.{◌≡◌, ℕ, ◌≤◌, Bool, true, false, List, [], ◌∷◌, length, Option, Some, None, IsTrue, sym, ◌∙◌, ap, refl, subst, arith, replicate, All, if◌then◌else◌, ◌||◌, ◌≢◌, Contains, AllPairs, rules}
+use Rattle.std.proofs.Common.{◌≡◌, ℕ, ◌≤◌, Bool, true, false, List, [], ◌∷◌, length, Option, Some, None, IsTrue, sym, ◌∙◌, ap, refl, subst, arith, replicate, All, if◌then◌else◌, ◌≢◌, Contains, AllPairs, rules}
 use Rattle.std.specs.Prelude.{slice_get}
 use Rattle.std.proofs.lemmas.List.Elements.{All-head, All-nil}
+use Rattle.std.proofs.Math.Bool.{or-false}
 use Rattle.csdn_core.specs.declared.terms.Sort.{Sort}
 use Rattle.csdn_core.specs.declared.terms.Sort.TheVariants.{Sw, Ho, Pr}
 use Rattle.csdn_core.specs.declared.terms.Pred.TheVariants.{Stored}
@@ -24,10 +25,6 @@ use Rattle.truth_table.specs.Decision.{one_each, state_of, IsBrokenFrom}
 use Rattle.truth_table.proofs.Agreement.{HasValues, truth-propositional, HasValues-after, ends}
 use Rattle.truth_table.proofs.Places.{if_some, all_places, all_at, none_there}
 use Rattle.truth_table.proofs.Seen.{none_fixed, seen, length-seen, HasValues-seen, HasValues-start, IsTrueOne, safe_from, safe_to}
-
-or_nothing : (b : Bool) → (b || false) ≡ b
-or_nothing true = refl
-or_nothing false = refl
 
 filled : (n : ℕ) (ns : List ℕ) → n ∷ ns ≡ [] → ⊥
 filled n ns h = cc
@@ -92,7 +89,7 @@ module _ (P : Parts) (form : IsFirstForm P) where
       let later : HasValues k y (values_handled P.handlers (seen x k)) = HasValues-handled N x y (seen x k) s a b p P.handlers (length-seen x k) (HasValues-seen x k) form.limits.one_handler form.handlers step.4 in
       true_at N y (values_handled P.handlers (seen x k)) v i later there true (table (seen x k) (length-seen x k) i there all)
   kept_by v table N x (PktFlow s a b p o) y safe step i there =
-      let later : HasValues k y (seen x k) = λ r lt. ap (λ (z : State). z (Stored r) []) step.6 ∙ or_nothing (x (Stored r) []) ∙ HasValues-seen x k r lt in
+      let later : HasValues k y (seen x k) = λ r lt. ap (λ (z : State). z (Stored r) []) step.6 ∙ or-false (x (Stored r) []) ∙ HasValues-seen x k r lt in
       let before : truth_at (seen x k) i.formula ≡ true = sym (true_at N x (seen x k) v i (HasValues-seen x k) there _ refl) ∙ all_at (IsTrueOne P N x) P.safety v i there safe in
       true_at N y (seen x k) v i later there true before
 

@@ -1,5 +1,5 @@
 -- The truth values that relations without arguments have in a state.
-use Rattle.std.proofs.Common.{◌≡◌, ℕ, suc, zero, ◌<◌, ◌≤◌, Bool, true, false, ◌⊎◌, inl, inr, List, [], ◌∷◌, ◌++◌, length, Some, None, IsTrue, sym, ◌∙◌, refl, subst, arith, replicate, All, get_or, length-append, ◌&&◌}
+use Rattle.std.proofs.Common.{◌≡◌, ℕ, suc, zero, ◌<◌, ◌≤◌, Bool, true, false, ◌⊎◌, inl, inr, List, [], ◌∷◌, ◌++◌, length, Some, None, IsTrue, sym, ◌∙◌, refl, subst, arith, replicate, All, get_or, length-append}
 use Rattle.std.specs.Prelude.{slice_get}
 use Rattle.std.proofs.Math.Nat.{eq-or-lt_of_le}
 use Rattle.std.proofs.lemmas.Option.{slice_get_cases}
@@ -8,6 +8,7 @@ use Rattle.std.proofs.Math.ListN.{get_or-append}
 use Rattle.std.specs.Cmp.Derive.{both_true}
 use Rattle.std.proofs.lemmas.List.{get_or-replicate}
 use Rattle.std.proofs.lemmas.List.Elements.{All-get_or, All-head, All-tail, All-cons, All-nil}
+use Rattle.std.proofs.lemmas.Bool.{and_parts}
 use Rattle.csdn_core.specs.declared.terms.RelId.{RelId}
 use Rattle.csdn_core.specs.declared.terms.Pred.TheVariants.{Stored}
 use Rattle.csdn_core.specs.declared.event.Packet.TheVariants.{Nothing}
@@ -70,10 +71,6 @@ HasValues-seen x (suc n) = λ r lt. by_case r (HasValues-seen x n r) (below_or_l
 pub HasValues-start : (P : Parts) (N : Network) (n : ℕ) → P.start ≡ [] → HasValues n (initial P N) (replicate n false)
 HasValues-start P N n none = λ r lt. rw none (sym (get_or-replicate n r.0 false false lt))
 
-pub both : (a b : Bool) → (a && b) ≡ true → (a ≡ true) × (b ≡ true)
-both true b is = (refl, is)
-both false b is = absurd (cc)
-
 -- the invariant is true in the state
 abbrev pub IsTrueOne : Parts → Network → State → Invariant → Type 0
 IsTrueOne P N x v = IsTrue (truth (structure P N x Nothing) v.formula no_values)
@@ -83,7 +80,7 @@ module _ (P : Parts) (N : Network) (x : State) (values : List Bool) (free : (r :
   pub safe_from : (invariants : List Invariant) → All (IsPropositionalInvariant (length P.relations)) invariants → all_true_at invariants values ≡ true → All (IsTrueOne P N x) invariants
   safe_from [] plain is = All-nil (IsTrueOne P N x)
   safe_from (v ∷ vs) plain is =
-      let parts : (truth_at values v.formula ≡ true) × (all_true_at vs values ≡ true) = both _ _ is in
+      let parts : (truth_at values v.formula ≡ true) × (all_true_at vs values ≡ true) = and_parts _ _ is in
       All-cons (IsTrueOne P N x) v vs (truth-propositional P N (length P.relations) free x values Nothing agrees no_values v.formula (All-head (IsPropositionalInvariant (length P.relations)) v vs plain) ∙ parts.0) (safe_from vs (All-tail (IsPropositionalInvariant (length P.relations)) v vs plain) parts.1)
 
   pub safe_to : (invariants : List Invariant) → All (IsPropositionalInvariant (length P.relations)) invariants → All (IsTrueOne P N x) invariants → all_true_at invariants values ≡ true

@@ -5,6 +5,7 @@ use Rattle.std.specs.Cmp.Derive.{both_true}
 use Rattle.std.proofs.lemmas.Option.{slice_get_within, get_or_from_slice_get}
 use Rattle.std.proofs.lemmas.List.{append-nil, take-take, take-set, take_at, take_more_set, length-set}
 use Rattle.std.proofs.lemmas.List.Elements.{All-head, All-tail, All-cons, All-nil}
+use Rattle.std.proofs.lemmas.Bool.{and_parts}
 use Rattle.csdn_core.specs.declared.event.Event.TheVariants.{PktIn, PktFlow}
 use Rattle.csdn_core.specs.declared.program.Parts.{Parts}
 use Rattle.csdn_core.specs.declared.program.Invariant.{Invariant}
@@ -17,7 +18,7 @@ use Rattle.truth_table.specs.Table.{IsKeptAt, NoneBroken, TrueBefore, IsFirstFal
 use Rattle.truth_table.specs.Condition.{network, init, step_in, step_flow, IsFalseIn, EarlierMet}
 use Rattle.truth_table.specs.Decision.{IsFalseAtStart, IsFalseAfter, IsBrokenFrom, one_each, state_of}
 use Rattle.truth_table.proofs.Places.{if_some, all_places, all_at}
-use Rattle.truth_table.proofs.Seen.{both, below_or_last}
+use Rattle.truth_table.proofs.Seen.{below_or_last}
 use Rattle.truth_table.proofs.Decided.{IsKept, StartsTrue, kept, one_meets, false_at_start, true_at_start, broken_from, not_inductive_at_start, not_inductive_after, inductive}
 
 pub TrueBefore-more : (invariants : List Invariant) (values : List Bool) (v : ℕ) (i : Invariant) → i ≡ get_or invariants v i → truth_at values i.formula ≡ true → TrueBefore invariants values v → TrueBefore invariants values (v + 1)
@@ -44,7 +45,7 @@ all_before invariants values n is before =
 all_to : (invariants : List Invariant) (values : List Bool) → all_true_at invariants values ≡ true → All (HoldsOf values) invariants
 all_to [] values is = All-nil (HoldsOf values)
 all_to (v ∷ vs) values is =
-    let parts : (truth_at values v.formula ≡ true) × (all_true_at vs values ≡ true) = both _ _ is in
+    let parts : (truth_at values v.formula ≡ true) × (all_true_at vs values ≡ true) = and_parts _ _ is in
     All-cons (HoldsOf values) v vs parts.0 (all_to vs values parts.1)
 
 all_at_start : (P : Parts) → StartsTrue P → (v : ℕ) (i : Invariant) → slice_get P.safety v ≡ Some i → truth_at (replicate (length P.relations) false) i.formula ≡ true

@@ -1,17 +1,9 @@
 -- Writing one truth value.
-use Rattle.std.proofs.Common.{◌≡◌, ℕ, ◌<◌, ◌==◌, Bool, true, false, ◌||◌, ◌&&◌, not, List, length, sym, ◌∙◌, refl, arith}
+use Rattle.std.proofs.Common.{◌≡◌, ℕ, ◌<◌, ◌==◌, Bool, true, false, ◌||◌, ◌&&◌, not, List, length, sym, ◌∙◌, refl, inl, inr}
 use Rattle.std.specs.Prelude.{slice_set}
 use Rattle.std.proofs.lemmas.List.{get_or-set_same, get_or-set_other}
-use Rattle.std.proofs.lemmas.Bool.{eqb-false}
+use Rattle.std.proofs.lemmas.Bool.{cases_eq, eq-eqb, ne_eqb}
 use Rattle.truth_table.specs.Valuation.{value_at}
-
--- r and q are one relation, or two
-data IsSame (r q : ℕ) : Type 0 where
-  one : r ≡ q → (r == q) ≡ true → IsSame r q
-  two : (r ≡ q → ⊥) → (r == q) ≡ false → IsSame r q
-
-compared : (r q : ℕ) → IsSame r q
-compared r q = elim (r == q) as (λ b. (r == q) ≡ b → IsSame r q) [ true ↦ λ h. one (grind arith) h | false ↦ λ h. two (eqb-false r q h) h ] refl
 
 or_true : (b c : Bool) → c ≡ true → (b || (c && true)) ≡ true
 or_true true c is = refl
@@ -36,15 +28,15 @@ unwritten : (values : List Bool) (q r : ℕ) (b : Bool) → (r ≡ q → ⊥) �
 unwritten values q r b apart = get_or-set_other values q r b false apart
 
 pub value_put : (values : List Bool) (q r : ℕ) → q < length values → (value_at values r || ((r == q) && true)) ≡ value_at (slice_set values q true) r
-value_put values q r lt = by_case (compared r q)
-  where
-    by_case : IsSame r q → (value_at values r || ((r == q) && true)) ≡ value_at (slice_set values q true) r
-    by_case (one is test) = or_true (value_at values r) (r == q) test ∙ sym (written values q r true is lt)
-    by_case (two apart test) = or_false (value_at values r) (r == q) test ∙ sym (unwritten values q r true apart)
+value_put values q r lt =
+    elim (cases_eq r q) [
+      | inl is ↦ or_true (value_at values r) (r == q) (eq-eqb r q is) ∙ sym (written values q r true is lt)
+      | inr apart ↦ or_false (value_at values r) (r == q) (ne_eqb r q apart) ∙ sym (unwritten values q r true apart)
+    ]
 
 pub value_taken : (values : List Bool) (q r : ℕ) → q < length values → (value_at values r && not ((r == q) && true)) ≡ value_at (slice_set values q false) r
-value_taken values q r lt = by_case (compared r q)
-  where
-    by_case : IsSame r q → (value_at values r && not ((r == q) && true)) ≡ value_at (slice_set values q false) r
-    by_case (one is test) = and_false (value_at values r) (r == q) test ∙ sym (written values q r false is lt)
-    by_case (two apart test) = and_true (value_at values r) (r == q) test ∙ sym (unwritten values q r false apart)
+value_taken values q r lt =
+    elim (cases_eq r q) [
+      | inl is ↦ and_false (value_at values r) (r == q) (eq-eqb r q is) ∙ sym (written values q r false is lt)
+      | inr apart ↦ and_true (value_at values r) (r == q) (ne_eqb r q apart) ∙ sym (unwritten values q r false apart)
+    ]

@@ -1,5 +1,5 @@
 -- The clauses of truth and execution without arguments, at what the code writes.
-use Rattle.std.specs.Prelude.{◌≡◌, Bool, true, false, not, ◌&&◌, ◌||◌, List, refl, if◌then◌else◌, slice_set, ℕ, ◌+◌}
+use Rattle.std.specs.Prelude.{◌≡◌, Bool, true, false, not, ◌&&◌, ◌||◌, List, refl, if◌then◌else◌, slice_set}
 use Rattle.csdn_core.specs.declared.terms.VarId.{VarId}
 use Rattle.csdn_core.specs.declared.terms.RelId.{RelId}
 use Rattle.csdn_core.specs.declared.terms.Sort.{Sort}
@@ -9,7 +9,7 @@ use Rattle.csdn_core.specs.declared.syntax.Formula.{Formula}
 use Rattle.csdn_core.specs.declared.syntax.Formula.TheVariants as f
 use Rattle.csdn_core.specs.declared.syntax.Command.{Command}
 use Rattle.csdn_core.specs.declared.syntax.Command.TheVariants as c
-use Rattle.csdn_core.specs.Tree.{Not-is, And-is, Or-is, Implies-is, Iff-is, Forall-is, Exists-is, Seq-is, If-is, Pick-is, sequence, conditional, choice}
+use Rattle.csdn_core.specs.Tree.{Not-is, And-is, Or-is, Implies-is, Iff-is, Forall-is, Exists-is, Seq-is, If-is, Pick-is}
 use Rattle.csdn_core.specs.Truth.{same_truth}
 use Rattle.truth_table.specs.Valuation.{atom_value, truth_at, values_after}
 
@@ -97,25 +97,3 @@ module _ (values : List Bool) where
 pub ruleset truth_at_steps = (truth_at-True, truth_at-False, truth_at-Atom, truth_at-Same, truth_at-Not, truth_at-And, truth_at-Or, truth_at-Implies, truth_at-Iff, truth_at-Forall, truth_at-Exists)
 
 pub ruleset values_after_steps = (values_after-Skip, values_after-Seq, values_after-If, values_after-Pick, values_after-Insert, values_after-Remove, values_after-Install, values_after-Forward, values_after-Flood)
-
--- how many commands a command has
-unfoldable pub command_size : Command → ℕ
-command_size c.Skip = 1
-command_size (sequence a b) = command_size a + command_size b + 1
-command_size (conditional p a b) = command_size a + command_size b + 1
-command_size (choice v s p a b) = command_size a + command_size b + 1
-command_size (c.Insert r ts) = 1
-command_size (c.Remove r ts) = 1
-command_size (c.Install ts) = 1
-command_size (c.Forward ts) = 1
-command_size (c.Flood ts) = 1
-
-pub command_size-Seq : (a b : Command) → command_size (c.Seq a b) ≡ command_size a + command_size b + 1
-unfolding command_size
-command_size-Seq a b = rw Seq-is
-
-pub command_size-If : (p : Formula) (a b : Command) → command_size (c.If p a b) ≡ command_size a + command_size b + 1
-unfolding command_size
-command_size-If p a b = rw If-is
-
-pub ruleset command_size_steps = (command_size-Seq, command_size-If)

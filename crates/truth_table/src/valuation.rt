@@ -53,7 +53,7 @@ fn set(values: &mut [bool], rel: RelId, value: bool)
 }
 
 /// Executes a command.
-#[tactic(auto, using(crate::specs::ValuationSteps::values_after_steps, crate::specs::ValuationSteps::command_size_steps))]
+#[tactic(auto, using(crate::specs::ValuationSteps::values_after_steps, csdn_core::specs::Nodes::command_node_steps))]
 fn execute(values: &mut [bool], command: &Command)
     ensures { values.new ≡ values_after values.old command.now }
 {

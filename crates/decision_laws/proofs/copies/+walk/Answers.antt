@@ -1,8 +1,8 @@
 use Rattle.std.proofs.Common.{◌≡◌, ◌↔◌, ◌<◌, IsSome, refl, subst, ap}
-use Rattle.decision_laws.specs.Forms.{And, Or, ForAll, ForSome}
+use Rattle.decision_laws.specs.Forms.{And, Or, ForAll}
 use Rattle.decision_laws.specs.Trees.{tree_form}
 use Rattle.decision_laws.specs.Walk.{names_alone, scope_of, count_of, state_of}
-use Rattle.decision_laws.proofs.Steps.{both_added, either_added, every_added, exists_added, each_more, copy_added}
+use Rattle.decision_laws.proofs.Steps.{both_added, either_added, every_added, each_more, copy_added}
 use Rattle.decision_laws.proofs.copies.+walk.Goals as goal
 
 pub walk-returns-in_ok-walk-in-Conj-2 : goal.walk-returns-in_ok-walk-in-Conj-2

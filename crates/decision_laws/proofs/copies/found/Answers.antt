@@ -1,4 +1,4 @@
-use Rattle.std.proofs.Common.{◌∙◌, sym, ap, refl}
+use Rattle.std.proofs.Common.{◌∙◌, sym, ap}
 use Rattle.decision_laws.proofs.Steps.{found_here, found_before}
 use Rattle.decision_laws.proofs.copies.found.Goals as goal
 use Rattle.decision_laws.proofs.copies.found.Goals.{then-eq, else-eq}

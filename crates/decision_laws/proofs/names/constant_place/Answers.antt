@@ -1,4 +1,4 @@
-use Rattle.std.proofs.Common.{sym, ◌∙◌}
+use Rattle.std.proofs.Common.{sym}
 use Rattle.decision_laws.proofs.NamesLemmas.{constant_index}
 use Rattle.decision_laws.proofs.names.constant_place.Goals as goal
 

@@ -1,4 +1,4 @@
-use Rattle.std.proofs.Common.{take, sym, ap, arith}
+use Rattle.std.proofs.Common.{take, ap, arith}
 use Rattle.decision_laws.specs.Forms.{one_if}
 use Rattle.decision_laws.proofs.NamesLemmas.{counted_next, one_if-few}
 use Rattle.decision_laws.proofs.names.constants_before.Goals as goal

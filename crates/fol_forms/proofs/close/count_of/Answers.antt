@@ -1,4 +1,4 @@
-use Rattle.std.proofs.Common.{◌≡◌, ◌∙◌, ◌+◌, ap, ap₂, sym, length}
+use Rattle.std.proofs.Common.{◌∙◌, ◌+◌, ap, ap₂, sym, length}
 use Rattle.csdn_core.specs.Nodes.{nodes}
 use Rattle.fol_forms.specs.Limits.{capped}
 use Rattle.fol_forms.proofs.Capped.{capped-sum_left}

@@ -1,4 +1,4 @@
-use Rattle.std.proofs.Common.{◌∙◌, ◌+◌, ap, ap₂, max, length, true}
+use Rattle.std.proofs.Common.{◌∙◌, ◌+◌, ap, ap₂, max, length}
 use Rattle.decision_laws.specs.Forms.{need}
 use Rattle.decision_laws.specs.Laws.{form_of}
 use Rattle.decision_laws.specs.Vocabulary.{names_of}

@@ -1,4 +1,4 @@
-use Rattle.std.proofs.Common.{◌≡◌, length, arith, sym}
+use Rattle.std.proofs.Common.{◌≡◌, length, sym}
 use Rattle.fol_forms.proofs.AtomNodes.{nodes-floods_some, nodes-floods_none}
 use Rattle.fol_forms.proofs.replace.count_of_flood.Goals as goal
 use Rattle.fol_forms.proofs.replace.count_of_flood.Goals.{else-ts-eq4-via-then-ts-eq4+else-us-eq5, else-ts-eq4-via-else-ts-eq4}

@@ -1,7 +1,0 @@
-use Rattle.std.proofs.Common.{◌≡◌, ◌≤◌, length, take}
-use Rattle.decision_laws.specs.Vocabulary.{constants_from}
-use Rattle.fol_forms.proofs.instances.declared.Given as goal
-
-abbrev pub invariant-loop-constant : goal.invariant-loop-constant
-invariant-loop-constant l =
-    (l.count ≤ l.constant-index) × (l.count ≡ length (constants_from l.sort 0 (take l.constant-index l.constants)))
