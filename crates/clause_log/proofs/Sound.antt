@@ -1,5 +1,5 @@
 -- A log that refutes clauses shows that no valuation makes them true.
-use Rattle.std.proofs.Common.{◌≡◌, ℕ, zero, suc, Bool, true, false, cond, not, ◌&&◌, ◌||◌, List, [], ◌∷◌, ◌++◌, Option, Some, None, eqb, length, drop, ◌≤◌, refl, sym, ap, ◌∙◌, inl, inr, eqb-true}
+use Rattle.std.proofs.Common.{◌≡◌, ℕ, zero, suc, Bool, true, false, cond, not, ◌||◌, List, [], ◌∷◌, ◌++◌, Option, Some, None, eqb, length, drop, ◌≤◌, refl, sym, ap, ◌∙◌, inl, inr, eqb-true}
 use Rattle.std.specs.Prelude.{slice_get, is_none}
 use Rattle.std.specs.Option.{option_map}
 use Rattle.std.specs.List.{list_all}
@@ -7,9 +7,9 @@ use Rattle.std.proofs.Math.Bool.{or-false}
 use Rattle.std.proofs.lemmas.Bool.{and_parts, and_from, or_parts, cases_Bool, false≢true}
 use Rattle.std.proofs.lemmas.Option.{same_Some}
 use Rattle.std.proofs.lemmas.List.{drop_all}
-use Rattle.std.proofs.lemmas.List.Folds.{list_all-append}
 use Rattle.clause_log.specs.Literals.{Literal, negated, signed, literal_true, clause_true, IsModel}
 use Rattle.clause_log.specs.Assignments.{Assignment, no_values, says_false, is_false, assign, with_false, open_literals, only_new, unit_literal, is_empty, is_conflict}
+use Rattle.clause_log.proofs.Flat.{all_more}
 use Rattle.clause_log.specs.Refutations.{Step, clause_at, is_conflict_at, unit_at, with_unit, reaches_conflict, step_holds, steps_hold, ends_empty, is_refutation, known}
 
 -- the valuation gives each atom the value that the assignment gives it
@@ -129,7 +129,7 @@ step_sound v cs m s h =
     ]
 
 model_more : (v : ℕ → Bool) (cs : List (List Literal)) (c : List Literal) → IsModel v cs → clause_true v c ≡ true → IsModel v (cs ++ c ∷ [])
-model_more v cs c m e = list_all-append (clause_true v) cs (c ∷ []) ∙ and_from (list_all (clause_true v) cs) (clause_true v c && true) m (and_from (clause_true v c) true e refl)
+model_more v cs c m e = all_more (clause_true v) cs (cs ++ c ∷ []) c refl m e
 
 all_steps : (ss : List Step) (cs : List (List Literal)) (v : ℕ → Bool) → steps_hold cs ss ≡ true → ends_empty ss ≡ true → IsModel v cs → ⊥
 all_steps [] cs v h e m = false≢true e
