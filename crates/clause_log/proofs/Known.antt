@@ -7,7 +7,7 @@ use Rattle.std.proofs.lemmas.List.{length-take, length-map}
 use Rattle.clause_log.specs.Literals.{Literal}
 use Rattle.clause_log.specs.Assignments.{Assignment, assign, unit_literal, is_empty}
 use Rattle.clause_log.specs.Refutations.{Step, no_step, clause_at, unit_at, with_unit, reaches_conflict, ends_empty, known}
-use Rattle.clause_log.proofs.Units.{rest_is}
+use Rattle.general_facts.proofs.Lists.{rest_is}
 
 numbered : (cs : List (List Literal)) (number at : ℕ) → number ≡ at + 1 → clause_at cs number ≡ slice_get cs at
 numbered cs zero at e = absurd (omega arith)

@@ -1,14 +1,15 @@
 -- A log that refutes clauses shows that no valuation makes them true.
-use Rattle.std.proofs.Common.{◌≡◌, ℕ, zero, suc, Bool, true, false, cond, not, ◌&&◌, ◌||◌, List, [], ◌∷◌, ◌++◌, Option, Some, None, eqb, length, drop, ◌≤◌, refl, sym, ap, ◌∙◌, inl, inr, eqb-true}
+use Rattle.std.proofs.Common.{◌≡◌, ℕ, zero, suc, Bool, true, false, cond, not, ◌||◌, List, [], ◌∷◌, ◌++◌, Option, Some, None, eqb, length, drop, ◌≤◌, refl, sym, ap, ◌∙◌, inl, inr, eqb-true}
 use Rattle.std.specs.Prelude.{slice_get, is_none}
 use Rattle.std.specs.Option.{option_map}
 use Rattle.std.specs.List.{list_all}
-use Rattle.std.proofs.lemmas.Bool.{and_parts, and_from, cases_Bool, false≢true}
+use Rattle.std.proofs.Math.Bool.{or-false}
+use Rattle.std.proofs.lemmas.Bool.{and_parts, and_from, or_parts, cases_Bool, false≢true}
 use Rattle.std.proofs.lemmas.Option.{same_Some}
 use Rattle.std.proofs.lemmas.List.{drop_all}
-use Rattle.std.proofs.lemmas.List.Folds.{list_all-append}
 use Rattle.clause_log.specs.Literals.{Literal, negated, signed, literal_true, clause_true, IsModel}
 use Rattle.clause_log.specs.Assignments.{Assignment, no_values, says_false, is_false, assign, with_false, open_literals, only_new, unit_literal, is_empty, is_conflict}
+use Rattle.clause_log.proofs.Flat.{all_more}
 use Rattle.clause_log.specs.Refutations.{Step, clause_at, is_conflict_at, unit_at, with_unit, reaches_conflict, step_holds, steps_hold, ends_empty, is_refutation, known}
 
 -- the valuation gives each atom the value that the assignment gives it
@@ -50,10 +51,6 @@ empty_false v (l ∷ ls) h e = false≢true h
 no_conflict : (v : ℕ → Bool) (f : Assignment) → Extends v f → (c : List Literal) → clause_true v c ≡ true → is_conflict f c ≡ true → ⊥
 no_conflict v f x c h e = empty_false v (open_literals f c) e (open_true v f x c h)
 
-or-false : (b : Bool) → (b || false) ≡ b
-or-false true = refl
-or-false false = refl
-
 chosen_true : (v : ℕ → Bool) (t : Bool) (l k : Literal) → cond t (Some l) None ≡ Some k → literal_true v l ≡ true → literal_true v k ≡ true
 chosen_true v true l k e h = ap (literal_true v) (sym (same_Some l k e)) ∙ h
 chosen_true v false l k e h = absurd cc
@@ -79,10 +76,6 @@ assign_step v f l a b false q x h e = x a b e
 assign_extends : (v : ℕ → Bool) (f : Assignment) (l : Literal) → Extends v f → literal_true v l ≡ true → Extends v (assign l f)
 assign_extends v f l x h a b e = assign_step v f l a b (eqb a l.atom) refl x h e
 
-neither : (b c : Bool) → (b || c) ≡ false → (b ≡ false) × (c ≡ false)
-neither true c e = absurd (false≢true (sym e))
-neither false c e = (refl, e)
-
 negated_by : (s b : Bool) → signed s b ≡ false → signed (not s) b ≡ true
 negated_by true b e = ap not e
 negated_by false true e = refl
@@ -91,7 +84,7 @@ negated_by false false e = absurd (false≢true (sym e))
 false_extends : (v : ℕ → Bool) (f : Assignment) (ls : List Literal) → Extends v f → clause_true v ls ≡ false → Extends v (with_false f ls)
 false_extends v f [] x h = x
 false_extends v f (l ∷ ls) x h =
-    let p = neither (literal_true v l) (clause_true v ls) h in
+    let p = or_parts (literal_true v l) (clause_true v ls) h in
     false_extends v (assign (negated l) f) ls (assign_extends v f (negated l) x (negated_by l.positive (v l.atom) p.0)) p.1
 
 -- the clause of a number, if there is one, is true
@@ -136,7 +129,7 @@ step_sound v cs m s h =
     ]
 
 model_more : (v : ℕ → Bool) (cs : List (List Literal)) (c : List Literal) → IsModel v cs → clause_true v c ≡ true → IsModel v (cs ++ c ∷ [])
-model_more v cs c m e = list_all-append (clause_true v) cs (c ∷ []) ∙ and_from (list_all (clause_true v) cs) (clause_true v c && true) m (and_from (clause_true v c) true e refl)
+model_more v cs c m e = all_more (clause_true v) cs (cs ++ c ∷ []) c refl m e
 
 all_steps : (ss : List Step) (cs : List (List Literal)) (v : ℕ → Bool) → steps_hold cs ss ≡ true → ends_empty ss ≡ true → IsModel v cs → ⊥
 all_steps [] cs v h e m = false≢true e

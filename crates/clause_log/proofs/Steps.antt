@@ -1,7 +1,5 @@
 -- Steps from their literals and their hints.
-use Rattle.std.proofs.Common.{◌≡◌, ℕ, zero, suc, get_or, ◌<◌, ◌+◌, Bool, true, Result, Ok, Err, OnOk, OnErr, List, [], ◌∷◌, ◌++◌, length, refl, sym, ap, ap₂, ◌∙◌, subst, arith, length-append}
-use Rattle.std.specs.List.{list_all}
-use Rattle.std.proofs.lemmas.Bool.{and_parts}
+use Rattle.std.proofs.Common.{◌≡◌, ℕ, zero, suc, get_or, ◌<◌, ◌+◌, true, Result, Ok, Err, OnOk, OnErr, List, [], ◌∷◌, ◌++◌, length, refl, sym, ap, ap₂, ◌∙◌, subst, arith, length-append}
 use Rattle.clause_log.specs.Literals.{Literal, has_distinct_atoms}
 use Rattle.clause_log.specs.Refutations.{Step, no_step}
 use Rattle.clause_log.specs.Rows.{split, steps_of, AreFlatSteps}
@@ -23,11 +21,6 @@ step_at [] hs i e h = absurd (omega arith)
 step_at (l ∷ ls) [] i e h = absurd (omega arith)
 step_at (l ∷ ls) (k ∷ hs) zero e h = refl
 step_at (l ∷ ls) (k ∷ hs) (suc i) e h = step_at ls hs i (omega arith) (omega arith)
-
-pub passes_at : {X : Type 0} (p : X → Bool) (xs : List X) (i : ℕ) (d : X) → i < length xs → list_all p xs ≡ true → p (get_or xs i d) ≡ true
-passes_at p [] i d l h = absurd (omega arith)
-passes_at p (x ∷ xs) zero d l h = (and_parts (p x) (list_all p xs) h).0
-passes_at p (x ∷ xs) (suc i) d l h = passes_at p xs i d (omega arith) (and_parts (p x) (list_all p xs) h).1
 
 -- the vectors of a log, after and before a step was appended
 pub record IsAppended (es fs : List ℕ) (ls ms : List Literal) (ns os : List ℕ) (hs ks : List ℕ) (lits : List Literal) (named : List ℕ) : Type 0 where
@@ -62,10 +55,6 @@ by_ways (Err x) A B C D E' F G H P a b c d e f g h f_ok f_err = f_err e f g h
 pub on_all : {T E : Type 0} (r : Result T E) (A B C D P : Type 0) → OnOk r A → OnOk r B → OnOk r C → OnOk r D → (A → B → C → D → P) → OnOk r P
 on_all (Ok x) A B C D P a b c d f_ok = f_ok a b c d
 on_all (Err x) A B C D P a b c d f_ok = a
-
-pub on_none : {T E : Type 0} (r : Result T E) (A B C D P : Type 0) → OnErr r A → OnErr r B → OnErr r C → OnErr r D → (A → B → C → D → P) → OnErr r P
-on_none (Ok x) A B C D P a b c d f_err = a
-on_none (Err x) A B C D P a b c d f_err = f_err a b c d
 
 -- how many steps a log's vectors hold
 pub steps_count : (es : List ℕ) (ls : List Literal) (ns hs : List ℕ) → AreFlatSteps es ls ns hs → length (steps_of (split 0 es ls) (split 0 ns hs)) ≡ length es

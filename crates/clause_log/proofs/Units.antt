@@ -1,6 +1,6 @@
 -- Going through a clause under a partial assignment.
 use Rattle.std.proofs.Common.{◌≡◌, ◌-◌, ◌≤◌, Bool, true, false, cond, not, List, [], ◌∷◌, ◌++◌, length, take, drop, get_or, Option, Some, None, refl, sym, ap, ap₂, ◌∙◌, arith}
-use Rattle.std.proofs.Math.Seq.{take-length}
+use Rattle.general_facts.proofs.Lists.{rest_is}
 use Rattle.std.specs.Prelude.{is_none}
 use Rattle.std.specs.Option.{option_map}
 use Rattle.clause_log.specs.Literals.{Literal, signed, negated}
@@ -16,7 +16,8 @@ open-true f l ls e = ap (λ o. cond (not (says_false o)) (l ∷ open_literals f 
 pub open-new : (f : Assignment) (l : Literal) (ls : List Literal) → literal_value f l ≡ None → open_literals f (l ∷ ls) ≡ l ∷ open_literals f ls
 open-new f l ls e = ap (λ o. cond (not (says_false o)) (l ∷ open_literals f ls) (open_literals f ls)) e
 
-no_value_by : (s : Bool) (o : Option Bool) → option_map (signed s) o ≡ None → o ≡ None
+-- a literal without a value is of an atom without one
+pub no_value_by : (s : Bool) (o : Option Bool) → option_map (signed s) o ≡ None → o ≡ None
 no_value_by s None e = refl
 no_value_by s (Some b) e = absurd cc
 
@@ -65,9 +66,6 @@ conflict_false f l ls e = ap is_empty (open-false f l ls e)
 
 pub conflict_open : (f : Assignment) (l : Literal) (ls : List Literal) → says_false (literal_value f l) ≡ false → false ≡ is_conflict f (l ∷ ls)
 conflict_open f l ls e = sym (ap (λ b. is_empty (cond (not b) (l ∷ open_literals f ls) (open_literals f ls))) e)
-
-pub rest_is : {X : Type 0} (x : X) (xs : List X) → take (length (x ∷ xs) - 1) (drop 1 (x ∷ xs)) ≡ xs
-rest_is x xs = (let e : length (x ∷ xs) - 1 ≡ length xs = omega arith in ap (λ n. take n xs) e ∙ take-length xs)
 
 -- one literal more is made false
 pub false_more : (f g : Assignment) (rest : List Literal) (l : Literal) (answer : Assignment) → 1 ≤ length rest → l ≡ get_or rest 0 l → g ≡ assign (negated l) f → with_false f rest ≡ answer

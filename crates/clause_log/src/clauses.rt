@@ -1,3 +1,5 @@
+//! Numbered clauses over the atoms from 1 to a greatest one.
+
 ghost use Rattle.std.specs.Prelude.{◌≡◌, ◌<◌, ◌^◌, ◌++◌, [], ◌∷◌, OnOk, OnErr, length, true};
 
 use crate::lit::Lit;

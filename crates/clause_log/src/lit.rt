@@ -1,3 +1,5 @@
+//! Literals: atoms, and their negations.
+
 ghost use Rattle.std.specs.Prelude.{◌≡◌, ◌<◌, ◌^◌, true, false};
 ghost use Rattle.clause_log.specs.Literals.{negated as opposite};
 

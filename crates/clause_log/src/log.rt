@@ -1,3 +1,5 @@
+//! Logs: steps that each add a clause, with the hints from which it follows.
+
 ghost use Rattle.std.specs.Prelude.{◌≡◌, ◌+◌, ◌++◌, [], ◌∷◌, OnOk, OnErr, length};
 
 use crate::lit::Lit;

@@ -1,3 +1,5 @@
+//! Valuations of the atoms.
+
 use std::marker::Model;
 
 /// A valuation of all atoms: finitely many are true, and all others false.

@@ -1,12 +1,14 @@
 -- The lines of blocks are lines that count.
-use Rattle.std.proofs.Common.{◌≡◌, ℕ, ◌<◌, ◌≤◌, ◌^◌, Bool, true, false, not, cond, eqb, leb, ltb, ◌&&◌, ◌||◌, List, [], ◌∷◌, ◌++◌, map, length, Option, Some, None, refl, ap, arith}
+use Rattle.std.proofs.Common.{◌≡◌, ℕ, ◌<◌, ◌≤◌, ◌^◌, Bool, true, false, not, eqb, leb, ltb, ◌&&◌, ◌||◌, List, [], ◌∷◌, ◌++◌, map, length, Option, Some, None, refl, ap, ◌∙◌, arith}
 use Rattle.std.specs.Prelude.{decimal, codes}
 use Rattle.std.specs.List.{list_all, flat_map}
 use Rattle.std.specs.Str.{bytes_eq}
-use Rattle.std.proofs.lemmas.Bool.{and_parts, and_from, leb-true, ltb-false, ne_eqb, lt-ltb}
+use Rattle.std.proofs.lemmas.Bool.{and_parts, and_from, or_parts, leb-true, ltb-false, ne_eqb, lt-ltb}
+use Rattle.std.proofs.lemmas.List.Folds.{list_all-append}
 use Rattle.text_lines.specs.Text.{words, has_bytes, is_passed_over}
 use Rattle.text_lines.specs.Rest.{trim_start, trim_end}
 use Rattle.text_lines.specs.Printed.{is_plain, is_word, is_line, joined, is_fine, is_open}
+use Rattle.text_lines.proofs.Distincts.{at_else}
 use Rattle.text_lines.proofs.PrintedLaws.{word_decimal, words_decimal, line_fine, word_front}
 use Rattle.clause_log.specs.Literals.{Literal, has_distinct_atoms, is_within, is_clause}
 use Rattle.clause_log.specs.Refutations.{Step}
@@ -19,9 +21,8 @@ literal_is_word : (sign : Bool) (n : ℕ) → n < 2 ^ 64 → is_word (literal_wo
 literal_is_word true n h = word_decimal n h
 literal_is_word false n h = (and_parts (has_bytes (decimal n)) (list_all is_plain (decimal n)) (word_decimal n h)).1
 
-append_all : (xs ys : List (List ℕ)) → list_all is_word xs ≡ true → list_all is_word ys ≡ true → list_all is_word (xs ++ ys) ≡ true
-append_all [] ys h k = k
-append_all (x ∷ xs) ys h k = let p = and_parts (is_word x) (list_all is_word xs) h in and_from (is_word x) (list_all is_word (xs ++ ys)) p.0 (append_all xs ys p.1 k)
+append_all : {X : Type 0} (test : X → Bool) (xs ys : List X) → list_all test xs ≡ true → list_all test ys ≡ true → list_all test (xs ++ ys) ≡ true
+append_all test xs ys h k = list_all-append test xs ys ∙ and_from (list_all test xs) (list_all test ys) h k
 
 below_of : (most n : ℕ) → most < 2 ^ 64 → is_positive most n ≡ true → n < 2 ^ 64
 below_of most n wide h = let p = and_parts (not (eqb n 0)) (leb n most) h in let le = leb-true n most p.1 in omega arith
@@ -41,24 +42,18 @@ hints_words (n ∷ hints) h =
 pub clause_line : (atoms : ℕ) (lits : List Literal) → atoms < 2 ^ 64 → is_clause atoms lits ≡ true → is_line (clause_words lits) ≡ true
 clause_line atoms lits wide h =
     let p = and_parts (has_distinct_atoms lits) (list_all (is_within atoms) lits) h in
-    append_all (map literal_word lits) (zero_word ∷ []) (literals_words atoms lits wide p.1) refl
+    append_all is_word (map literal_word lits) (zero_word ∷ []) (literals_words atoms lits wide p.1) refl
 
 pub step_line : (atoms : ℕ) (s : Step) → atoms < 2 ^ 64 → is_step atoms s ≡ true → is_line (step_words s) ≡ true
 step_line atoms s wide h =
     let o = and_parts (is_clause atoms s.literals) (list_all (is_positive most_hint) s.hints) h in
     let p = and_parts (has_distinct_atoms s.literals) (list_all (is_within atoms) s.literals) o.0 in
-    append_all (map literal_word s.literals) (zero_word ∷ (map decimal s.hints ++ zero_word ∷ [])) (literals_words atoms s.literals wide p.1) (append_all (map decimal s.hints) (zero_word ∷ []) (hints_words s.hints o.1) refl)
+    append_all is_word (map literal_word s.literals) (zero_word ∷ (map decimal s.hints ++ zero_word ∷ [])) (literals_words atoms s.literals wide p.1) (append_all is_word (map decimal s.hints) (zero_word ∷ []) (hints_words s.hints o.1) refl)
 
 printable_parts : (b : ℕ) (bs : List ℕ) → are_printable (b ∷ bs) ≡ true → (32 ≤ b) × (are_printable bs ≡ true)
-printable_parts b bs h = by_test (ltb b 32) refl h
-  where
-    by_test : (t : Bool) → ltb b 32 ≡ t → cond (t || ltb 126 b) false (are_printable bs) ≡ true → (32 ≤ b) × (are_printable bs ≡ true)
-    by_test true is k = absurd cc
-    by_test false is k = (ltb-false b 32 is, by_high (ltb 126 b) k)
-      where
-        by_high : (t : Bool) → cond t false (are_printable bs) ≡ true → are_printable bs ≡ true
-        by_high true k = absurd cc
-        by_high false k = k
+printable_parts b bs h =
+    let p = at_else (ltb b 32 || ltb 126 b) (are_printable bs) h in
+    (ltb-false b 32 (or_parts (ltb b 32) (ltb 126 b) p.0).0, p.1)
 
 printable_open : (name rest : List ℕ) → are_printable name ≡ true → is_open rest ≡ true → is_open (name ++ rest) ≡ true
 printable_open [] rest h k = k
@@ -73,10 +68,6 @@ block_line name h =
     let front : words (joined (codes "block" ∷ name ∷ [])) ≡ codes "block" ∷ words (name ++ []) = word_front (codes "block") (name ++ []) refl in
     and_from (is_open (joined (codes "block" ∷ name ∷ []))) (not (is_passed_over (words (joined (codes "block" ∷ name ∷ [])))))
     (printable_open name [] q.1 refl) (ap (λ ws. not (is_passed_over ws)) front)
-
-append_fine : (xs ys : List (List (List ℕ))) → list_all is_fine xs ≡ true → list_all is_fine ys ≡ true → list_all is_fine (xs ++ ys) ≡ true
-append_fine [] ys h k = k
-append_fine (x ∷ xs) ys h k = let p = and_parts (is_fine x) (list_all is_fine xs) h in and_from (is_fine x) (list_all is_fine (xs ++ ys)) p.0 (append_fine xs ys p.1 k)
 
 clauses_fine : (atoms : ℕ) (cs : List (List Literal)) → atoms < 2 ^ 64 → list_all (is_clause atoms) cs ≡ true → list_all is_fine (map clause_words cs) ≡ true
 clauses_fine atoms [] wide h = refl
@@ -121,9 +112,9 @@ block_fine b h =
     let steps = map step_words (steps_so_far b.log) in
     and_from (is_fine (codes "block" ∷ b.name ∷ [])) (is_fine (codes "atoms" ∷ decimal atoms ∷ []) && list_all is_fine (clauses ++ (steps ++ end ∷ []))) (block_line b.name w.name)
     (and_from (is_fine (codes "atoms" ∷ decimal atoms ∷ [])) (list_all is_fine (clauses ++ (steps ++ end ∷ []))) (line_fine (codes "atoms" ∷ decimal atoms ∷ []) (atoms_line atoms w.atoms))
-    (append_fine clauses (steps ++ end ∷ []) (clauses_fine atoms b.clauses.clauses wide w.clauses)
-    (append_fine steps (end ∷ []) (steps_fine atoms (steps_so_far b.log) wide (log_steps atoms b.log w.log)) refl)))
+    (append_all is_fine clauses (steps ++ end ∷ []) (clauses_fine atoms b.clauses.clauses wide w.clauses)
+    (append_all is_fine steps (end ∷ []) (steps_fine atoms (steps_so_far b.log) wide (log_steps atoms b.log w.log)) refl)))
 
 pub blocks_fine : (bs : List Block) → are_blocks bs ≡ true → list_all is_fine (flat_map block_lines bs) ≡ true
 blocks_fine [] h = refl
-blocks_fine (b ∷ bs) h = let p = and_parts (is_block b) (are_blocks bs) h in append_fine (block_lines b) (flat_map block_lines bs) (block_fine b p.0) (blocks_fine bs p.1)
+blocks_fine (b ∷ bs) h = let p = and_parts (is_block b) (are_blocks bs) h in append_all is_fine (block_lines b) (flat_map block_lines bs) (block_fine b p.0) (blocks_fine bs p.1)

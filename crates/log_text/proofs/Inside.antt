@@ -1,26 +1,23 @@
 -- What is read of a clause or a step keeps the limits of its block.
-use Rattle.std.proofs.Common.{◌≡◌, ℕ, zero, suc, ◌<◌, ◌≤◌, Bool, true, false, cond, eqb, leb, ltb, ◌&&◌, List, [], ◌∷◌, ◌++◌, Some, None, refl, ◌∙◌, subst, arith}
+use Rattle.std.proofs.Common.{◌≡◌, ℕ, ◌<◌, ◌≤◌, Bool, true, false, cond, eqb, leb, ltb, ◌&&◌, List, [], ◌∷◌, ◌++◌, Some, None, refl, subst}
 use Rattle.std.specs.List.{list_all}
 use Rattle.std.proofs.lemmas.Bool.{and_from, le-leb, lt-ltb}
 use Rattle.std.proofs.lemmas.Option.{same_Some, cond_some}
-use Rattle.std.proofs.lemmas.List.Folds.{list_all-append}
 use Rattle.text_lines.specs.Text.{ended}
 use Rattle.text_lines.specs.Numbers.{◌>>=◌, number_of}
+use Rattle.text_lines.proofs.Cuts.{some_from_test}
 use Rattle.text_lines.proofs.Numerals.{number_is}
 use Rattle.text_lines.proofs.Inverse.{bind_some}
 use Rattle.clause_log.specs.Literals.{Literal, has_distinct_atoms, is_within, is_clause}
 use Rattle.clause_log.specs.Refutations.{Step}
+use Rattle.clause_log.proofs.Flat.{all_more}
 use Rattle.log_text.specs.Words.{positive_of, literal_of, is_zero, literals_from, hints_from, clause_of, step_of}
 
 positive_by : (most n m : ℕ) (t : Bool) → t ≡ eqb n 0 → cond t None (Some n) ≡ Some m → n ≤ most → (ltb 0 m && leb m most) ≡ true
 positive_by most n m true q e l = absurd cc
 positive_by most n m false q e l =
-    let some : 0 < n = (let w : false ≡ eqb n 0 = q in above n w) in
+    let some : 0 < n = some_from_test n q in
     subst (λ k. (ltb 0 k && leb k most) ≡ true) (same_Some n m e) (and_from (ltb 0 n) (leb n most) (lt-ltb 0 n some) (le-leb n most l))
-  where
-    above : (n : ℕ) → false ≡ eqb n 0 → 0 < n
-    above zero h = absurd cc
-    above (suc n) h = omega arith
 
 positive_within : (most : ℕ) (w : List ℕ) (m : ℕ) → positive_of most w ≡ Some m → (ltb 0 m && leb m most) ≡ true
 unfolding positive_of
@@ -42,17 +39,13 @@ unfolding literal_of
 literal_within atoms [] l e = absurd cc
 literal_within atoms (b ∷ bs) l e = literal_by atoms b bs l (eqb b 45) e
 
-all_within : (atoms : ℕ) (found : List Literal) (l : Literal) → list_all (is_within atoms) found ≡ true → is_within atoms l ≡ true → list_all (is_within atoms) (found ++ l ∷ []) ≡ true
-all_within atoms found l h k =
-    list_all-append (is_within atoms) found (l ∷ []) ∙ and_from (list_all (is_within atoms) found) (is_within atoms l && true) h (and_from (is_within atoms l) true k refl)
-
 literals_by : (atoms : ℕ) (found : List Literal) (w : List ℕ) (ws : List (List ℕ)) (x : List Literal × List (List ℕ)) (t : Bool) → list_all (is_within atoms) found ≡ true
     → ((more : List Literal) → list_all (is_within atoms) more ≡ true → literals_from atoms more ws ≡ Some x → list_all (is_within atoms) x.0 ≡ true)
     → cond t (Some (found, ws)) (literal_of atoms w >>= λ l. literals_from atoms (found ++ l ∷ []) ws) ≡ Some x → list_all (is_within atoms) x.0 ≡ true
 literals_by atoms found w ws x true h k e = subst (λ y. list_all (is_within atoms) y.0 ≡ true) (same_Some (found, ws) x e) h
 literals_by atoms found w ws x false h k e =
     let y = bind_some (literal_of atoms w) (λ l. literals_from atoms (found ++ l ∷ []) ws) x e in
-    k (found ++ y.0 ∷ []) (all_within atoms found y.0 h (literal_within atoms w y.0 y.1)) y.2
+    k (found ++ y.0 ∷ []) (all_more (is_within atoms) found (found ++ y.0 ∷ []) y.0 refl h (literal_within atoms w y.0 y.1)) y.2
 
 literals_within : (atoms : ℕ) (found : List Literal) (ws : List (List ℕ)) (x : List Literal × List (List ℕ)) → list_all (is_within atoms) found ≡ true → literals_from atoms found ws ≡ Some x → list_all (is_within atoms) x.0 ≡ true
 literals_within atoms found [] x h e = absurd cc

@@ -1,3 +1,5 @@
+//! The blocks of a log text.
+
 use clause_log::{Clauses, Log};
 use sqlite_items::Items;
 

@@ -1,3 +1,5 @@
+//! The law that printed blocks read back.
+
 ghost use Rattle.std.specs.Prelude.{◌≡◌, List, Ok, true};
 ghost use Rattle.text_lines.specs.Machine.{reading};
 ghost use Rattle.log_text.specs.declared.block.Block.{Block as BlockOf};

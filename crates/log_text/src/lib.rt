@@ -13,5 +13,5 @@ mod words;
 
 pub use block::{Block, Blocks, Text};
 pub use laws::logs_read_back;
-pub use print::print_log;
+pub use print::{print_log, put_next_literal, put_steps};
 pub use read::{LogRefusal, read_log};

@@ -2,6 +2,7 @@
 
 ghost use Rattle.std.specs.Prelude.{◌≡◌, ◌++◌, ◌∷◌, [], Ok, decimal, IfOk, map, OnOk, slice_index_or, true};
 ghost use Rattle.std.specs.List.{flat_map};
+ghost use Rattle.clause_log.specs.Literals.{Literal};
 ghost use Rattle.clause_log.specs.Refutations.{Step};
 ghost use Rattle.text_lines.specs.Machine.{reading};
 ghost use Rattle.text_lines.specs.Printed.{line_text, spaced};
@@ -66,7 +67,8 @@ fn put_clauses(out: &mut Vec<u8>, clauses: &Clauses) -> Result<(), AllocError>
     Ok(())
 }
 
-fn put_steps(out: &mut Vec<u8>, log: &Log) -> Result<(), AllocError>
+/// Appends the lines of a log's steps.
+pub fn put_steps(out: &mut Vec<u8>, log: &Log) -> Result<(), AllocError>
     ensures { OnOk result (out.new.items ≡ out.old.items ++ flat_map line_text (map step_words log.now)) }
 {
     let count = log.len();
@@ -103,20 +105,21 @@ fn put_literals(out: &mut Vec<u8>, literals: &[Lit]) -> Result<(), AllocError>
 {
     let mut rest = literals;
     'literals: while let [l, more @ ..] = rest {
-        put_next_literal(out, *l)?;
+        put_next_literal(out, l.is_positive(), l.atom())?;
         rest = more;
     }
     Ok(())
 }
 
-fn put_next_literal(out: &mut Vec<u8>, l: Lit) -> Result<(), AllocError>
-    ensures { OnOk result (out.new.items ≡ out.old.items ++ 32 ∷ literal_word l) }
+/// Appends a space and a literal: an atom or its negation.
+pub fn put_next_literal(out: &mut Vec<u8>, is_positive: bool, atom: u64) -> Result<(), AllocError>
+    ensures { OnOk result (let l : Literal = record { positive = is_positive; atom = atom } in out.new.items ≡ out.old.items ++ 32 ∷ literal_word l) }
 {
-    if l.is_positive() {
-        put_next_number(out, l.atom())
+    if is_positive {
+        put_next_number(out, atom)
     } else {
         put_next_word(out, b"-")?;
-        put_number(out, l.atom())
+        put_number(out, atom)
     }
 }
 

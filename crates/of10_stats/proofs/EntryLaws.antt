@@ -1,6 +1,5 @@
 -- The laws of flow entries.
-use Rattle.std.proofs.Common.{◌≡◌, ℕ, ◌+◌, ◌≤◌, List, length, false, ◌||◌, ltb, refl, arith}
-use Rattle.std.proofs.lemmas.Bool.{le-ltb, ltb-false, or_parts}
+use Rattle.std.proofs.Common.{◌≡◌, ℕ, ◌+◌, ◌≤◌, List, length, false, refl, arith}
 use Rattle.std.specs.List.{flat_map, AllByRecursion}
 use Rattle.of10_wire.specs.declared.types.FlowMatch.{FlowMatch}
 use Rattle.of10_wire.specs.declared.action.Action.{Action}
@@ -15,6 +14,7 @@ use Rattle.of10_wire.proofs.Listed.{IsItem}
 use Rattle.of10_wire.proofs.Nested.{IsNest, nest_item}
 use Rattle.of10_wire.proofs.PartLaws.{match-once, match_there, width-match, behind_match, with_match}
 use Rattle.of10_wire.proofs.ActionLaws.{action_part, action_item, actions_proper}
+use Rattle.of10_stats.proofs.Told.{told_begun, told_fits}
 use Rattle.of10_stats.specs.declared.entry.FlowEntry.{FlowEntry}
 use Rattle.of10_stats.specs.Entries.{entry_slots, after_match, entry_len, is_no_entry, IsProperEntry, RefusesEntry}
 
@@ -59,14 +59,11 @@ entry_stands x bytes h = (behind_match 4 x.flow (after_match x) bytes h.1.1).1.1
 
 entry_begun : (bytes : List ℕ) → is_no_entry bytes ≡ false → (88 ≤ number 2 0 bytes) × (number 2 0 bytes ≤ length bytes)
 unfolding is_no_entry
-entry_begun bytes h =
-    let parts = or_parts (ltb (length bytes) 88 || ltb (number 2 0 bytes) 88) (ltb (length bytes) (number 2 0 bytes)) h in
-    let first = or_parts (ltb (length bytes) 88) (ltb (number 2 0 bytes) 88) parts.0 in
-    (ltb-false (number 2 0 bytes) 88 first.1, ltb-false (length bytes) (number 2 0 bytes) parts.1)
+entry_begun bytes h = told_begun (length bytes) (number 2 0 bytes) 88 h
 
 entry_fits : (bytes : List ℕ) → 88 ≤ number 2 0 bytes → number 2 0 bytes ≤ length bytes → is_no_entry bytes ≡ false
 unfolding is_no_entry
-entry_fits bytes low high = rw (le-ltb (length bytes) 88 (omega (arith, low, high)), le-ltb (number 2 0 bytes) 88 low, le-ltb (length bytes) (number 2 0 bytes) high) refl
+entry_fits bytes low high = told_fits (length bytes) (number 2 0 bytes) 88 low high
 
 abbrev entry_there : List Action → List ℕ → FlowEntry
 entry_there actions bytes =

@@ -1,5 +1,6 @@
 pub mod Proper
 pub mod CounterLaws
+mod Told
 pub mod EntryLaws
 pub mod QueueLaws
 pub mod KindLaws

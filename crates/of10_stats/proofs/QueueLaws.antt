@@ -11,6 +11,7 @@ use Rattle.of10_wire.proofs.Items.{items-proper}
 use Rattle.of10_wire.proofs.Once.{IsPart, items-once}
 use Rattle.of10_wire.proofs.Listed.{Front, IsItem}
 use Rattle.of10_wire.proofs.Nested.{IsNest, nest_item}
+use Rattle.of10_stats.proofs.Told.{told_begun, told_fits}
 use Rattle.of10_stats.specs.declared.queue.QueueProperty.{QueueProperty}
 use Rattle.of10_stats.specs.declared.queue.QueueProperty.TheVariants.{MinRate, Other}
 use Rattle.of10_stats.specs.declared.queue.Queue.{Queue}
@@ -139,14 +140,11 @@ queue_stands x bytes h = h.1.1
 
 queue_begun : (bytes : List ℕ) → is_no_queue bytes ≡ false → (8 ≤ number 2 4 bytes) × (number 2 4 bytes ≤ length bytes)
 unfolding is_no_queue
-queue_begun bytes h =
-    let parts = or_parts (ltb (length bytes) 8 || ltb (number 2 4 bytes) 8) (ltb (length bytes) (number 2 4 bytes)) h in
-    let first = or_parts (ltb (length bytes) 8) (ltb (number 2 4 bytes) 8) parts.0 in
-    (ltb-false (number 2 4 bytes) 8 first.1, ltb-false (length bytes) (number 2 4 bytes) parts.1)
+queue_begun bytes h = told_begun (length bytes) (number 2 4 bytes) 8 h
 
 queue_fits : (bytes : List ℕ) → 8 ≤ number 2 4 bytes → number 2 4 bytes ≤ length bytes → is_no_queue bytes ≡ false
 unfolding is_no_queue
-queue_fits bytes low high = rw (le-ltb (length bytes) 8 (omega (arith, low, high)), le-ltb (number 2 4 bytes) 8 low, le-ltb (length bytes) (number 2 4 bytes) high) refl
+queue_fits bytes low high = told_fits (length bytes) (number 2 4 bytes) 8 low high
 
 queue_build : (properties : List QueueProperty) (bytes : List ℕ) → Stand 8 (flat_map property_slots properties) bytes → number 2 4 bytes ≡ 8 + width (flat_map property_slots properties)
     → (x : Queue) × Stand 0 (queue_slots x) bytes × (width (queue_slots x) ≡ number 2 4 bytes)

@@ -1,16 +1,14 @@
 -- The laws of replies with statistics: of any bytes exactly one holds, that they hold one reply, or that one refusal
 -- stands.
-use Rattle.std.proofs.Common.{◌≡◌, ℕ, ◌+◌, ◌-◌, ◌/◌, ◌%◌, ◌≤◌, List, length, true, not, Option, Some, None, refl, sym, ap, ◌∙◌, inl, inr, ◌⊎◌, arith}
+use Rattle.std.proofs.Common.{◌≡◌, ℕ, ◌+◌, ◌-◌, ◌/◌, ◌%◌, ◌≤◌, List, length, true, Option, Some, None, refl, sym, ap, ◌∙◌, inl, inr, ◌⊎◌, arith}
 use Rattle.std.specs.Prelude.{IfSome}
-use Rattle.std.proofs.lemmas.Bool.{cases_eq, eq-eqb, eqb-true, le-leb, leb-true, not-false}
+use Rattle.std.proofs.lemmas.Bool.{eq-eqb, eqb-true, le-leb, leb-true}
 use Rattle.std.specs.List.{flat_map}
 use Rattle.of10_wire.specs.declared.refusal.WireRefusal.{WireRefusal}
-use Rattle.of10_wire.specs.declared.refusal.WireWhy.TheVariants.{BadStat}
-use Rattle.of10_wire.specs.Refusals.{refusal}
 use Rattle.of10_wire.specs.Layout.{width, number, part, Stand}
 use Rattle.of10_wire.specs.Lists.{IsRefusedIn}
 use Rattle.of10_wire.proofs.Standing.{length-part, bytes_from, length-bytes_from, rest-stands}
-use Rattle.of10_wire.proofs.Tests.{apart, passes, near_front}
+use Rattle.of10_wire.proofs.Tests.{apart}
 use Rattle.of10_wire.proofs.Items.{part-whole}
 use Rattle.of10_wire.proofs.Once.{items-once}
 use Rattle.of10_wire.proofs.Widths.{width-fixed, fixed-found}
@@ -26,7 +24,7 @@ use Rattle.of10_stats.specs.Kinds.{is_stats_kind}
 use Rattle.of10_stats.specs.Counters.{table_slots, port_counters_slots, queue_counters_slots}
 use Rattle.of10_stats.specs.Entries.{entry_slots, RefusesEntry}
 use Rattle.of10_stats.specs.Replies.{reply_kind, reply_slots, allows_reply, reply_refusal, IsReply, IsProperReply, RefusesReply}
-use Rattle.of10_stats.proofs.KindLaws.{stats_kind}
+use Rattle.of10_stats.proofs.KindLaws.{Begun, begun, allowed, by_kind, low_refusal}
 use Rattle.of10_stats.proofs.CounterLaws.{table_fixed, port_counters_fixed, queue_counters_fixed}
 use Rattle.of10_stats.proofs.EntryLaws.{entry_item, entries_proper}
 
@@ -130,14 +128,13 @@ reply-refused-once bytes d e (inl h) (inr k) = absurd (not_both bytes d h k.0)
 reply-refused-once bytes d e (inr h) (inl k) = absurd (not_both bytes e k h.0)
 reply-refused-once bytes d e (inr h) (inr k) = items-refused-once entry_slots RefusesEntry entry_item 12 (part (length bytes - 12) 12 bytes) d e h.1 k.1
 
-low_refusal : (bytes : List ℕ) → IfSome (reply_refusal bytes) (λ d. d.at ≤ 12)
+front : (bytes : List ℕ) → IfSome (reply_refusal bytes) (λ d. d.at ≤ 12)
 unfolding reply_refusal
-low_refusal bytes =
-    near_front 12 (not (is_stats_kind (number 2 8 bytes))) (refusal 8 BadStat) _ (omega arith) (near_front 12 (not (allows_reply (number 2 8 bytes) (length bytes - 12))) (refusal 12 BadStat) None (omega arith) tt)
+front bytes = low_refusal allows_reply bytes
 
 pub reply-within : (bytes : List ℕ) (e : WireRefusal) → 12 ≤ length bytes → RefusesReply bytes e → e.at ≤ length bytes
 reply-within bytes e long (inl r) =
-    let low = low_refusal bytes in
+    let low = front bytes in
     let near : e.at ≤ 12 = rw r at low in
     omega (arith, near, long)
 reply-within bytes e long (inr r) =
@@ -158,99 +155,66 @@ reply_proper x bytes h = tt
 abbrev pub ReplyFound : List ℕ → Type 0
 ReplyFound bytes = ((x : StatsReply) × IsReply bytes x) ⊎ ((e : WireRefusal) × RefusesReply bytes e)
 
--- what bytes show whose kind and length are allowed
-record Begun (bytes : List ℕ) : Type 0 where
-  pub long : 12 ≤ length bytes
-  pub known : is_stats_kind (number 2 8 bytes) ≡ true
-  pub fits : allows_reply (number 2 8 bytes) (length bytes - 12) ≡ true
-
-begun : (bytes : List ℕ) → 12 ≤ length bytes → reply_refusal bytes ≡ None → Begun bytes
+begun_by : (bytes : List ℕ) → 12 ≤ length bytes → reply_refusal bytes ≡ None → Begun allows_reply bytes
 unfolding reply_refusal
-begun bytes long h =
-    let kind = number 2 8 bytes in
-    let known = passes (not (is_stats_kind kind)) (refusal 8 BadStat) _ h in
-    let fits = passes (not (allows_reply kind (length bytes - 12))) (refusal 12 BadStat) None known.1 in
-    record { long = long; known = not-false (is_stats_kind kind) known.0; fits = not-false (allows_reply kind (length bytes - 12)) fits.0 }
+begun_by bytes long h = begun allows_reply bytes long h
 
-allowed : (kind : ℕ) (bytes : List ℕ) → Begun bytes → number 2 8 bytes ≡ kind → allows_reply kind (length bytes - 12) ≡ true
-allowed kind bytes b is = rw (← is) b.fits
-
-desc : (bytes : List ℕ) → Begun bytes → number 2 8 bytes ≡ 0 → ReplyFound bytes
+desc : (bytes : List ℕ) → Begun allows_reply bytes → number 2 8 bytes ≡ 0 → ReplyFound bytes
 unfolding Stand reply_slots
 desc bytes b is =
-    let len = eqb-true (length bytes - 12) 1056 (allowed 0 bytes b is) in
+    let len = eqb-true (length bytes - 12) 1056 (allowed allows_reply 0 bytes b is) in
     inl (Desc (part 256 12 bytes) (part 256 268 bytes) (part 256 524 bytes) (part 32 780 bytes) (part 256 812 bytes), record { kind = is; stand = (refl, (refl, (refl, (refl, (refl, tt))))); whole = omega (arith, len, b.long) })
 
-flow_list : (bytes : List ℕ) → Begun bytes → number 2 8 bytes ≡ 1 → listed.Found entry_slots RefusesEntry 12 (part (length bytes - 12) 12 bytes) → ReplyFound bytes
+flow_list : (bytes : List ℕ) → Begun allows_reply bytes → number 2 8 bytes ≡ 1 → listed.Found entry_slots RefusesEntry 12 (part (length bytes - 12) 12 bytes) → ReplyFound bytes
 unfolding reply_slots
 flow_list bytes b is (inl (entries, h)) =
     let there = part-whole 12 (length bytes - 12) (flat_map entry_slots entries) bytes (omega (arith, b.long)) h in
     inl (Flow entries, record { kind = is; stand = there.0; whole = omega (arith, there.1, b.long) })
 flow_list bytes b is (inr (e, r)) = inr (e, inr (is, r))
 
-flow : (bytes : List ℕ) → Begun bytes → number 2 8 bytes ≡ 1 → ReplyFound bytes
+flow : (bytes : List ℕ) → Begun allows_reply bytes → number 2 8 bytes ≡ 1 → ReplyFound bytes
 flow bytes b is = flow_list bytes b is (items-found entry_slots RefusesEntry entry_item 12 (part (length bytes - 12) 12 bytes))
 
-aggregate : (bytes : List ℕ) → Begun bytes → number 2 8 bytes ≡ 2 → ReplyFound bytes
+aggregate : (bytes : List ℕ) → Begun allows_reply bytes → number 2 8 bytes ≡ 2 → ReplyFound bytes
 unfolding Stand reply_slots
 aggregate bytes b is =
-    let len = eqb-true (length bytes - 12) 24 (allowed 2 bytes b is) in
+    let len = eqb-true (length bytes - 12) 24 (allowed allows_reply 2 bytes b is) in
     inl (Aggregate (number 8 12 bytes) (number 8 20 bytes) (number 4 28 bytes), record { kind = is; stand = (refl, (refl, (refl, tt))); whole = omega (arith, len, b.long) })
 
-table : (bytes : List ℕ) → Begun bytes → number 2 8 bytes ≡ 3 → ReplyFound bytes
+table : (bytes : List ℕ) → Begun allows_reply bytes → number 2 8 bytes ≡ 3 → ReplyFound bytes
 unfolding reply_slots
 table bytes b is =
-    let rem : (length bytes - 12) % 64 ≡ 0 = eqb-true ((length bytes - 12) % 64) 0 (allowed 3 bytes b is) in
+    let rem : (length bytes - 12) % 64 ≡ 0 = eqb-true ((length bytes - 12) % 64) 0 (allowed allows_reply 3 bytes b is) in
     let has = fixed-found table_slots 64 table_fixed ((length bytes - 12) / 64) 12 bytes in
     inl (Table has.list, record { kind = is; stand = has.stand; whole = omega (arith, has.wide, rem, b.long) })
 
-port : (bytes : List ℕ) → Begun bytes → number 2 8 bytes ≡ 4 → ReplyFound bytes
+port : (bytes : List ℕ) → Begun allows_reply bytes → number 2 8 bytes ≡ 4 → ReplyFound bytes
 unfolding reply_slots
 port bytes b is =
-    let rem : (length bytes - 12) % 104 ≡ 0 = eqb-true ((length bytes - 12) % 104) 0 (allowed 4 bytes b is) in
+    let rem : (length bytes - 12) % 104 ≡ 0 = eqb-true ((length bytes - 12) % 104) 0 (allowed allows_reply 4 bytes b is) in
     let has = fixed-found port_counters_slots 104 port_counters_fixed ((length bytes - 12) / 104) 12 bytes in
     inl (Port has.list, record { kind = is; stand = has.stand; whole = omega (arith, has.wide, rem, b.long) })
 
-queue : (bytes : List ℕ) → Begun bytes → number 2 8 bytes ≡ 5 → ReplyFound bytes
+queue : (bytes : List ℕ) → Begun allows_reply bytes → number 2 8 bytes ≡ 5 → ReplyFound bytes
 unfolding reply_slots
 queue bytes b is =
-    let rem : (length bytes - 12) % 32 ≡ 0 = eqb-true ((length bytes - 12) % 32) 0 (allowed 5 bytes b is) in
+    let rem : (length bytes - 12) % 32 ≡ 0 = eqb-true ((length bytes - 12) % 32) 0 (allowed allows_reply 5 bytes b is) in
     let has = fixed-found queue_counters_slots 32 queue_counters_fixed ((length bytes - 12) / 32) 12 bytes in
     inl (Queue has.list, record { kind = is; stand = has.stand; whole = omega (arith, has.wide, rem, b.long) })
 
-vendor : (bytes : List ℕ) → Begun bytes → number 2 8 bytes ≡ 65535 → ReplyFound bytes
+vendor : (bytes : List ℕ) → Begun allows_reply bytes → number 2 8 bytes ≡ 65535 → ReplyFound bytes
 unfolding Stand reply_slots
 vendor bytes b is =
-    let long : 4 ≤ length bytes - 12 = leb-true 4 (length bytes - 12) (allowed 65535 bytes b is) in
+    let long : 4 ≤ length bytes - 12 = leb-true 4 (length bytes - 12) (allowed allows_reply 65535 bytes b is) in
     let le : 16 ≤ length bytes = omega (arith, long, b.long) in
     let len = length-bytes_from 16 bytes le in
     inl (Vendor (number 4 12 bytes) (bytes_from 16 bytes), record { kind = is; stand = (refl, (rest-stands 16 bytes le, tt)); whole = omega (arith, len) })
 
-kind_found : (bytes : List ℕ) → Begun bytes → ReplyFound bytes
-kind_found bytes b =
-    let kind = number 2 8 bytes in
-    elim (cases_eq kind 0) [
-      | inl is ↦ desc bytes b is
-      | inr no0 ↦ elim (cases_eq kind 1) [
-        | inl is ↦ flow bytes b is
-        | inr no1 ↦ elim (cases_eq kind 2) [
-          | inl is ↦ aggregate bytes b is
-          | inr no2 ↦ elim (cases_eq kind 3) [
-            | inl is ↦ table bytes b is
-            | inr no3 ↦ elim (cases_eq kind 4) [
-              | inl is ↦ port bytes b is
-              | inr no4 ↦ elim (cases_eq kind 5) [
-                | inl is ↦ queue bytes b is
-                | inr no5 ↦ vendor bytes b (stats_kind kind b.known no0 no1 no2 no3 no4 no5)
-              ]
-            ]
-          ]
-        ]
-      ]
-    ]
+kind_found : (bytes : List ℕ) → Begun allows_reply bytes → ReplyFound bytes
+kind_found bytes b = by_kind (number 2 8 bytes) b.known (desc bytes b) (flow bytes b) (aggregate bytes b) (table bytes b) (port bytes b) (queue bytes b) (vendor bytes b)
 
 pub reply_found : (bytes : List ℕ) → 12 ≤ length bytes → ReplyFound bytes
 reply_found bytes long = found_by bytes long (reply_refusal bytes) refl where
   found_by : (bytes : List ℕ) → 12 ≤ length bytes → (first : Option WireRefusal) → reply_refusal bytes ≡ first → ReplyFound bytes
-  found_by bytes long None is = kind_found bytes (begun bytes long is)
+  found_by bytes long None is = kind_found bytes (begun_by bytes long is)
   found_by bytes long (Some e) is = inr (e, inl is)

@@ -1,3 +1,5 @@
+//! A test for numbers that stand twice.
+
 ghost use Rattle.std.specs.Prelude.{◌≡◌, ◌↔◌, IfOk, IsTrue};
 ghost use Rattle.std.specs.List.Sorted.{IsStrictlyIncreasing};
 ghost use Rattle.text_lines.specs.Distinct.{are_distinct as distinct};

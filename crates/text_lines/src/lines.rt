@@ -1,3 +1,5 @@
+//! The lines of a text that count, with their numbers.
+
 ghost use Rattle.std.specs.Prelude.{◌≡◌, ◌+◌, ◌<◌, ◌^◌, length};
 ghost use Rattle.text_lines.specs.Text.{words, is_passed_over as is_over};
 

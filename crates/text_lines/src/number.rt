@@ -1,3 +1,5 @@
+//! Decimal numbers without a sign or leading zeros.
+
 ghost use Rattle.std.specs.Prelude.{◌≡◌, ◌≤◌, IfSome};
 ghost use Rattle.text_lines.specs.Numbers.{number_of};
 

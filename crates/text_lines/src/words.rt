@@ -1,3 +1,5 @@
+//! The words of a line, one after the other.
+
 ghost use Rattle.std.specs.Prelude.{◌≡◌, option_map};
 ghost use Rattle.text_lines.specs.Text.{words, next};
 
