@@ -1,10 +1,9 @@
 -- The loop over the pieces.
-use Rattle.std.proofs.Common.{◌≡◌, ℕ, ◌+◌, ◌<◌, ◌≤◌, List, [], ◌∷◌, ◌++◌, length, take, drop, ◌-◌, refl, sym, subst, ap, ◌∙◌, append_assoc, append-nil, arith, length-drop}
+use Rattle.std.proofs.Common.{◌≡◌, ℕ, ◌+◌, ◌<◌, ◌≤◌, List, [], ◌∷◌, ◌++◌, length, take, drop, ◌-◌, refl, sym, subst, ap, ◌∙◌, append_assoc, arith, length-drop}
 use Rattle.std.proofs.lemmas.List.{drop-drop, take_all}
 use Rattle.csdn_tokens.specs.declared.Kind.{Kind}
 use Rattle.csdn_tokens.specs.declared.Kind.TheVariants as k
 use Rattle.csdn_tokens.specs.declared.Token.{Token}
-use Rattle.csdn_tokens.specs.declared.Piece.{Piece}
 use Rattle.csdn_tokens.specs.declared.Piece.TheVariants as p
 use Rattle.csdn_tokens.specs.Lex.{piece, token_at, Lexes}
 use Rattle.csdn_tokens.specs.Lex.Lexes.{end, fault, blank, one}

@@ -1,7 +1,8 @@
 -- Tokens: the longest word or number, a symbol, or a fault at its first byte.
-use Rattle.std.specs.Prelude.{◌≡◌, ◌<◌, ◌≤◌, ℕ, ◌+◌, Bool, true, false, not, ◌&&◌, ◌||◌, if◌then◌else◌, ◌==◌, nat_lt, nat_eq, List, [], ◌∷◌, take, drop, map, slice_index}
+use Rattle.std.specs.Prelude.{◌≡◌, ◌<◌, ◌≤◌, ℕ, ◌+◌, Bool, true, false, not, ◌&&◌, ◌||◌, if◌then◌else◌, ◌==◌, nat_lt, List, [], ◌∷◌, take, drop, map, slice_index}
 use Rattle.std.specs.Char.{is_ascii_digit, is_ascii_alphanumeric, is_ascii_alphabetic}
 use Rattle.std.specs.List.{prefix_len}
+use Rattle.std.specs.Str.{bytes_eq}
 use Rattle.std.specs.Str.Parse.{digits_value}
 use Rattle.csdn_tokens.specs.declared.Class.{Class}
 use Rattle.csdn_tokens.specs.declared.Class.TheVariants as class
@@ -23,17 +24,10 @@ is_in class.Line b = not (b == 10)
 abbrev pub front : Class → List ℕ → ℕ
 front c text = prefix_len (is_in c) text
 
--- whether two texts have the same bytes
-abbrev pub same_text : List ℕ → List ℕ → Bool
-same_text [] [] = true
-same_text [] (c ∷ cs) = false
-same_text (b ∷ bs) [] = false
-same_text (b ∷ bs) (c ∷ cs) = b == c && same_text bs cs
-
 -- the kind of a word by a table; a name where the table lacks it
 abbrev pub lookup : List (List ℕ × Kind) → List ℕ → Kind
 lookup [] word = k.Name
-lookup (x ∷ xs) word = if same_text x.0 word then x.1 else lookup xs word
+lookup (x ∷ xs) word = if bytes_eq x.0 word then x.1 else lookup xs word
 
 -- the kind of a word: reserved, or a name
 unfoldable pub word_kind : List ℕ → Kind

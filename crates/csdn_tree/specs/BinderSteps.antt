@@ -1,9 +1,8 @@
 -- The clauses of binders, at what the code sees.
-use Rattle.std.specs.Prelude.{◌≡◌, ℕ, ◌+◌, ◌<◌, ◌≤◌, List, [], ◌∷◌, ◌++◌, refl}
+use Rattle.std.specs.Prelude.{◌≡◌, ℕ, ◌+◌, List, refl}
 use Rattle.csdn_core.specs.declared.terms.Sort.{Sort}
 use Rattle.csdn_tree.specs.declared.names.RawName.{RawName}
 use Rattle.csdn_tree.specs.declared.names.RawTerm.{RawTerm}
-use Rattle.csdn_tree.specs.declared.names.RawTerm.TheVariants.{Name, Port}
 use Rattle.csdn_tree.specs.declared.syntax.FlowWord.{FlowWord}
 use Rattle.csdn_tree.specs.declared.syntax.RawFlow.{RawFlow}
 use Rattle.csdn_tree.specs.declared.syntax.RawPacket.{RawPacket}
@@ -11,12 +10,7 @@ use Rattle.csdn_tree.specs.declared.syntax.RawFormula.{RawFormula}
 use Rattle.csdn_tree.specs.declared.syntax.RawFormula.TheVariants as f
 use Rattle.csdn_tree.specs.declared.syntax.RawCommand.{RawCommand}
 use Rattle.csdn_tree.specs.declared.syntax.RawCommand.TheVariants as c
-use Rattle.csdn_tree.specs.declared.syntax.RawRow.{RawRow}
-use Rattle.csdn_tree.specs.declared.syntax.RawPattern.{RawPattern}
-use Rattle.csdn_tree.specs.declared.syntax.RawPattern.TheVariants.{Any as AnyPort, Port as OnePort}
-use Rattle.csdn_tree.specs.declared.syntax.RawItem.{RawItem}
-use Rattle.csdn_tree.specs.declared.syntax.RawItem.TheVariants as item
-use Rattle.csdn_tree.specs.RawTree.{raw_seq, raw_if, raw_pick, Seq-is, If-is, Pick-is, Not-is, And-is, Or-is, Implies-is, Iff-is, Forall-is, Exists-is, raw_not, raw_and, raw_or, raw_implies, raw_iff, raw_forall, raw_exists}
+use Rattle.csdn_tree.specs.RawTree.{Seq-is, If-is, Pick-is, Not-is, And-is, Or-is, Implies-is, Iff-is, Forall-is, Exists-is}
 use Rattle.csdn_tree.specs.Binders.{binders, command_binders}
 
 pub binders-True : binders f.True ≡ 0

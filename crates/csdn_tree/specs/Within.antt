@@ -1,12 +1,7 @@
 -- Places rise in the order of the text: each tree stands from one place on and below another.
-use Rattle.std.specs.Prelude.{◌≡◌, ℕ, ◌+◌, ◌<◌, ◌≤◌, List, [], ◌∷◌, ◌++◌, refl}
-use Rattle.csdn_core.specs.declared.terms.Sort.{Sort}
-use Rattle.csdn_tree.specs.declared.names.RawName.{RawName}
+use Rattle.std.specs.Prelude.{ℕ, ◌+◌, ◌<◌, ◌≤◌, List, [], ◌∷◌}
 use Rattle.csdn_tree.specs.declared.names.RawTerm.{RawTerm}
-use Rattle.csdn_tree.specs.declared.names.RawTerm.TheVariants.{Name, Port}
-use Rattle.csdn_tree.specs.declared.syntax.FlowWord.{FlowWord}
-use Rattle.csdn_tree.specs.declared.syntax.RawFlow.{RawFlow}
-use Rattle.csdn_tree.specs.declared.syntax.RawPacket.{RawPacket}
+use Rattle.csdn_tree.specs.declared.names.RawTerm.TheVariants.{Name}
 use Rattle.csdn_tree.specs.declared.syntax.RawFormula.{RawFormula}
 use Rattle.csdn_tree.specs.declared.syntax.RawFormula.TheVariants as f
 use Rattle.csdn_tree.specs.declared.syntax.RawCommand.{RawCommand}
@@ -16,7 +11,7 @@ use Rattle.csdn_tree.specs.declared.syntax.RawPattern.{RawPattern}
 use Rattle.csdn_tree.specs.declared.syntax.RawPattern.TheVariants.{Any as AnyPort, Port as OnePort}
 use Rattle.csdn_tree.specs.declared.syntax.RawItem.{RawItem}
 use Rattle.csdn_tree.specs.declared.syntax.RawItem.TheVariants as item
-use Rattle.csdn_tree.specs.RawTree.{raw_seq, raw_if, raw_pick, Seq-is, If-is, Pick-is, Not-is, And-is, Or-is, Implies-is, Iff-is, Forall-is, Exists-is, raw_not, raw_and, raw_or, raw_implies, raw_iff, raw_forall, raw_exists}
+use Rattle.csdn_tree.specs.RawTree.{raw_seq, raw_if, raw_pick, raw_not, raw_and, raw_or, raw_implies, raw_iff, raw_forall, raw_exists}
 use Rattle.csdn_tree.specs.Places.{place as place_of}
 
 unfoldable pub TermsWithin : ℕ → List RawTerm → ℕ → Type 0

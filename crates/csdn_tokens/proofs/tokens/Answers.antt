@@ -1,4 +1,3 @@
-use Rattle.std.proofs.Common.{arith}
 use Rattle.csdn_tokens.proofs.Runs.{go_blank, go_one, go_fault, go_end}
 use Rattle.csdn_tokens.proofs.tokens.Goals as goal
 
