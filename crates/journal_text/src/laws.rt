@@ -1,3 +1,4 @@
+//! Laws of journal texts.
 ghost use Rattle.std.specs.Prelude.{◌≡◌, List, Ok, true};
 ghost use Rattle.text_lines.specs.Machine.{reading};
 ghost use Rattle.journal_text.specs.declared.note.Note.{Note as NoteOf};

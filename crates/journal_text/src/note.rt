@@ -1,3 +1,4 @@
+//! The notes of a journal.
 use csdn_core::event::Entry;
 use sqlite_items::Items;
 

@@ -29,7 +29,17 @@ pub fn list(alloc: Global, program: &Program, case: &Case) -> Result<Vec<u8>, Al
     let mut out = Vec::new(alloc);
     let mut env = Env::try_new(alloc, MOST_VARIABLES)?;
     let empty = State::try_empty(alloc, program)?;
-    put_topology(&mut out, &mut env, program, &case.network, &empty)?;
+    // Topology invariants don't look at the state.
+    put_truths(
+        &mut out,
+        &mut env,
+        b"topology",
+        topology_of(program),
+        program,
+        &case.network,
+        &empty,
+        &Packet::Nothing,
+    )?;
     put_state(&mut out, &mut env, program, case)?;
     Ok(out)
 }
@@ -55,55 +65,6 @@ pub fn trans_of(program: &Program) -> &[Invariant]
     ensures shallow { All (λ v. depth v.formula ≤ 24) result.now }
 {
     program.parts().trans.as_slice()
-}
-
-// The lines of the topology invariants, in a state at which they don't look.
-fn put_topology(
-    out: &mut Vec<u8>,
-    env: &mut Env,
-    program: &Program,
-    network: &Network,
-    state: &State,
-) -> Result<(), AllocError>
-    requires pairs { env.old.pairs ≡ [] }
-    requires room { env.old.room ≡ 24 }
-    ensures text { OnOk result (out.new.items ≡ out.old.items ++ flat_map line_text (truth_lines (codes "topology") (structure program.now network.now (held state.now) Nothing) program.now.topology)) }
-    ensures env { env.new ≡ env.old }
-{
-    put_truths(
-        out,
-        env,
-        b"topology",
-        topology_of(program),
-        program,
-        network,
-        state,
-        &Packet::Nothing,
-    )
-}
-
-fn put_safety(
-    out: &mut Vec<u8>,
-    env: &mut Env,
-    program: &Program,
-    network: &Network,
-    state: &State,
-) -> Result<(), AllocError>
-    requires pairs { env.old.pairs ≡ [] }
-    requires room { env.old.room ≡ 24 }
-    ensures text { OnOk result (out.new.items ≡ out.old.items ++ flat_map line_text (truth_lines (codes "safety") (structure program.now network.now (held state.now) Nothing) program.now.safety)) }
-    ensures env { env.new ≡ env.old }
-{
-    put_truths(
-        out,
-        env,
-        b"safety",
-        safety_of(program),
-        program,
-        network,
-        state,
-        &Packet::Nothing,
-    )
 }
 
 fn put_transitions(
@@ -164,7 +125,16 @@ fn put_in_state(
     ensures text { OnOk result (out.new.items ≡ out.old.items ++ flat_map line_text (state_lines program.now network.now (Some state.now) packet.now)) }
     ensures env { env.new ≡ env.old }
 {
-    put_safety(out, env, program, network, state)?;
+    put_truths(
+        out,
+        env,
+        b"safety",
+        safety_of(program),
+        program,
+        network,
+        state,
+        &Packet::Nothing,
+    )?;
     put_transitions(out, env, program, network, state, packet)
 }
 

@@ -1,15 +1,12 @@
 -- Lines that are appended one after another.
-use Rattle.std.proofs.Common.{◌≡◌, ◌∙◌, ap, sym, refl, ℕ, List, [], ◌∷◌, ◌++◌, append_assoc, append-nil}
+use Rattle.std.proofs.Common.{◌≡◌, ◌∙◌, ap, sym, ℕ, List, [], ◌∷◌, ◌++◌, append_assoc, append-nil}
 use Rattle.std.specs.List.{flat_map}
+use Rattle.std.proofs.lemmas.List.Concat.{flat_map-append}
 use Rattle.text_lines.specs.Printed.{line_text}
-
-pub text_append : (A B : List (List (List ℕ))) → flat_map line_text (A ++ B) ≡ flat_map line_text A ++ flat_map line_text B
-text_append [] B = refl
-text_append (ws ∷ A) B = ap (λ t. line_text ws ++ t) (text_append A B) ∙ sym (append_assoc (line_text ws) (flat_map line_text A) (flat_map line_text B))
 
 pub two : (old mid new : List ℕ) (A B : List (List (List ℕ))) → mid ≡ old ++ flat_map line_text A → new ≡ mid ++ flat_map line_text B → new ≡ old ++ flat_map line_text (A ++ B)
 two old mid new A B first second =
-    second ∙ ap (λ o. o ++ flat_map line_text B) first ∙ append_assoc old (flat_map line_text A) (flat_map line_text B) ∙ ap (λ t. old ++ t) (sym (text_append A B))
+    second ∙ ap (λ o. o ++ flat_map line_text B) first ∙ append_assoc old (flat_map line_text A) (flat_map line_text B) ∙ ap (λ t. old ++ t) (sym (flat_map-append line_text A B))
 
 pub five : (o a b c d e : List ℕ) (A B C D E : List (List (List ℕ))) → a ≡ o ++ flat_map line_text A → b ≡ a ++ flat_map line_text B → c ≡ b ++ flat_map line_text C → d ≡ c ++ flat_map line_text D → e ≡ d ++ flat_map line_text E
     → e ≡ o ++ flat_map line_text (A ++ (B ++ (C ++ (D ++ E))))

@@ -1,5 +1,5 @@
 -- What the reader's functions answer.
-use Rattle.std.specs.Prelude.{◌≡◌, ℕ, Result, Ok, Err}
+use Rattle.std.specs.Prelude.{◌≡◌, Result, Ok, Err}
 use Rattle.text_lines.specs.Machine.{Refused}
 use Rattle.net_structs.specs.declared.case.Case.{Case}
 use Rattle.net_text.specs.declared.refusal.Why.{Why}

@@ -1,3 +1,4 @@
+//! How far the reader of a network has come.
 use csdn_core::event::{Elements, Packet};
 use net_structs::case::Case;
 use net_structs::network::Network;

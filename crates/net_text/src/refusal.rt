@@ -1,3 +1,4 @@
+//! Why a network text is refused.
 use thiserror::Error;
 
 /// Why a line is refused. Of several reasons in one line the first in this order counts.

@@ -1,4 +1,4 @@
-use Rattle.std.proofs.Common.{◌∙◌, ◌++◌, ap}
+use Rattle.std.proofs.Common.{◌∙◌, ◌++◌, ap, ap₂}
 use Rattle.std.specs.Prelude.{codes}
 use Rattle.std.specs.List.{flat_map}
 use Rattle.text_lines.specs.Printed.{line_text}
@@ -14,7 +14,7 @@ pub returns : goal.returns
 returns c =
     let P = c.args.program.now in
     let k = c.args.case.now in
-    two c.new-out.result.items c.put_topology.new.out.items c.put_state.new.out.items (truth_lines (codes "topology") (structure P k.network empty_state Nothing) P.topology) (state_lines P k.network k.state k.packet)
-    (c.in_ok-put_topology.ensures.text ∙ ap (λ s. c.new-out.result.items ++ flat_map line_text (truth_lines (codes "topology") (structure P k.network (held s) Nothing) P.topology)) c.in_ok-empty.ensures)
+    two c.new-out.result.items c.put_truths.new.out.items c.put_state.new.out.items (truth_lines (codes "topology") (structure P k.network empty_state Nothing) P.topology) (state_lines P k.network k.state k.packet)
+    (c.in_ok-put_truths.ensures.text ∙ ap₂ (λ s vs. c.new-out.result.items ++ flat_map line_text (truth_lines (codes "topology") (structure P k.network (held s) Nothing) vs)) c.in_ok-empty.ensures c.topology_of.ensures.value)
     c.in_ok-put_state.ensures.text
     ∙ ap (λ t. t ++ listing P k) c.new-out.ensures.items

@@ -1,4 +1,4 @@
-use Rattle.std.proofs.Common.{◌∷◌, [], map}
+use Rattle.std.proofs.Common.{◌∷◌, map}
 use Rattle.std.specs.Prelude.{codes, decimal}
 use Rattle.std.proofs.lemmas.Result.{on_ok_weaker}
 use Rattle.net_text.specs.NetText.{header_words}

@@ -1,6 +1,4 @@
 use Rattle.std.proofs.Common.{◌∙◌, ◌++◌, ap}
-use Rattle.std.specs.List.{flat_map}
-use Rattle.text_lines.specs.Printed.{line_text}
 use Rattle.net_text.specs.NetText.{head_lines, part_lines, net_text}
 use Rattle.net_text.proofs.Appended.{two}
 use Rattle.net_text.proofs.print.text_of.Goals as goal
