@@ -1,14 +1,13 @@
 -- The hypotheses and goals of conditions are sentences.
-use Rattle.std.proofs.Common.{◌≡◌, ◌∙◌, sym, ap, subst, refl, ℕ, zero, suc, ◌+◌, List, [], ◌∷◌, ◌++◌, map, Option, Some, None, arith}
+use Rattle.std.proofs.Common.{◌≡◌, ◌∙◌, sym, subst, refl, ℕ, zero, suc, ◌+◌, List, [], ◌∷◌, map, Option, Some, None}
 use Rattle.std.specs.Prelude.{slice_get, slice_index_or, option_map}
 use Rattle.std.specs.List.{flat_map, range_with_len}
 use Rattle.std.proofs.lemmas.Option.{slice_get-map}
 use Rattle.csdn_core.specs.declared.program.Parts.{Parts}
-use Rattle.csdn_core.specs.declared.program.Invariant.{Invariant}
 use Rattle.csdn_core.specs.declared.syntax.Formula.{Formula}
 use Rattle.csdn_core.specs.declared.syntax.Formula.TheVariants.{True}
 use Rattle.csdn_core.specs.WellSorted.{IsWellSorted, signature}
-use Rattle.fol_forms.specs.Substitution.{Scope, no_scope}
+use Rattle.fol_forms.specs.Substitution.{no_scope}
 use Rattle.csdn_wp.specs.SortedIn.{Relations, any_relation, no_packet, IsSortedIn}
 use Rattle.csdn_wp.proofs.Sorting.{IsSortedIn-more}
 use Rattle.csdn_wp.proofs.Flow.{flow_sorted}

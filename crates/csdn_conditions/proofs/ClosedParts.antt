@@ -1,10 +1,12 @@
 -- The hypotheses of conditions are sentences.
-use Rattle.std.proofs.Common.{◌≡◌, ◌≢◌, ◌∙◌, sym, ap, subst, refl, ℕ, zero, suc, ◌+◌, ◌<◌, ◌≤◌, ◌==◌, Bool, true, false, List, [], ◌∷◌, ◌++◌, length, map, filter, Option, Some, None, All, Contains, IsTrue, IsFalse, if◌then◌else◌, eqb-true, inl, inr, arith}
+use Rattle.std.proofs.Common.{◌≡◌, ◌∙◌, sym, ap, subst, refl, ℕ, suc, ◌+◌, ◌<◌, ◌==◌, Bool, true, false, List, [], ◌∷◌, ◌++◌, map, filter, Some, All, Contains, if◌then◌else◌, eqb-true, arith}
 use Rattle.std.specs.Prelude.{slice_get, option_map}
 use Rattle.std.specs.List.{flat_map}
 use Rattle.std.proofs.lemmas.List.Elements.{All-tail, All-contains}
-use Rattle.csdn_core.specs.declared.terms.VarId.{VarId}
-use Rattle.csdn_core.specs.declared.terms.RelId.{RelId}
+use Rattle.std.proofs.lemmas.Bool.{ne_eqb}
+use Rattle.general_facts.proofs.Numbers.{self_equal}
+use Rattle.std.proofs.lemmas.Option.{same_Some}
+use Rattle.decision_laws.proofs.SortedForms.{distinct_left, distinct_right, distinct_pairs}
 use Rattle.csdn_core.specs.declared.terms.Sort.{Sort}
 use Rattle.csdn_core.specs.declared.terms.Term.{Term}
 use Rattle.csdn_core.specs.declared.terms.Pred.{Pred}
@@ -17,15 +19,14 @@ use Rattle.csdn_core.specs.declared.program.Relation.{Relation}
 use Rattle.csdn_core.specs.declared.program.StartRow.{StartRow}
 use Rattle.csdn_core.specs.declared.syntax.Formula.{Formula}
 use Rattle.csdn_core.specs.declared.syntax.Formula.TheVariants.{Atom}
-use Rattle.csdn_core.specs.Tree.{conjunction, disjunction, equivalence}
+use Rattle.csdn_core.specs.Tree.{equivalence}
 use Rattle.csdn_core.specs.Sorted.{IsSorted, IsAllowed, HaveSorts, bound_in, flow_sorts, sorts_of}
 use Rattle.csdn_core.specs.WellSorted.{IsStartRow, IsWellSorted, invariant_bound_in, handler_bound_in, signature}
 use Rattle.fol_forms.specs.Closed.{closed}
 use Rattle.fol_forms.specs.Replace.{same}
 use Rattle.fol_forms.specs.Substitution.{Scope, no_scope, with_sort}
 use Rattle.decision_laws.specs.Clauses.{AreDistinct}
-use Rattle.csdn_wp.specs.SortedIn.{Relations, any_relation, no_packet, HasSortIn, HaveSortsIn, IsSortedIn}
-use Rattle.csdn_wp.proofs.Bounds.{distinct_left, distinct_right, distinct_pairs}
+use Rattle.csdn_wp.specs.SortedIn.{Relations, any_relation, no_packet, HaveSortsIn, IsSortedIn}
 use Rattle.csdn_wp.proofs.Scopes.{AreInScope-none, AreNew-none, all_in_scope, sorted_in}
 use Rattle.csdn_wp.proofs.Sorted.{IsSortedIn-same}
 use Rattle.csdn_conditions.specs.declared.lists.Join.{Join}
@@ -104,16 +105,10 @@ abbrev scope_from : ℕ → List Sort → Scope → Scope
 scope_from k [] Γ = Γ
 scope_from k (s ∷ ss) Γ = scope_from (k + 1) ss (with_sort Γ (record { 0 = k }) s)
 
-other_number : (j k : ℕ) → j < k → (j == k) ≡ false
-other_number j k less = grind arith
-
-own_number : (k : ℕ) → (k == k) ≡ true
-own_number k = grind arith
-
 scope-below : (k : ℕ) (ss : List Sort) (Γ : Scope) (j : ℕ) → j < k → scope_from k ss Γ j ≡ Γ j
 scope-below k [] Γ j less = refl
 scope-below k (s ∷ ss) Γ j less =
-    scope-below (k + 1) ss (with_sort Γ (record { 0 = k }) s) j (omega (arith, less)) ∙ ap (λ b. if b then Some s else Γ j) (other_number j k less)
+    scope-below (k + 1) ss (with_sort Γ (record { 0 = k }) s) j (omega (arith, less)) ∙ ap (λ b. if b then Some s else Γ j) (ne_eqb j k (λ same. omega (arith, less, same)))
 
 module _ (P : Parts) where
   closed_sorted : (k : ℕ) (ss : List Sort) (Γ : Scope) (p : Formula) → IsSortedIn (signature P) no_packet (scope_from k ss Γ) p → IsSortedIn (signature P) no_packet Γ (closed (binds_from k ss) p)
@@ -126,7 +121,7 @@ module _ (P : Parts) where
   vars_sorted k [] Γ = tt
   vars_sorted k (s ∷ ss) Γ =
       let Δ : Scope = with_sort Γ (record { 0 = k }) s in (
-        scope-below (k + 1) ss Δ k (omega arith) ∙ ap (λ b. if b then Some s else Γ k) (own_number k),
+        scope-below (k + 1) ss Δ k (omega arith) ∙ ap (λ b. if b then Some s else Γ k) (self_equal k),
         vars_sorted (k + 1) ss Δ,
       )
 
@@ -154,9 +149,6 @@ module _ (P : Parts) where
         joined_sorted P no_packet Γ Or (map (same xs) (rows_among rows r)) (each Γ xs have),
       )
 
-  some_relation : (a b : Relation) → Some a ≡ Some b → a ≡ b
-  some_relation a b is = cc
-
   module _ (sorted : IsWellSorted P) where
     stored_closed : (k : ℕ) (relation : Relation) → slice_get P.relations k ≡ Some relation → IsClosed P (holds_rows P.start (Stored (record { 0 = k })) relation.sorts)
     stored_closed k relation declared =
@@ -165,7 +157,7 @@ module _ (P : Parts) where
         (λ row listed own.
         let is_row : IsStartRow P row = All-contains (IsStartRow P) P.start row sorted.start listed in
         let number : row.rel.0 ≡ k = eqb-true row.rel.0 k own in
-        let its : is_row.relation ≡ relation = some_relation is_row.relation relation (sym is_row.declared ∙ ap (slice_get P.relations) number ∙ declared) in
+        let its : is_row.relation ≡ relation = same_Some is_row.relation relation (sym is_row.declared ∙ ap (slice_get P.relations) number ∙ declared) in
         subst (λ (z : Relation). HaveSorts (signature P) [] z.sorts row.terms) its is_row.terms))
 
     none_sorted : (Γ : Scope) (xs : List Term) (rows : List StartRow) → AreSortedIn P no_packet Γ (map (same xs) (map (λ row. row.terms) (filter (λ row. false) rows)))

@@ -1,10 +1,13 @@
 -- The conditions of an inductive program are valid.
-use Rattle.std.proofs.Common.{◌≡◌, ◌≢◌, ◌↔◌, ◌∙◌, sym, ap, ap₂, subst, refl, ℕ, zero, suc, ◌+◌, ◌*◌, ◌-◌, ◌/◌, ◌%◌, ◌<◌, ◌≤◌, ◌==◌, ◌⊎◌, inl, inr, Bool, true, false, not, ◌&&◌, ◌||◌, List, [], ◌∷◌, ◌++◌, length, map, Option, Some, None, All, Contains, IsTrue, if◌then◌else◌, arith, true≢false}
+use Rattle.std.proofs.Common.{◌≡◌, ◌≢◌, ◌↔◌, ◌∙◌, sym, ap, ap₂, subst, refl, ℕ, zero, suc, ◌+◌, ◌*◌, ◌-◌, ◌/◌, ◌%◌, ◌<◌, ◌≤◌, ◌==◌, ◌⊎◌, inl, inr, Bool, true, false, not, ◌&&◌, ◌||◌, List, [], ◌∷◌, length, map, Option, Some, None, Contains, IsTrue, if◌then◌else◌, arith, true≢false}
 use Rattle.std.specs.Prelude.{slice_get, slice_index, slice_index_or, option_map}
-use Rattle.std.specs.List.{flat_map, list_all, list_any, range_with_len}
+use Rattle.std.specs.List.{flat_map, list_all, range_with_len}
 use Rattle.std.proofs.Math.Nat.{mod-lt}
-use Rattle.std.proofs.lemmas.Option.{slice_get-map, slice_get_within, slice_get-get_or}
+use Rattle.std.proofs.lemmas.Option.{slice_get_within, slice_get-get_or}
 use Rattle.std.proofs.lemmas.List.Elements.{All-contains}
+use Rattle.std.proofs.lemmas.Bool.{and_parts}
+use Rattle.std.proofs.lemmas.List.Folds.{list_all-append}
+use Rattle.general_facts.proofs.Lists.{list_all-same, list_any-same}
 use Rattle.csdn_core.specs.declared.terms.Sort.{Sort}
 use Rattle.csdn_core.specs.declared.terms.Term.{Term}
 use Rattle.csdn_core.specs.declared.terms.Term.TheVariants.{Var, Const, Port}
@@ -13,21 +16,21 @@ use Rattle.csdn_core.specs.declared.terms.Pred.TheVariants.{Stored, Ft, Sent, Rc
 use Rattle.csdn_core.specs.declared.terms.Place.TheVariants.{Topology}
 use Rattle.csdn_core.specs.declared.event.Event.{Event}
 use Rattle.csdn_core.specs.declared.event.Event.TheVariants.{PktIn, PktFlow}
-use Rattle.csdn_core.specs.declared.event.Packet.TheVariants.{Nothing, At}
+use Rattle.csdn_core.specs.declared.event.Packet.TheVariants.{Nothing}
 use Rattle.csdn_core.specs.declared.program.Parts.{Parts}
 use Rattle.csdn_core.specs.declared.program.Constant.{Constant}
 use Rattle.csdn_core.specs.declared.program.Invariant.{Invariant}
 use Rattle.csdn_core.specs.declared.syntax.Formula.{Formula}
 use Rattle.csdn_core.specs.declared.syntax.Formula.TheVariants as f
 use Rattle.csdn_core.specs.Tree.{negation, conjunction, disjunction, implication, equivalence, universal, existential}
-use Rattle.csdn_core.specs.Truth.{Structure, Assignment, with_var, truth, value, values, same_truth}
+use Rattle.csdn_core.specs.Truth.{Assignment, with_var, truth, value, values, same_truth}
 use Rattle.csdn_core.specs.Network.{Network, State, elements, structure, holds_in, is_fixed, HaveElements, IsNetwork}
-use Rattle.csdn_core.specs.Run.{empty_state, no_values, initial, packet_of, Step, Run}
-use Rattle.csdn_core.specs.Holds.{AllTrue, IsTopology, IsSafe, IsSafeFor, IsInductiveIn, IsInductive}
+use Rattle.csdn_core.specs.Run.{empty_state, no_values, initial, packet_of, Step}
+use Rattle.csdn_core.specs.Holds.{AllTrue, IsTopology, IsSafe, IsSafeFor, IsInductive}
 use Rattle.csdn_core.specs.Sorted.{sorts_of}
 use Rattle.csdn_core.specs.WellSorted.{IsWellSorted, signature}
 use Rattle.fol_forms.specs.Substitution.{Scope, no_scope, with_sort, KeepsSorts}
-use Rattle.fol_forms.proofs.Replaced.{KeepsSorts-with, KeepsSorts-none, list_all-same, list_any-same}
+use Rattle.fol_forms.proofs.Replaced.{KeepsSorts-with, KeepsSorts-none}
 use Rattle.csdn_wp.specs.SortedIn.{any_relation, no_packet, HasSortIn, HaveSortsIn, IsSortedIn}
 use Rattle.csdn_wp.proofs.Flow.{flow_exact}
 use Rattle.csdn_wp.proofs.Programs.{in_exact}
@@ -36,17 +39,15 @@ use Rattle.csdn_conditions.specs.declared.kinds.EventKind.TheVariants as e
 use Rattle.csdn_conditions.specs.declared.kinds.CondKind.{CondKind}
 use Rattle.csdn_conditions.specs.declared.kinds.CondKind.TheVariants.{Network as NetworkKind, Init, Step as StepKind, Trans}
 use Rattle.csdn_conditions.specs.declared.sentence.Condition.{Condition}
-use Rattle.csdn_conditions.specs.Kinds.{below, kinds, kinds_of, events, IsWithin}
-use Rattle.csdn_conditions.specs.Lists.{conjunction_of}
+use Rattle.csdn_conditions.specs.Kinds.{kinds_of, events}
 use Rattle.csdn_conditions.specs.Conditions.{formulas, formula_at, after_event, after_events, all_after, topology, safe_for, hypothesis, conclusion, condition, conditions}
-use Rattle.csdn_conditions.specs.Start.{start}
 use Rattle.csdn_conditions.specs.Closed.{IsClosed}
 use Rattle.csdn_conditions.specs.Initial.{is_of_states, IsInitial}
 use Rattle.csdn_conditions.specs.Valid.{IsValid}
 use Rattle.csdn_conditions.proofs.ClosedParts.{AreSortedIn, invariants_sorted, distinct_topology}
 use Rattle.csdn_conditions.proofs.ClosedConditions.{any_event, events_closed, safety_closed, trans_any, kind_of_member}
 use Rattle.csdn_conditions.proofs.KindLaws.{init_at, init_within, step_at, step_within, trans_at, trans_within}
-use Rattle.csdn_conditions.proofs.StartTruth.{truth-all, list_all-append, first_true, second_true, is_initial}
+use Rattle.csdn_conditions.proofs.StartTruth.{truth-all, is_initial}
 use Rattle.csdn_conditions.proofs.Inductive.{IsStatic, static_names, truth-state, formula_there, kind_of, value-state, values-state, topology_true, quiet, runs_end, ends_true}
 
 -- sentences have the same truth in states that agree on a network's elements
@@ -166,13 +167,13 @@ module _ (P : Parts) (well : IsWellSorted P) (N : Network) (network : IsNetwork 
       each : (vs : List Invariant) → AreSortedIn P (IsStatic P) no_scope (formulas vs) → list_all (T x) (formulas vs) ≡ true → AllTrue P N empty_state Nothing vs
       each [] sorted all = λ k d within. absurd (omega arith)
       each (v ∷ vs) sorted all =
-          all_more v vs (sym (truth-state P N x empty_state no_scope v.formula no_values sorted.0) ∙ first_true _ _ all) (each vs sorted.1 (second_true _ _ all))
+          all_more v vs (sym (truth-state P N x empty_state no_scope v.formula no_values sorted.0) ∙ (and_parts _ _ all).0) (each vs sorted.1 (and_parts _ _ all).1)
 
   -- a formula of a list all of whose formulas are true after k events
   after_at : (k : ℕ) (x : State) (vs : List Invariant) (v : ℕ) → v < length vs → list_all (T x) (map (after_events P k) (formulas vs)) ≡ true → Sat x (after_events P k (formula_at vs v))
   after_at k x [] v within all = absurd (omega arith)
-  after_at k x (u ∷ vs) zero within all = first_true _ _ all
-  after_at k x (u ∷ vs) (suc v) within all = after_at k x vs v (omega arith) (second_true _ _ all)
+  after_at k x (u ∷ vs) zero within all = (and_parts _ _ all).0
+  after_at k x (u ∷ vs) (suc v) within all = after_at k x vs v (omega arith) (and_parts _ _ all).1
 
   level_at : (x : State) (a m k : ℕ) → k < m → list_all (T x) (flat_map (λ j. map (after_events P j) (formulas P.safety)) (range_with_len a m)) ≡ true
       → list_all (T x) (map (after_events P (a + k)) (formulas P.safety)) ≡ true
@@ -180,12 +181,12 @@ module _ (P : Parts) (well : IsWellSorted P) (N : Network) (network : IsNetwork 
   level_at x a (suc m) zero few all =
       let same : a ≡ a + zero = omega arith in
       subst (λ (j : ℕ). list_all (T x) (map (after_events P j) (formulas P.safety)) ≡ true) same
-      (first_true _ _ (sym (list_all-append (T x) (map (after_events P a) (formulas P.safety)) (flat_map (λ j. map (after_events P j) (formulas P.safety)) (range_with_len (a + 1) m))) ∙ all))
+      (and_parts _ _ (sym (list_all-append (T x) (map (after_events P a) (formulas P.safety)) (flat_map (λ j. map (after_events P j) (formulas P.safety)) (range_with_len (a + 1) m))) ∙ all)).0
   level_at x a (suc m) (suc k) few all =
       let same : (a + 1) + k ≡ a + suc k = omega arith in
       subst (λ (j : ℕ). list_all (T x) (map (after_events P j) (formulas P.safety)) ≡ true) same
       (level_at x (a + 1) m k (omega arith)
-      (second_true _ _ (sym (list_all-append (T x) (map (after_events P a) (formulas P.safety)) (flat_map (λ j. map (after_events P j) (formulas P.safety)) (range_with_len (a + 1) m))) ∙ all)))
+      (and_parts _ _ (sym (list_all-append (T x) (map (after_events P a) (formulas P.safety)) (flat_map (λ j. map (after_events P j) (formulas P.safety)) (range_with_len (a + 1) m))) ∙ all)).1)
 
   safe_from : (n : ℕ) (x : State) → Sat x (safe_for P n) → IsSafeFor P N n x
   safe_from n x h = λ es y few run v d within.
@@ -218,17 +219,17 @@ module _ (P : Parts) (well : IsWellSorted P) (N : Network) (network : IsNetwork 
     unfolding truth
     by_kind NetworkKind some x h = absurd some
     by_kind (Init k v) some x h =
-        let all = topology_holds x (first_true _ _ h) in
+        let all = topology_holds x (and_parts _ _ h).0 in
         let points = inductive N (record { network = network; topology = all }) in
-        let agree : IsInitial P N x = is_initial P N x Nothing well (second_true _ _ h) in
+        let agree : IsInitial P N x = is_initial P N x Nothing well (and_parts _ _ h).1 in
         let q : Formula = formula_at P.safety v in
         truth-agree P N network x (initial P N) agree no_scope (after_events P k q) no_values (events_closed P well k q (safety_closed P well v)) (KeepsSorts-none (structure P N x Nothing) no_values)
         ∙ ends_true P well N network k q (safety_closed P well v) (initial P N)
         (λ es y many run. safe_at y v some.1 (points.initially es y (omega (arith, many, some.0)) run))
     by_kind (StepKind v kind) some x h =
-        let all = topology_holds x (first_true _ _ h) in
+        let all = topology_holds x (and_parts _ _ h).0 in
         let points = inductive N (record { network = network; topology = all }) in
-        let safe : IsSafeFor P N n x = safe_from n x (second_true _ _ h) in
+        let safe : IsSafeFor P N n x = safe_from n x (and_parts _ _ h).1 in
         let q : Formula = formula_at P.safety v in
         let closed : IsClosed P (after_events P n q) = events_closed P well n q (safety_closed P well v) in
         event_from kind (after_events P n q) (any_event P well (after_events P n q) closed) x
@@ -236,9 +237,9 @@ module _ (P : Parts) (well : IsWellSorted P) (N : Network) (network : IsNetwork 
         quiet P well N network (after_events P n q) closed y (packet_of event)
         ∙ ends_true P well N network n q (safety_closed P well v) y (λ es z many run. safe_at z v some (points.safety x (event ∷ es) z safe (ap suc many) (y, step, run))))
     by_kind (Trans u kind) some x h =
-        let all = topology_holds x (first_true _ _ h) in
+        let all = topology_holds x (and_parts _ _ h).0 in
         let points = inductive N (record { network = network; topology = all }) in
-        let safe : IsSafeFor P N n x = safe_from n x (second_true _ _ h) in
+        let safe : IsSafeFor P N n x = safe_from n x (and_parts _ _ h).1 in
         event_from kind (formula_at P.trans u) (trans_any P well u) x (λ event y is step. trans_at_event y event u some (points.trans x event y safe step))
 
 pub complete : (P : Parts) → IsWellSorted P → (n : ℕ) → IsInductive n P → (i : ℕ) (c : Condition) → slice_get (conditions P n) i ≡ Some c → 0 < i → IsValid P c

@@ -1,12 +1,10 @@
 -- Conditions and their parts.
-use Rattle.std.proofs.Common.{◌≡◌, ◌∙◌, sym, ap, ap₂, subst, refl, ℕ, zero, suc, ◌+◌, ◌<◌, ◌≤◌, List, [], ◌∷◌, ◌++◌, map, Option, Some, Result, Ok, Err, IsErrAnd, append-nil, arith}
+use Rattle.std.proofs.Common.{◌≡◌, ◌∙◌, sym, ap, ap₂, subst, refl, ℕ, ◌+◌, ◌<◌, ◌≤◌, List, [], ◌∷◌, map, Some, Result, Ok, Err, IsErrAnd, append-nil, arith}
 use Rattle.std.specs.Prelude.{slice_get, option_map}
 use Rattle.std.proofs.lemmas.Option.{slice_get-map}
 use Rattle.csdn_core.specs.declared.syntax.Formula.{Formula}
 use Rattle.csdn_core.specs.declared.syntax.Formula.TheVariants.{False}
 use Rattle.csdn_core.specs.declared.program.Parts.{Parts}
-use Rattle.csdn_core.specs.declared.program.Invariant.{Invariant}
-use Rattle.csdn_core.specs.Tree.{conjunction, negation}
 use Rattle.csdn_core.specs.Nodes.{nodes}
 use Rattle.fol_forms.specs.declared.refusal.FormRefusal.{FormRefusal}
 use Rattle.fol_forms.specs.declared.refusal.FormRefusal.TheVariants.{Large, Memory}
@@ -17,8 +15,7 @@ use Rattle.csdn_conditions.specs.declared.kinds.EventKind.TheVariants.{PktIn, Pk
 use Rattle.csdn_conditions.specs.declared.kinds.CondKind.{CondKind}
 use Rattle.csdn_conditions.specs.declared.sentence.Condition.{Condition}
 use Rattle.csdn_conditions.specs.Kinds.{kinds}
-use Rattle.csdn_conditions.specs.Lists.{conjunction_of}
-use Rattle.csdn_conditions.specs.Conditions.{formulas, after_event, after_events, all_after, topology, condition, conditions, sentence}
+use Rattle.csdn_conditions.specs.Conditions.{after_event, after_events, all_after, condition, sentence}
 use Rattle.csdn_conditions.specs.Answers.{Answers, OfCondition}
 use Rattle.csdn_conditions.proofs.Growth.{grows-in, grows-flow}
 

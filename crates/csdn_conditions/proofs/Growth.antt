@@ -1,14 +1,10 @@
 -- A precondition has at least as many nodes as the formula.
-use Rattle.std.proofs.Common.{◌≡◌, ◌≢◌, ◌∙◌, sym, ap, subst, refl, ℕ, zero, suc, ◌+◌, ◌-◌, ◌<◌, ◌≤◌, Bool, true, false, List, [], ◌∷◌, ◌++◌, if◌then◌else◌, Option, Some, None, Result, Ok, Err, IfOk, IsErrAnd, arith}
+use Rattle.std.proofs.Common.{◌≡◌, ◌≢◌, sym, ap, subst, refl, ℕ, zero, suc, ◌-◌, ◌≤◌, [], Result, Ok, Err, IfOk, IsErrAnd, arith}
 use Rattle.std.specs.declared.alloc.AllocError.{AllocError}
-use Rattle.csdn_core.specs.declared.terms.Term.{Term}
-use Rattle.csdn_core.specs.declared.terms.Pred.{Pred}
 use Rattle.csdn_core.specs.declared.terms.Pred.TheVariants.{Sent}
 use Rattle.csdn_core.specs.declared.syntax.Formula.{Formula}
-use Rattle.csdn_core.specs.declared.syntax.Formula.TheVariants as f
 use Rattle.csdn_core.specs.declared.program.Parts.{Parts}
 use Rattle.csdn_core.specs.Tree.{conjunction}
-use Rattle.csdn_core.specs.Network.{same_pred}
 use Rattle.csdn_core.specs.Nodes.{nodes}
 use Rattle.csdn_core.specs.Sorted.{most_numbers}
 use Rattle.fol_forms.specs.declared.refusal.FormRefusal.{FormRefusal}
@@ -47,10 +43,6 @@ refused_by_part most p q e (Err d) fewer why is = subst (λ (x : FormRefusal). M
 pub small_made : (most : ℕ) (p : Formula) (made : Result Formula AllocError) (result : Result Formula FormRefusal) → nodes p ≤ most → IfOk made (λ q. q ≡ p) → result ≡ widened made → Makes most p result
 small_made most p (Ok q) result small is widens = subst (Makes most p) (sym widens) (is, small)
 small_made most p (Err e) result small is widens = subst (Makes most p) (sym widens) tt
-
-pub nodes-two : (p q : Formula) → nodes (conjunction p q) ≡ nodes p + nodes q + 1
-unfolding nodes
-nodes-two p q = refl
 
 -- after one event more
 

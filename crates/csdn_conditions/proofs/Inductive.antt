@@ -1,10 +1,11 @@
 -- A program whose conditions are valid is inductive.
-use Rattle.std.proofs.Common.{◌≡◌, ◌≢◌, ◌↔◌, ◌∙◌, sym, ap, ap₂, subst, refl, ℕ, zero, suc, ◌+◌, ◌*◌, ◌<◌, ◌≤◌, ◌==◌, Bool, true, false, not, ◌&&◌, ◌||◌, List, [], ◌∷◌, ◌++◌, length, map, Option, Some, None, All, IsTrue, if◌then◌else◌, arith, true≢false}
+use Rattle.std.proofs.Common.{◌≡◌, ◌∙◌, sym, ap, ap₂, subst, refl, ℕ, zero, suc, ◌+◌, ◌*◌, ◌<◌, ◌≤◌, ◌==◌, Bool, true, false, not, ◌&&◌, ◌||◌, List, [], ◌∷◌, length, map, Option, Some, None, IsTrue, if◌then◌else◌, arith, true≢false}
 use Rattle.std.specs.Prelude.{slice_get, slice_index_or, option_map}
 use Rattle.std.specs.List.{flat_map, list_all, list_any, range_with_len}
 use Rattle.std.proofs.Math.Path.{fun_ext}
 use Rattle.std.proofs.lemmas.Option.{slice_get-map}
-use Rattle.csdn_core.specs.declared.terms.Sort.{Sort}
+use Rattle.std.proofs.lemmas.Bool.{and_from, and_parts}
+use Rattle.std.proofs.lemmas.List.Folds.{list_all-append}
 use Rattle.csdn_core.specs.declared.terms.Term.{Term}
 use Rattle.csdn_core.specs.declared.terms.Term.TheVariants.{Var, Const, Port}
 use Rattle.csdn_core.specs.declared.terms.Pred.{Pred}
@@ -20,10 +21,10 @@ use Rattle.csdn_core.specs.declared.program.Invariant.{Invariant}
 use Rattle.csdn_core.specs.declared.syntax.Formula.{Formula}
 use Rattle.csdn_core.specs.declared.syntax.Formula.TheVariants as f
 use Rattle.csdn_core.specs.Tree.{negation, conjunction, disjunction, implication, equivalence, universal, existential}
-use Rattle.csdn_core.specs.Truth.{Structure, Assignment, with_var, truth, value, values, same_truth}
+use Rattle.csdn_core.specs.Truth.{Assignment, with_var, truth, value, values, same_truth}
 use Rattle.csdn_core.specs.Network.{Network, State, structure, holds_in, is_fixed, is_fixed_in, IsNetwork}
 use Rattle.csdn_core.specs.Run.{empty_state, no_values, initial, packet_of, Step, Run}
-use Rattle.csdn_core.specs.Holds.{AllTrue, IsTopology, IsSafe, KeepsTrans, IsSafeFor, IsInductiveIn, IsInductive}
+use Rattle.csdn_core.specs.Holds.{AllTrue, IsSafe, IsSafeFor, IsInductiveIn, IsInductive}
 use Rattle.csdn_core.specs.Sorted.{IsAllowed}
 use Rattle.csdn_core.specs.WellSorted.{IsWellSorted, signature}
 use Rattle.fol_forms.specs.Substitution.{Scope, no_scope, with_sort}
@@ -37,16 +38,14 @@ use Rattle.csdn_conditions.specs.declared.kinds.EventKind.TheVariants as e
 use Rattle.csdn_conditions.specs.declared.kinds.CondKind.{CondKind}
 use Rattle.csdn_conditions.specs.declared.kinds.CondKind.TheVariants.{Init, Step as StepKind, Trans}
 use Rattle.csdn_conditions.specs.declared.sentence.Condition.{Condition}
-use Rattle.csdn_conditions.specs.Kinds.{below, kinds, events, steps_of, trans_of}
-use Rattle.csdn_conditions.specs.Lists.{conjunction_of}
+use Rattle.csdn_conditions.specs.Kinds.{kinds}
 use Rattle.csdn_conditions.specs.Conditions.{formulas, formula_at, after_event, after_events, all_after, topology, safe_for, condition, conditions}
-use Rattle.csdn_conditions.specs.Start.{start}
 use Rattle.csdn_conditions.specs.Closed.{IsClosed}
 use Rattle.csdn_conditions.specs.Valid.{IsValid}
 use Rattle.csdn_conditions.proofs.ClosedParts.{AreSortedIn, invariants_sorted, distinct_topology, safety_sorted}
 use Rattle.csdn_conditions.proofs.ClosedConditions.{any_event, events_closed, safety_closed, trans_any}
 use Rattle.csdn_conditions.proofs.KindLaws.{init_there, step_there, trans_there}
-use Rattle.csdn_conditions.proofs.StartTruth.{truth-all, list_all-append, both_true, first_true, second_true, start_true}
+use Rattle.csdn_conditions.proofs.StartTruth.{truth-all, start_true}
 
 -- formulas that name static relations alone have the same truth in all states
 
@@ -134,8 +133,8 @@ module _ (P : Parts) (well : IsWellSorted P) (N : Network) (network : IsNetwork 
 
   one_of : (event : Event) (q : Formula) (x : State) → Sat x (conjunction (wp_in P q) (wp_flow q)) → Sat x (after_event P (kind_of event) q)
   unfolding truth
-  one_of (PktIn s a b i) q x h = first_true _ _ h
-  one_of (PktFlow s a b i o) q x h = second_true _ _ h
+  one_of (PktIn s a b i) q x h = (and_parts _ _ h).0
+  one_of (PktFlow s a b i o) q x h = (and_parts _ _ h).1
 
   -- after k events
 
@@ -153,7 +152,7 @@ module _ (P : Parts) (well : IsWellSorted P) (N : Network) (network : IsNetwork 
   ends_true (suc k) q closed x h =
       let before : IsClosed P (after_events P k q) = events_closed P well k q closed in
       let sorted = any_event P well (after_events P k q) before in
-      both_true _ _
+      and_from _ _
       ((in_exact P well N network (after_events P k q) sorted x).1
       (λ s a b i z step.
       quiet (after_events P k q) before z (At s a b i) ∙ ends_true k q closed z (λ es y many run. h (PktIn s a b i ∷ es) y (ap suc many) (z, step, run))))
@@ -171,7 +170,7 @@ module _ (P : Parts) (well : IsWellSorted P) (N : Network) (network : IsNetwork 
       each : (vs : List Invariant) → AreSortedIn P (IsStatic P) no_scope (formulas vs) → AllTrue P N empty_state Nothing vs → list_all (λ p. truth (structure P N x Nothing) p no_values) (formulas vs) ≡ true
       each [] sorted all = refl
       each (v ∷ vs) sorted all =
-          both_true _ _ (truth-state P N x empty_state no_scope v.formula no_values sorted.0 ∙ all 0 v (omega arith)) (each vs sorted.1 (λ k d within. all (suc k) d (omega (arith, within))))
+          and_from _ _ (truth-state P N x empty_state no_scope v.formula no_values sorted.0 ∙ all 0 v (omega arith)) (each vs sorted.1 (λ k d within. all (suc k) d (omega (arith, within))))
 
   safe_true : (n : ℕ) (x : State) → IsSafeFor P N n x → Sat x (safe_for P n)
   safe_true n x safe = truth-all (structure P N x Nothing) no_values (all_after P n (formulas P.safety)) ∙ levels 0 (n + 1) (omega arith)
@@ -179,14 +178,14 @@ module _ (P : Parts) (well : IsWellSorted P) (N : Network) (network : IsNetwork 
       level : (k : ℕ) → k ≤ n → (vs : List Invariant) → ((y : State) → IsSafe P N y → AllTrue P N y Nothing vs) → AreSortedIn P no_packet no_scope (formulas vs) → list_all (T x) (map (after_events P k) (formulas vs)) ≡ true
       level k few [] holds closed = refl
       level k few (v ∷ vs) holds closed =
-          both_true _ _ (ends_true k v.formula closed.0 x (λ es y many run. holds y (safe es y (omega (arith, many, few)) run) 0 v (omega arith)))
+          and_from _ _ (ends_true k v.formula closed.0 x (λ es y many run. holds y (safe es y (omega (arith, many, few)) run) 0 v (omega arith)))
           (level k few vs (λ y kept j d less. holds y kept (suc j) d (omega (arith, less))) closed.1)
 
       levels : (a m : ℕ) → a + m ≤ n + 1 → list_all (T x) (flat_map (λ k. map (after_events P k) (formulas P.safety)) (range_with_len a m)) ≡ true
       levels a zero few = refl
       levels a (suc m) few =
           list_all-append (T x) (map (after_events P a) (formulas P.safety)) (flat_map (λ k. map (after_events P k) (formulas P.safety)) (range_with_len (a + 1) m))
-          ∙ both_true _ _ (level a (omega (arith, few)) P.safety (λ y kept. kept) (safety_sorted P well)) (levels (a + 1) m (omega (arith, few)))
+          ∙ and_from _ _ (level a (omega (arith, few)) P.safety (λ y kept. kept) (safety_sorted P well)) (levels (a + 1) m (omega (arith, few)))
 
   -- the three points of induction
 
@@ -199,11 +198,11 @@ module _ (P : Parts) (well : IsWellSorted P) (N : Network) (network : IsNetwork 
     unfolding truth
     at_start k v few within =
         of_kind (k * length P.safety + v) (Init k v) (init_there n (length P.safety) (length P.trans) k v (omega (arith, few)) within) N (initial P N) network
-        (both_true _ _ (topology_true all (initial P N)) (start_true P N (initial P N) Nothing well (λ r ss cells states declared there. refl)))
+        (and_from _ _ (topology_true all (initial P N)) (start_true P N (initial P N) Nothing well (λ r ss cells states declared there. refl)))
 
     when_safe : (x : State) → IsSafeFor P N n x → Sat x (conjunction (topology P) (safe_for P n))
     unfolding truth
-    when_safe x safe = both_true _ _ (topology_true all x) (safe_true n x safe)
+    when_safe x safe = and_from _ _ (topology_true all x) (safe_true n x safe)
 
     inductive : IsInductiveIn P N n
     inductive = record {

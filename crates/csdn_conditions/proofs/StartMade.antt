@@ -1,5 +1,5 @@
 -- The parts of `start`, as the code makes them.
-use Rattle.std.proofs.Common.{◌≡◌, ◌∙◌, sym, ap, subst, refl, ℕ, zero, suc, ◌+◌, ◌-◌, ◌<◌, ◌≤◌, List, [], ◌∷◌, ◌++◌, length, get_or, take, drop, Result, IfOk, append_assoc, arith, take_all, All, length-drop}
+use Rattle.std.proofs.Common.{◌≡◌, ◌∙◌, sym, ap, subst, refl, ℕ, suc, ◌+◌, ◌-◌, ◌<◌, List, [], ◌∷◌, ◌++◌, length, get_or, take, drop, Result, IfOk, append_assoc, arith, take_all, All, length-drop}
 use Rattle.std.proofs.lemmas.List.Elements.{All-drop}
 use Rattle.std.specs.declared.alloc.AllocError.{AllocError}
 use Rattle.csdn_core.specs.declared.terms.Sort.{Sort}

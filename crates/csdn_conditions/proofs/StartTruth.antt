@@ -1,9 +1,16 @@
 -- `start` is true exactly where a state holds the initial tuples.
-use Rattle.std.proofs.Common.{◌≡◌, ◌≢◌, ◌↔◌, ◌∙◌, sym, ap, subst, refl, ℕ, zero, suc, ◌+◌, ◌<◌, ◌≤◌, ◌==◌, Bool, true, false, not, ◌&&◌, ◌||◌, List, [], ◌∷◌, ◌++◌, length, map, filter, Option, Some, None, All, Contains, IsTrue, if◌then◌else◌, eqb-true, arith}
+use Rattle.std.proofs.Common.{◌≡◌, ◌∙◌, sym, ap, subst, refl, ℕ, zero, suc, ◌+◌, ◌<◌, ◌==◌, Bool, true, false, not, ◌&&◌, ◌||◌, List, [], ◌∷◌, ◌++◌, length, map, filter, Option, Some, None, Contains, IsTrue, if◌then◌else◌, eqb-true, arith}
 use Rattle.std.specs.Prelude.{option_map, slice_get}
 use Rattle.std.specs.List.{list_all, list_any}
 use Rattle.std.proofs.lemmas.List.Elements.{All-contains}
-use Rattle.csdn_core.specs.declared.terms.VarId.{VarId}
+use Rattle.std.proofs.lemmas.Bool.{and_from, and_parts, ne_eqb, not-true, not_from_false}
+use Rattle.std.proofs.Math.Bool.{and-true, or-false}
+use Rattle.general_facts.proofs.Numbers.{self_equal}
+use Rattle.general_facts.proofs.Lists.{list_any-map}
+use Rattle.std.proofs.lemmas.Option.{same_Some}
+use Rattle.std.proofs.lemmas.List.Folds.{list_all-append}
+use Rattle.decision_laws.proofs.NormalTruth.{same_truth-is}
+use Rattle.csdn_core.proofs.Same.{same_cells-turned}
 use Rattle.csdn_core.specs.declared.terms.RelId.{RelId}
 use Rattle.csdn_core.specs.declared.terms.Sort.{Sort}
 use Rattle.csdn_core.specs.declared.terms.Term.{Term}
@@ -16,46 +23,22 @@ use Rattle.csdn_core.specs.declared.program.Parts.{Parts}
 use Rattle.csdn_core.specs.declared.program.Relation.{Relation}
 use Rattle.csdn_core.specs.declared.program.StartRow.{StartRow}
 use Rattle.csdn_core.specs.declared.syntax.Formula.{Formula}
-use Rattle.csdn_core.specs.declared.syntax.Formula.TheVariants.{Atom, Same}
-use Rattle.csdn_core.specs.Tree.{conjunction, disjunction, equivalence}
+use Rattle.csdn_core.specs.declared.syntax.Formula.TheVariants.{Atom}
+use Rattle.csdn_core.specs.Tree.{equivalence}
 use Rattle.csdn_core.specs.Truth.{Structure, Assignment, with_var, truth, value, values, same_truth}
-use Rattle.csdn_core.specs.Network.{Network, State, elements, structure, same_cells, same_pred, is_fixed, is_fixed_in, HaveElements}
+use Rattle.csdn_core.specs.Network.{Network, State, elements, structure, same_cells, is_fixed, is_fixed_in, HaveElements}
 use Rattle.csdn_core.specs.Run.{empty_state, no_values, initial}
 use Rattle.csdn_core.specs.Sorted.{HasSort, HaveSorts, flow_sorts, sorts_of}
 use Rattle.csdn_core.specs.WellSorted.{signature, IsStartRow, IsWellSorted}
-use Rattle.fol_forms.specs.declared.close.Bind.{Bind}
-use Rattle.fol_forms.specs.Closed.{closed, GivesBinds, IsTrueForAll}
+use Rattle.fol_forms.specs.Closed.{GivesBinds, IsTrueForAll}
 use Rattle.fol_forms.specs.Replace.{same}
 use Rattle.fol_forms.proofs.ClosedTruth.{truth-closed}
 use Rattle.fol_forms.proofs.Replaced.{truth-same}
-use Rattle.csdn_conditions.specs.declared.lists.Join.TheVariants.{And, Or}
-use Rattle.csdn_conditions.specs.Lists.{joined, conjunction_of, disjunction_of}
+use Rattle.csdn_conditions.specs.Lists.{conjunction_of, disjunction_of}
 use Rattle.csdn_conditions.specs.Start.{binds_from, terms_of, rows_among, is_one_of, holds_rows, stored_at, stored_from, start}
 use Rattle.csdn_conditions.specs.Initial.{is_of_states, IsInitial}
 
 -- truth values
-
-pub both_true : (a b : Bool) → a ≡ true → b ≡ true → (a && b) ≡ true
-both_true a b h k = grind arith
-
-pub first_true : (a b : Bool) → (a && b) ≡ true → a ≡ true
-first_true a b h = grind arith
-
-pub second_true : (a b : Bool) → (a && b) ≡ true → b ≡ true
-second_true a b h = grind arith
-
-alone_and : (a : Bool) → a ≡ (a && true)
-alone_and true = refl
-alone_and false = refl
-
-alone_or : (a : Bool) → a ≡ (a || false)
-alone_or true = refl
-alone_or false = refl
-
-same_true : (a b : Bool) → same_truth a b ≡ true → a ≡ b
-same_true true b h = sym h
-same_true false true h = h
-same_true false false h = refl
 
 same_itself : (a b : Bool) → a ≡ b → same_truth a b ≡ true
 same_itself true b h = sym h
@@ -67,18 +50,14 @@ module _ (M : Structure) (e : Assignment) where
   pub truth-all : (ps : List Formula) → truth M (conjunction_of ps) e ≡ list_all (λ p. truth M p e) ps
   unfolding truth
   truth-all [] = refl
-  truth-all (p ∷ []) = alone_and (truth M p e)
+  truth-all (p ∷ []) = sym (and-true (truth M p e))
   truth-all (p ∷ q ∷ ps) = ap (λ b. truth M p e && b) (truth-all (q ∷ ps))
 
   truth-any : (ps : List Formula) → truth M (disjunction_of ps) e ≡ list_any (λ p. truth M p e) ps
   unfolding truth
   truth-any [] = refl
-  truth-any (p ∷ []) = alone_or (truth M p e)
+  truth-any (p ∷ []) = sym (or-false (truth M p e))
   truth-any (p ∷ q ∷ ps) = ap (λ b. truth M p e || b) (truth-any (q ∷ ps))
-
-pub list_all-append : (f : Formula → Bool) (ps qs : List Formula) → list_all f (ps ++ qs) ≡ (list_all f ps && list_all f qs)
-list_all-append f [] qs = refl
-list_all-append f (p ∷ ps) qs = ap (λ b. f p && b) (list_all-append f ps qs) ∙ grind arith
 
 -- the assignments of a row of binds
 
@@ -86,16 +65,10 @@ abbrev given : ℕ → List ℕ → Assignment → Assignment
 given k [] e = e
 given k (m ∷ ms) e = given (k + 1) ms (with_var e (record { 0 = k }) m)
 
-other_number : (j k : ℕ) → j < k → (j == k) ≡ false
-other_number j k less = grind arith
-
-own_number : (k : ℕ) → (k == k) ≡ true
-own_number k = grind arith
-
 given-below : (k : ℕ) (ms : List ℕ) (e : Assignment) (j : ℕ) → j < k → given k ms e j ≡ e j
 given-below k [] e j less = refl
 given-below k (m ∷ ms) e j less =
-    given-below (k + 1) ms (with_var e (record { 0 = k }) m) j (omega (arith, less)) ∙ ap (λ b. if b then m else e j) (other_number j k less)
+    given-below (k + 1) ms (with_var e (record { 0 = k }) m) j (omega (arith, less)) ∙ ap (λ b. if b then m else e j) (ne_eqb j k (λ same. omega (arith, less, same)))
 
 module _ (N : Network) (M : Structure) (its : (s : Sort) → M.elements s ≡ elements N s) where
   values-given : (k : ℕ) (ss : List Sort) (ms : List ℕ) (e : Assignment) → HaveElements N ss ms → values M (given k ms e) (terms_of (binds_from k ss)) ≡ ms
@@ -105,7 +78,7 @@ module _ (N : Network) (M : Structure) (its : (s : Sort) → M.elements s ≡ el
   values-given k (s ∷ ss) [] e there = absurd there
   values-given k (s ∷ ss) (m ∷ ms) e there =
       let first : given k (m ∷ ms) e k ≡ m =
-      given-below (k + 1) ms (with_var e (record { 0 = k }) m) k (omega arith) ∙ ap (λ b. if b then m else e k) (own_number k) in
+      given-below (k + 1) ms (with_var e (record { 0 = k }) m) k (omega arith) ∙ ap (λ b. if b then m else e k) (self_equal k) in
       ap (λ n. n ∷ values M (given k (m ∷ ms) e) (terms_of (binds_from (k + 1) ss))) first
       ∙ ap (λ ns. m ∷ ns) (values-given (k + 1) ss ms (with_var e (record { 0 = k }) m) there.1)
 
@@ -150,15 +123,6 @@ length-terms : (k : ℕ) (ss : List Sort) → length (terms_of (binds_from k ss)
 length-terms k [] = refl
 length-terms k (s ∷ ss) = ap suc (length-terms (k + 1) ss)
 
-some_sorts : (ss ts : List Sort) → Some ss ≡ Some ts → ss ≡ ts
-some_sorts ss ts is = cc
-
-same_cells-sym : (ms ns : List ℕ) → same_cells ms ns ≡ same_cells ns ms
-same_cells-sym [] [] = refl
-same_cells-sym [] (n ∷ ns) = refl
-same_cells-sym (m ∷ ms) [] = refl
-same_cells-sym (m ∷ ms) (n ∷ ns) = let turned : (m == n) ≡ (n == m) = grind arith in rw (turned, same_cells-sym ms ns) refl
-
 -- a row of constants and numerals has the same values in all states and under all assignments
 module _ (P : Parts) (N : Network) (x : State) (packet : Packet) (e : Assignment) where
   value-fixed : (s : Sort) (t : Term) → HasSort (signature P) [] s t → value (structure P N x packet) e t ≡ value (structure P N empty_state Nothing) no_values t
@@ -174,10 +138,6 @@ module _ (P : Parts) (N : Network) (x : State) (packet : Packet) (e : Assignment
   values-fixed (s ∷ ss) (t ∷ ts) sorted = rw (value-fixed s t sorted.0, values-fixed ss ts sorted.1) refl
 
 -- the rows of a relation, in the formula and in the initial state
-
-list_any-map : (f : Formula → Bool) (g : List Term → Formula) (ts : List (List Term)) → list_any f (map g ts) ≡ list_any (λ t. f (g t)) ts
-list_any-map f g [] = refl
-list_any-map f g (t ∷ ts) = ap (λ b. f (g t) || b) (list_any-map f g ts)
 
 module _ (F : List Term → Bool) where
   any_kept : (b : Bool) (row : StartRow) (rows : List StartRow) → list_any F (map (λ z. z.terms) (if b then row ∷ rows else rows)) ≡ ((b && F row.terms) || list_any F (map (λ z. z.terms) rows))
@@ -213,20 +173,9 @@ declared_of P q ss is = at (slice_get P.relations q) refl is
     at None here is = absurd (cc)
     at (Some d) here is = record { relation = d; there = here; sorts = cc }
 
-some_is : (a b : Relation) → Some a ≡ Some b → a ≡ b
-some_is a b is = cc
-
 unless_fixed : (b u x : Bool) → b ≡ false → (if b then u else x) ≡ x
 unless_fixed true u x is = absurd (cc)
 unless_fixed false u x is = refl
-
-not_false : (b : Bool) → not b ≡ true → b ≡ false
-not_false true h = absurd (cc)
-not_false false h = refl
-
-not_true : (b : Bool) → b ≡ false → not b ≡ true
-not_true true h = absurd (cc)
-not_true false h = refl
 
 module _ (P : Parts) (N : Network) (x : State) (packet : Packet) where
   abbrev M : Structure
@@ -253,7 +202,7 @@ module _ (P : Parts) (N : Network) (x : State) (packet : Packet) where
       let each : IsTrueForAll M (binds_from 0 ss) (equivalence (Atom r xs) one) no_values =
       (truth-closed M (binds_from 0 ss) (equivalence (Atom r xs) one) no_values).0 h in
       let here : same_truth (M.holds r (values M d xs)) (truth M one d) ≡ true = each d (gives_given N M its_elements 0 ss cells no_values there) in
-      ap (M.holds r) (sym (values-given N M its_elements 0 ss cells no_values there)) ∙ same_true (M.holds r (values M d xs)) (truth M one d) here ∙ rows cells there
+      ap (M.holds r) (sym (values-given N M its_elements 0 ss cells no_values there)) ∙ same_truth-is (M.holds r (values M d xs)) (truth M one d) here ∙ rows cells there
 
   holds_true : (r : Pred) (ss : List Sort) → IsRows r ss → HasInitial r ss → IsTrue (truth M (holds_rows P.start r ss) no_values)
   unfolding truth
@@ -289,7 +238,7 @@ module _ (P : Parts) (N : Network) (x : State) (packet : Packet) where
     row_true q relation declared cells there row listed own =
         let is_row : IsStartRow P row = All-contains (IsStartRow P) P.start row sorted.start listed in
         let number : row.rel.0 ≡ q.0 = eqb-true row.rel.0 q.0 own in
-        let its : is_row.relation ≡ relation = some_is is_row.relation relation (sym is_row.declared ∙ ap (slice_get P.relations) number ∙ declared) in
+        let its : is_row.relation ≡ relation = same_Some is_row.relation relation (sym is_row.declared ∙ ap (slice_get P.relations) number ∙ declared) in
         let d : Assignment = given 0 cells no_values in
         let xs : List Term = terms_of (binds_from 0 relation.sorts) in
         let many : length row.terms ≡ length relation.sorts = row-length P is_row.relation.sorts row.terms is_row.terms ∙ ap (λ (z : Relation). length z.sorts) its in
@@ -298,7 +247,7 @@ module _ (P : Parts) (N : Network) (x : State) (packet : Packet) where
         truth-same M d xs row.terms (xs_many ∙ sym many)
         ∙ ap (λ (z : List ℕ). same_cells z (values M d row.terms)) cells_are
         ∙ ap (same_cells cells) (values-fixed P N x packet d is_row.relation.sorts row.terms is_row.terms)
-        ∙ same_cells-sym cells (values (structure P N empty_state Nothing) no_values row.terms)
+        ∙ same_cells-turned cells (values (structure P N empty_state Nothing) no_values row.terms)
 
     rows_of_stored : (q : RelId) (relation : Relation) → slice_get P.relations q.0 ≡ Some relation → IsRows (Stored q) relation.sorts
     rows_of_stored q relation declared = λ cells there.
@@ -315,11 +264,11 @@ module _ (P : Parts) (N : Network) (x : State) (packet : Packet) where
 
     at_true : (b : Bool) (p : Formula) → list_all T (if b then [] else (p ∷ [])) ≡ true → b ≡ false → T p ≡ true
     at_true true p h is = absurd (cc)
-    at_true false p h is = alone_and (T p) ∙ h
+    at_true false p h is = sym (and-true (T p)) ∙ h
 
     true_at : (b : Bool) (p : Formula) → (b ≡ false → T p ≡ true) → list_all T (if b then [] else (p ∷ [])) ≡ true
     true_at true p h = refl
-    true_at false p h = sym (alone_and (T p)) ∙ h refl
+    true_at false p h = and-true (T p) ∙ h refl
 
     abbrev says : ℕ → Relation → Formula
     says k r = holds_rows P.start (Stored (record { 0 = k })) r.sorts
@@ -327,13 +276,13 @@ module _ (P : Parts) (N : Network) (x : State) (packet : Packet) where
     said : (k : ℕ) (rs : List Relation) → list_all T (stored_from P.start k rs) ≡ true → (j : ℕ) (r : Relation) → slice_get rs j ≡ Some r → r.fixed ≡ false → T (says (k + j) r) ≡ true
     said k [] h j r there stored = absurd (cc)
     said k (s ∷ rs) h zero r there stored =
-        let own : s ≡ r = some_is s r there in
-        let first = first_true _ _ (sym (list_all-append T (stored_at P.start k s) (stored_from P.start (k + 1) rs)) ∙ h) in
+        let own : s ≡ r = same_Some s r there in
+        let first = (and_parts _ _ (sym (list_all-append T (stored_at P.start k s) (stored_from P.start (k + 1) rs)) ∙ h)).0 in
         let here : T (says k s) ≡ true = at_true s.fixed (says k s) first (ap (λ (z : Relation). z.fixed) own ∙ stored) in
         let same : k ≡ k + zero = omega arith in
         subst (λ (n : ℕ). T (says n r) ≡ true) same (subst (λ (z : Relation). T (says k z) ≡ true) own here)
     said k (s ∷ rs) h (suc j) r there stored =
-        let rest = second_true _ _ (sym (list_all-append T (stored_at P.start k s) (stored_from P.start (k + 1) rs)) ∙ h) in
+        let rest = (and_parts _ _ (sym (list_all-append T (stored_at P.start k s) (stored_from P.start (k + 1) rs)) ∙ h)).1 in
         let same : (k + 1) + j ≡ k + suc j = omega arith in
         subst (λ (n : ℕ). T (says n r) ≡ true) same (said (k + 1) rs rest j r there stored)
 
@@ -342,7 +291,7 @@ module _ (P : Parts) (N : Network) (x : State) (packet : Packet) where
     say k (s ∷ rs) each =
         let same : k + zero ≡ k = omega arith in
         list_all-append T (stored_at P.start k s) (stored_from P.start (k + 1) rs)
-        ∙ both_true _ _ (true_at s.fixed (says k s) (λ stored. subst (λ (n : ℕ). T (says n s) ≡ true) same (each zero s refl stored)))
+        ∙ and_from _ _ (true_at s.fixed (says k s) (λ stored. subst (λ (n : ℕ). T (says n s) ≡ true) same (each zero s refl stored)))
         (say (k + 1) rs
         (λ j r there stored.
         let next : k + suc j ≡ (k + 1) + j = omega arith in
@@ -359,26 +308,26 @@ module _ (P : Parts) (N : Network) (x : State) (packet : Packet) where
         let all : (list_all T (stored_from P.start 0 P.relations) && list_all T (holds_rows P.start Ft flow_sorts ∷ holds_rows P.start Sent flow_sorts ∷ [])) ≡ true =
         sym (list_all-append T (stored_from P.start 0 P.relations) (holds_rows P.start Ft flow_sorts ∷ holds_rows P.start Sent flow_sorts ∷ []))
         ∙ sym (truth-all M no_values (stored_from P.start 0 P.relations ++ (holds_rows P.start Ft flow_sorts ∷ holds_rows P.start Sent flow_sorts ∷ []))) ∙ h in
-        let stored = first_true _ _ all in
-        let flows = second_true _ _ all in
-        let ft : T (holds_rows P.start Ft flow_sorts) ≡ true = first_true _ _ flows in
-        let sent : T (holds_rows P.start Sent flow_sorts) ≡ true = first_true _ _ (second_true _ _ flows) in
+        let stored = (and_parts _ _ all).0 in
+        let flows = (and_parts _ _ all).1 in
+        let ft : T (holds_rows P.start Ft flow_sorts) ≡ true = (and_parts _ _ flows).0 in
+        let sent : T (holds_rows P.start Sent flow_sorts) ≡ true = (and_parts _ _ (and_parts _ _ flows).1).0 in
         λ r ss cells states declared there. by_relation stored ft sent r ss cells states declared there
       where
         by_relation : list_all T (stored_from P.start 0 P.relations) ≡ true → T (holds_rows P.start Ft flow_sorts) ≡ true → T (holds_rows P.start Sent flow_sorts) ≡ true
             → (r : Pred) (ss : List Sort) (cells : List ℕ) → IsTrue (is_of_states P r) → sorts_of (signature P) r ≡ Some ss → HaveElements N ss cells → x r cells ≡ initial P N r cells
         by_relation stored ft sent (Stored q) ss cells states declared there =
             let d = declared_of P q.0 ss declared in
-            let own : is_fixed P q.0 ≡ false = not_false (is_fixed P q.0) states in
+            let own : is_fixed P q.0 ≡ false = not-true (is_fixed P q.0) states in
             let free : d.relation.fixed ≡ false = sym (fixed_is q.0 d.relation d.there) ∙ own in
             let number : 0 + q.0 ≡ q.0 = omega arith in
             let here : T (says q.0 d.relation) ≡ true = subst (λ (n : ℕ). T (says n d.relation) ≡ true) number (said 0 P.relations stored q.0 d.relation d.there free) in
             sym (holds_own q cells own)
             ∙ has_initial (Stored q) d.relation.sorts (rows_of_stored q d.relation d.there) here cells (subst (λ (z : List Sort). HaveElements N z cells) (sym d.sorts) there)
         by_relation stored ft sent Ft ss cells states declared there =
-            has_initial Ft flow_sorts rows_of_ft ft cells (subst (λ (z : List Sort). HaveElements N z cells) (sym (some_sorts flow_sorts ss declared)) there)
+            has_initial Ft flow_sorts rows_of_ft ft cells (subst (λ (z : List Sort). HaveElements N z cells) (sym (same_Some flow_sorts ss declared)) there)
         by_relation stored ft sent Sent ss cells states declared there =
-            has_initial Sent flow_sorts rows_of_sent sent cells (subst (λ (z : List Sort). HaveElements N z cells) (sym (some_sorts flow_sorts ss declared)) there)
+            has_initial Sent flow_sorts rows_of_sent sent cells (subst (λ (z : List Sort). HaveElements N z cells) (sym (same_Some flow_sorts ss declared)) there)
         by_relation stored ft sent RcvThis ss cells states declared there = absurd (cc)
 
     pub start_true : IsInitial P N x → IsTrue (truth M (start P) no_values)
@@ -386,7 +335,7 @@ module _ (P : Parts) (N : Network) (x : State) (packet : Packet) where
         let flow_part : List Formula = holds_rows P.start Ft flow_sorts ∷ holds_rows P.start Sent flow_sorts ∷ [] in
         let ft : T (holds_rows P.start Ft flow_sorts) ≡ true = holds_true Ft flow_sorts rows_of_ft (λ cells there. is Ft flow_sorts cells refl refl there) in
         let sent : T (holds_rows P.start Sent flow_sorts) ≡ true = holds_true Sent flow_sorts rows_of_sent (λ cells there. is Sent flow_sorts cells refl refl there) in
-        let flows : list_all T flow_part ≡ true = both_true _ _ ft (both_true _ _ sent refl) in
+        let flows : list_all T flow_part ≡ true = and_from _ _ ft (and_from _ _ sent refl) in
         let stored : list_all T (stored_from P.start 0 P.relations) ≡ true =
         say 0 P.relations
         (λ j r there free.
@@ -395,5 +344,5 @@ module _ (P : Parts) (N : Network) (x : State) (packet : Packet) where
         (holds_true (Stored (record { 0 = j })) r.sorts (rows_of_stored (record { 0 = j }) r there)
         (λ cells has.
         let own : is_fixed P j ≡ false = fixed_is j r there ∙ free in
-        holds_own (record { 0 = j }) cells own ∙ is (Stored (record { 0 = j })) r.sorts cells (not_true (is_fixed P j) own) (ap (option_map (λ (z : Relation). z.sorts)) there) has))) in
-        truth-all M no_values (stored_from P.start 0 P.relations ++ flow_part) ∙ list_all-append T (stored_from P.start 0 P.relations) flow_part ∙ both_true _ _ stored flows
+        holds_own (record { 0 = j }) cells own ∙ is (Stored (record { 0 = j })) r.sorts cells (not_from_false (is_fixed P j) own) (ap (option_map (λ (z : Relation). z.sorts)) there) has))) in
+        truth-all M no_values (stored_from P.start 0 P.relations ++ flow_part) ∙ list_all-append T (stored_from P.start 0 P.relations) flow_part ∙ and_from _ _ stored flows

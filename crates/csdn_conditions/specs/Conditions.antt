@@ -1,5 +1,5 @@
 -- The conditions of a level. Where each of them is valid in all networks and states, the program is inductive at that level.
-use Rattle.std.specs.Prelude.{ℕ, zero, suc, ◌+◌, List, [], ◌∷◌, map, slice_index_or}
+use Rattle.std.specs.Prelude.{ℕ, zero, suc, ◌+◌, List, map, slice_index_or}
 use Rattle.std.specs.List.{flat_map}
 use Rattle.csdn_core.specs.declared.program.Invariant.{Invariant}
 use Rattle.csdn_core.specs.declared.program.Parts.{Parts}

@@ -1,7 +1,10 @@
 -- The precondition of packet-in events is exact, and well-sorted.
 use Rattle.std.proofs.Common.{◌≡◌, ℕ, ◌==◌, ◌<◌, ◌≤◌, Bool, true, false, not, ◌&&◌, ◌||◌, ◌↔◌, inl, inr, cond, List, [], ◌∷◌, ◌++◌, length, Option, Some, None, refl, ap, sym, subst, ◌∙◌, IsTrue, IsFalse, Contains, true≢false, arith, if◌then◌else◌}
-use Rattle.std.proofs.lemmas.Bool.{ne_eqb}
+use Rattle.std.proofs.lemmas.Bool.{ne_eqb, and_from, and_parts, not-true}
 use Rattle.std.proofs.Math.Path.{fun_ext}
+use Rattle.general_facts.proofs.Numbers.{self_equal}
+use Rattle.general_facts.proofs.Lists.{list_all-from}
+use Rattle.fol_forms.proofs.ClosedTruth.{all_at}
 use Rattle.csdn_core.specs.declared.terms.VarId.{VarId}
 use Rattle.csdn_core.specs.declared.terms.Sort.TheVariants.{Sw, Ho, Pr}
 use Rattle.csdn_core.specs.declared.terms.Term.{Term}
@@ -34,7 +37,7 @@ use Rattle.csdn_wp.specs.Preconditions.{wp}
 use Rattle.csdn_wp.specs.SortedIn.{any_relation, no_packet, HaveSortsIn, IsSortedIn}
 use Rattle.csdn_wp.specs.After.{scope_of}
 use Rattle.csdn_wp.specs.EventPreconditions.{terms_of, handler_vars, first_vars, is_port, and_also, guard, guarded, member, members, and_later}
-use Rattle.csdn_wp.proofs.Truths.{self_equal, all_at, all_from, implied, implies, both_true, first_true, second_true, not_true}
+use Rattle.csdn_wp.proofs.Truths.{implied, implies}
 use Rattle.csdn_wp.proofs.Bounds.{binds_outside, bound_in-replace, bound_in-is_row, bound_in-renumbered}
 use Rattle.csdn_wp.proofs.Coincidence.{truth-Agrees}
 use Rattle.csdn_wp.proofs.Sorting.{Extends-none, IsSortedIn-more, IsSortedIn-renumber, HaveSortsIn-length, not_free, terms_not}
@@ -273,7 +276,7 @@ module _ (P : Parts) (N : Network) where
           λ true_of s a b i in_s in_a in_b in_i passed y run.
               sym (ends y s a b i) ∙ (runs s a b i in_s in_a in_b in_i).0
               (implied _ _ (sym (inside earlier port s a b i) ∙ all_at _ N.ports i in_i (all_at _ N.hosts b in_b (all_at _ N.hosts a in_a (all_at _ N.switches s in_s true_of)))) passed) y run,
-          λ arrives. all_from _ N.switches (λ s in_s. all_from _ N.hosts (λ a in_a. all_from _ N.hosts (λ b in_b. all_from _ N.ports (λ i in_i.
+          λ arrives. list_all-from _ N.switches (λ s in_s. list_all-from _ N.hosts (λ a in_a. list_all-from _ N.hosts (λ b in_b. list_all-from _ N.ports (λ i in_i.
               inside earlier port s a b i ∙ implies _ _ (λ passed. (runs s a b i in_s in_a in_b in_i).1 (λ y run. ends y s a b i ∙ arrives s a b i in_s in_a in_b in_i passed y run)))))),
         )
 
@@ -292,8 +295,8 @@ module _ (P : Parts) (N : Network) where
       unfolding say Fits Arrives Executes truth members
       members_exact [] fine earlier =
           let last = member_exact network from first_vars Skip (last_fine P from four) x earlier None in (
-            λ h s a b i in_s in_a in_b in_i left y run. last.0 h s a b i in_s in_a in_b in_i (both_true (not_among earlier i) true left refl) y run,
-            λ each. last.1 (λ s a b i in_s in_a in_b in_i passed y run. each s a b i in_s in_a in_b in_i (first_true (not_among earlier i) true passed) y run),
+            λ h s a b i in_s in_a in_b in_i left y run. last.0 h s a b i in_s in_a in_b in_i (and_from (not_among earlier i) true left refl) y run,
+            λ each. last.1 (λ s a b i in_s in_a in_b in_i passed y run. each s a b i in_s in_a in_b in_i (and_parts (not_among earlier i) true passed).0 y run),
           )
       members_exact (h ∷ hs) fine earlier = go (λ ks. members_exact hs fine.1 ks) h.port refl
         where
@@ -305,25 +308,25 @@ module _ (P : Parts) (N : Network) where
               ((s a b i : ℕ) → Contains N.switches s → Contains N.hosts a → Contains N.hosts b → Contains N.ports i → IsTrue (not_among earlier i) →
               (y : State) → Handles P N (if fits port i then Some h else first_fit hs i) s a b i x y → IsTrue (after y s a b i))
           go later None is = (
-            λ t s a b i in_s in_a in_b in_i left y run. (member_exact network from (handler_vars h) h.body fine.0 x earlier None).0 t s a b i in_s in_a in_b in_i (both_true (not_among earlier i) true left refl) y run,
-            λ each. (member_exact network from (handler_vars h) h.body fine.0 x earlier None).1 (λ s a b i in_s in_a in_b in_i passed y run. each s a b i in_s in_a in_b in_i (first_true (not_among earlier i) true passed) y run),
+            λ t s a b i in_s in_a in_b in_i left y run. (member_exact network from (handler_vars h) h.body fine.0 x earlier None).0 t s a b i in_s in_a in_b in_i (and_from (not_among earlier i) true left refl) y run,
+            λ each. (member_exact network from (handler_vars h) h.body fine.0 x earlier None).1 (λ s a b i in_s in_a in_b in_i passed y run. each s a b i in_s in_a in_b in_i (and_parts (not_among earlier i) true passed).0 y run),
           )
           go later (Some k) is =
               let mine = member_exact network from (handler_vars h) h.body fine.0 x earlier (Some k) in
               let rest = later (earlier ++ k ∷ []) in (
-                λ t s a b i in_s in_a in_b in_i left y run. by_port (first_true (this (Some k)) (say hs (earlier ++ k ∷ [])) t) (second_true (this (Some k)) (say hs (earlier ++ k ∷ [])) t) s a b i in_s in_a in_b in_i left y (i == k) refl run,
-                λ each. both_true (this (Some k)) (say hs (earlier ++ k ∷ []))
-                    (mine.1 (λ s a b i in_s in_a in_b in_i passed y run. each s a b i in_s in_a in_b in_i (first_true (not_among earlier i) (i == k) passed) y
-                    (let fitting : (i == k) ≡ true = second_true (not_among earlier i) (i == k) passed in rw fitting run)))
+                λ t s a b i in_s in_a in_b in_i left y run. by_port (and_parts (this (Some k)) (say hs (earlier ++ k ∷ [])) t).0 (and_parts (this (Some k)) (say hs (earlier ++ k ∷ [])) t).1 s a b i in_s in_a in_b in_i left y (i == k) refl run,
+                λ each. and_from (this (Some k)) (say hs (earlier ++ k ∷ []))
+                    (mine.1 (λ s a b i in_s in_a in_b in_i passed y run. each s a b i in_s in_a in_b in_i (and_parts (not_among earlier i) (i == k) passed).0 y
+                    (let fitting : (i == k) ≡ true = (and_parts (not_among earlier i) (i == k) passed).1 in rw fitting run)))
                     (rest.1 (λ s a b i in_s in_a in_b in_i left y run.
                     (let both : (not_among earlier i && not (i == k)) ≡ true = sym (not_among-push earlier k i) ∙ left in
-                    let other : (i == k) ≡ false = not_true (i == k) (second_true (not_among earlier i) (not (i == k)) both) in
-                    each s a b i in_s in_a in_b in_i (first_true (not_among earlier i) (not (i == k)) both) y (rw other run)))),
+                    let other : (i == k) ≡ false = not-true (i == k) (and_parts (not_among earlier i) (not (i == k)) both).1 in
+                    each s a b i in_s in_a in_b in_i (and_parts (not_among earlier i) (not (i == k)) both).0 y (rw other run)))),
               )
             where
               by_port : IsTrue (this (Some k)) → IsTrue (say hs (earlier ++ k ∷ [])) → (s a b i : ℕ) → Contains N.switches s → Contains N.hosts a → Contains N.hosts b → Contains N.ports i → IsTrue (not_among earlier i) → (y : State) →
                   (fitting : Bool) → (i == k) ≡ fitting → Handles P N (if fitting then Some h else first_fit hs i) s a b i x y → IsTrue (after y s a b i)
               by_port mine rest s a b i in_s in_a in_b in_i left y true fitting run =
-                  (member_exact network from (handler_vars h) h.body fine.0 x earlier (Some k)).0 mine s a b i in_s in_a in_b in_i (both_true (not_among earlier i) (i == k) left fitting) y run
+                  (member_exact network from (handler_vars h) h.body fine.0 x earlier (Some k)).0 mine s a b i in_s in_a in_b in_i (and_from (not_among earlier i) (i == k) left fitting) y run
               by_port mine rest s a b i in_s in_a in_b in_i left y false other run =
-                  (later (earlier ++ k ∷ [])).0 rest s a b i in_s in_a in_b in_i (not_among-push earlier k i ∙ both_true (not_among earlier i) (not (i == k)) left (ap not other)) y run
+                  (later (earlier ++ k ∷ [])).0 rest s a b i in_s in_a in_b in_i (not_among-push earlier k i ∙ and_from (not_among earlier i) (not (i == k)) left (ap not other)) y run

@@ -1,5 +1,5 @@
 -- The variables that preconditions bind.
-use Rattle.std.proofs.Common.{◌≡◌, ◌⊎◌, inl, inr, ℕ, suc, ◌+◌, ◌≤◌, Bool, true, false, List, [], ◌∷◌, ◌++◌, refl, ap, ap₂, sym, subst, IsFalse, arith, AllPairs, ◌≢◌, if◌then◌else◌}
+use Rattle.std.proofs.Common.{◌≡◌, ◌⊎◌, inl, inr, ℕ, ◌+◌, ◌≤◌, Bool, true, false, List, [], ◌∷◌, ◌++◌, refl, ap, ap₂, subst, IsFalse, arith, if◌then◌else◌}
 use Rattle.csdn_core.specs.declared.terms.Term.{Term}
 use Rattle.csdn_core.specs.declared.terms.Pred.{Pred}
 use Rattle.csdn_core.specs.declared.terms.Pred.TheVariants.{Sent, RcvThis}
@@ -15,27 +15,12 @@ use Rattle.csdn_core.specs.Sorted.{bound_in}
 use Rattle.csdn_core.specs.WellSorted.{command_bound_in}
 use Rattle.decision_laws.specs.Vocabulary.{IsIn}
 use Rattle.decision_laws.specs.Clauses.{AreDistinct}
-use Rattle.decision_laws.proofs.Lists.{in_left, in_right, in_both, in_contains}
+use Rattle.decision_laws.proofs.Lists.{in_left, in_right, in_both}
 use Rattle.fol_forms.specs.Replace.{replace, same, or_row, not_row, or_flood, is_row, floods}
 use Rattle.fol_forms.specs.Renumber.{binders, renumbered}
 use Rattle.csdn_wp.specs.Preconditions.{wp}
 
 -- numbers that are distinct
-
-pub distinct_left : (xs ys : List ℕ) → AreDistinct (xs ++ ys) → AreDistinct xs
-distinct_left [] ys d = tt
-distinct_left (x ∷ xs) ys d = ((λ i. d.0 (in_left xs ys x i)), distinct_left xs ys d.1)
-
-pub distinct_right : (xs ys : List ℕ) → AreDistinct (xs ++ ys) → AreDistinct ys
-distinct_right [] ys d = d
-distinct_right (x ∷ xs) ys d = distinct_right xs ys d.1
-
-pub distinct_pairs : (xs : List ℕ) → AllPairs (λ m n. m ≢ n) xs → AreDistinct xs
-distinct_pairs [] h = tt
-distinct_pairs (x ∷ xs) h = (
-  (λ i. (let w = in_contains xs x i in h 0 (suc w.0) x (omega arith) (omega (arith, w.1)) (sym w.2))),
-  distinct_pairs xs (λ i j d l m. h (suc i) (suc j) d (omega arith) (omega arith)),
-)
 
 -- no number is in both
 pub distinct_both : (xs ys : List ℕ) (n : ℕ) → AreDistinct (xs ++ ys) → IsIn n xs → IsIn n ys → ⊥

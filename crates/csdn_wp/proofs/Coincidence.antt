@@ -2,6 +2,7 @@
 use Rattle.std.proofs.Common.{◌≡◌, ℕ, ◌==◌, Bool, true, false, not, ◌&&◌, ◌||◌, cond, refl, ap, ap₂}
 use Rattle.std.proofs.Math.Path.{fun_ext}
 use Rattle.std.specs.List.{list_all, list_any}
+use Rattle.std.proofs.lemmas.Bool.{or_left, or_right}
 use Rattle.csdn_core.specs.declared.terms.VarId.{VarId}
 use Rattle.csdn_core.specs.declared.syntax.Formula.{Formula}
 use Rattle.csdn_core.specs.declared.syntax.Formula.TheVariants as f
@@ -10,7 +11,6 @@ use Rattle.csdn_core.specs.Truth.{Structure, Assignment, truth, with_var, same_t
 use Rattle.csdn_core.specs.Variables.{Variables, is_var, free_in}
 use Rattle.fol_forms.specs.Substitution.{Agrees}
 use Rattle.fol_forms.proofs.Replaced.{value-Agrees, values-Agrees}
-use Rattle.csdn_wp.proofs.Truths.{or_left, or_right}
 
 pub left_of : (s t : Variables) (e d : Assignment) → Agrees (λ v. s v || t v) e d → Agrees s e d
 left_of s t e d same v in_s = same v (or_left (s v) (t v) in_s)

@@ -5,6 +5,9 @@ use Rattle.std.proofs.Math.Path.{fun_ext}
 use Rattle.std.proofs.Math.Bool.{and-true, or-false}
 use Rattle.std.proofs.lemmas.List.Elements.{All-contains}
 use Rattle.std.specs.List.{list_all, list_any}
+use Rattle.general_facts.proofs.Lists.{list_all-from}
+use Rattle.std.proofs.lemmas.Bool.{and_from, and_parts}
+use Rattle.fol_forms.proofs.ClosedTruth.{all_at}
 use Rattle.csdn_core.specs.declared.terms.VarId.{VarId}
 use Rattle.csdn_core.specs.declared.terms.RelId.{RelId}
 use Rattle.csdn_core.specs.declared.terms.Sort.{Sort}
@@ -34,7 +37,7 @@ use Rattle.fol_forms.proofs.Flooded.{truth-add_flood}
 use Rattle.csdn_wp.specs.Preconditions.{wp}
 use Rattle.csdn_wp.specs.After.{stands_in}
 use Rattle.csdn_wp.specs.SortedIn.{Relations, no_packet, HasSortIn, HaveSortsIn, IsSortedIn}
-use Rattle.csdn_wp.proofs.Truths.{all_at, all_from, none_at, none_from, when_true, when_false, both_ways, implied, implies, both_true, first_true, second_true, unless_any, or_any}
+use Rattle.csdn_wp.proofs.Truths.{none_at, none_from, when_true, when_false, in_both_cases, implied, implies, unless_any, or_any}
 use Rattle.csdn_wp.proofs.Coincidence.{truth-Agrees}
 use Rattle.csdn_wp.proofs.Sorting.{HaveSortsIn-length, not_free}
 use Rattle.csdn_wp.proofs.Sorted.{atom_sorts}
@@ -212,7 +215,7 @@ module _ (P : Parts) (N : Network) where
             | inl (is, to_y) ↦ first.0 (when_true is_p is_a is_b h is) y to_y
             | inr (isnt, to_y) ↦ second.0 (when_false is_p is_a is_b h isnt) y to_y
           ],
-          λ h. both_ways is_p is_a is_b (λ is. first.1 (λ y to_y. h y (inl (is, to_y)))) (λ isnt. second.1 (λ y to_y. h y (inr (isnt, to_y)))),
+          λ h. in_both_cases is_p is_a is_b (λ is. first.1 (λ y to_y. h y (inl (is, to_y)))) (λ isnt. second.1 (λ y to_y. h y (inr (isnt, to_y)))),
         )
     exact (choice v s p a b) q Γ formed own may e x keeps =
         let all = bound_in p ++ (command_bound_in a ++ command_bound_in b) in
@@ -230,11 +233,11 @@ module _ (P : Parts) (N : Network) where
         let all_a : Bool = list_all (λ m. not (is_p m) || is_a m) (elements N s) in
         let any_p : Bool = list_any is_p (elements N s) in (
           λ h y run. elim run [
-            | inl (m, there, is, to_y) ↦ sym (unseen y m) ∙ (first m there).0 (implied (is_p m) (is_a m) (all_at _ (elements N s) m there (first_true all_a _ h)) is) y to_y
-            | inr (none, to_y) ↦ second.0 (unless_any any_p is_b (second_true all_a _ h) (none_from is_p (elements N s) none)) y to_y
+            | inl (m, there, is, to_y) ↦ sym (unseen y m) ∙ (first m there).0 (implied (is_p m) (is_a m) (all_at _ (elements N s) m there (and_parts all_a _ h).0) is) y to_y
+            | inr (none, to_y) ↦ second.0 (unless_any any_p is_b (and_parts all_a _ h).1 (none_from is_p (elements N s) none)) y to_y
           ],
-          λ h. both_true all_a (not (not any_p) || is_b)
-              (all_from _ (elements N s) (λ m there. implies (is_p m) (is_a m) (λ is. (first m there).1 (λ y to_y. unseen y m ∙ h y (inl (m, there, is, to_y))))))
+          λ h. and_from all_a (not (not any_p) || is_b)
+              (list_all-from _ (elements N s) (λ m there. implies (is_p m) (is_a m) (λ is. (first m there).1 (λ y to_y. unseen y m ∙ h y (inl (m, there, is, to_y))))))
               (or_any any_p is_b (λ none. second.1 (λ y to_y. h y (inr (λ m there. none_at is_p (elements N s) m there none, to_y))))),
         )
     exact (Insert r ts) q Γ formed own may e x keeps =

@@ -1,32 +1,28 @@
 -- Sentences that don't speak of the packet are sentences of the vocabulary in which they are decided.
-use Rattle.std.proofs.Common.{◌≡◌, ℕ, ◌+◌, ◌==◌, Bool, true, false, ◌&&◌, ◌||◌, cond, List, [], ◌∷◌, map, length, Option, Some, None, slice_get, refl, ap, sym, subst, ◌∙◌, inl, inr, IsTrue, true≢false, arith}
-use Rattle.std.specs.Prelude.{is_some, option_map}
+use Rattle.std.proofs.Common.{◌≡◌, ℕ, ◌==◌, Bool, true, false, cond, List, [], ◌∷◌, Some, slice_get, refl, ap, sym, subst, ◌∙◌, IsTrue}
 use Rattle.std.specs.List.{list_any}
 use Rattle.std.proofs.lemmas.Bool.{and_from}
-use Rattle.std.proofs.lemmas.Option.{slice_get_within}
+use Rattle.std.proofs.lemmas.Option.{same_Some, none-some}
+use Rattle.decision_laws.proofs.SortedForms.{is_listed, constant_named, IsWithin, both_fit}
+use Rattle.csdn_core.specs.Same.{same_sort}
+use Rattle.csdn_core.proofs.Same.{same_sort-refl, same_pred-refl}
 use Rattle.csdn_core.specs.declared.terms.VarId.{VarId}
-use Rattle.csdn_core.specs.declared.terms.ConstId.{ConstId}
 use Rattle.csdn_core.specs.declared.terms.Sort.{Sort}
 use Rattle.csdn_core.specs.declared.terms.Sort.TheVariants.{Sw, Pr}
 use Rattle.csdn_core.specs.declared.terms.Term.{Term}
 use Rattle.csdn_core.specs.declared.terms.Term.TheVariants.{Var, Const, Port}
 use Rattle.csdn_core.specs.declared.terms.Pred.{Pred}
-use Rattle.csdn_core.specs.declared.terms.Pred.TheVariants.{Stored, Ft, Sent, RcvThis}
 use Rattle.csdn_core.specs.declared.program.Parts.{Parts}
-use Rattle.csdn_core.specs.declared.program.Constant.{Constant}
-use Rattle.csdn_core.specs.declared.program.Relation.{Relation}
 use Rattle.csdn_core.specs.declared.syntax.Formula.{Formula}
 use Rattle.csdn_core.specs.declared.syntax.Formula.TheVariants as f
 use Rattle.csdn_core.specs.Tree.{negation, conjunction, disjunction, implication, equivalence, universal, existential}
 use Rattle.csdn_core.specs.Network.{same_pred}
-use Rattle.csdn_core.specs.Sorted.{sorts_of}
 use Rattle.csdn_core.specs.WellSorted.{signature}
-use Rattle.decision_laws.specs.Forms.{Form, And, Atom, Same, normal_form, same_sort}
+use Rattle.decision_laws.specs.Forms.{Form, And, Atom, Same, normal_form}
 use Rattle.decision_laws.specs.Laws.{form_of, words}
-use Rattle.decision_laws.specs.Vocabulary.{IsIn, all_relations, constants_from, find_or, fits, has_term, is_bound, names_of, numerals_of, places_from, sort_of_constant, sort_or, sorts_or, term_fits, term_sort, terms_fit, uses, vocabulary}
-use Rattle.decision_laws.proofs.Basics.{any_from, or_from_left, or_from_right, place_in, same_pred-refl, same_sort-refl}
-use Rattle.decision_laws.proofs.Lists.{contains_in, in_filter, in_left, in_map, in_right, in_term}
-use Rattle.decision_laws.proofs.Networks.{constant_has}
+use Rattle.decision_laws.specs.Vocabulary.{all_relations, find_or, fits, has_term, is_bound, names_of, sort_of_constant, sorts_or, term_fits, term_sort, terms_fit, uses, vocabulary}
+use Rattle.decision_laws.proofs.Basics.{any_from}
+use Rattle.decision_laws.proofs.Lists.{contains_in, in_filter}
 use Rattle.decision_laws.proofs.Words.{is_vocabulary}
 use Rattle.fol_forms.specs.Substitution.{Scope, no_scope, with_sort}
 use Rattle.csdn_wp.specs.SortedIn.{no_packet, HasSortIn, HaveSortsIn, IsAtomIn, IsSortedIn}
@@ -36,56 +32,23 @@ record IsBound (Γ : Scope) (bound : List (ℕ × Sort)) : Type 0 where
   there : (v : ℕ) (s : Sort) → Γ v ≡ Some s → is_bound bound v s ≡ true
   sort : (v : ℕ) (s : Sort) → Γ v ≡ Some s → find_or Sw bound v ≡ s
 
-sort_in : Option Sort → Sort
-sort_in None = Sw
-sort_in (Some s) = s
-
-one_sort : (s t : Sort) → Some s ≡ Some t → s ≡ t
-unfolding sort_in
-one_sort s t is = ap sort_in is
-
 IsBound-pushed : (Γ : Scope) (bound : List (ℕ × Sort)) (v : VarId) (s : Sort) → IsBound Γ bound → IsBound (with_sort Γ v s) ((v.0, s) ∷ bound)
 IsBound-pushed Γ bound v s all = record { there = λ w t. there w t (w == v.0); sort = λ w t. sort w t (w == v.0) }
   where
     there : (w : ℕ) (t : Sort) (b : Bool) → cond b (Some s) (Γ w) ≡ Some t → cond b (same_sort s t) (is_bound bound w t) ≡ true
-    there w t true is = ap (same_sort s) (sym (one_sort s t is)) ∙ same_sort-refl s
+    there w t true is = ap (same_sort s) (sym (same_Some s t is)) ∙ same_sort-refl s
     there w t false is = all.there w t is
 
     sort : (w : ℕ) (t : Sort) (b : Bool) → cond b (Some s) (Γ w) ≡ Some t → cond b s (find_or Sw bound w) ≡ t
-    sort w t true is = one_sort s t is
+    sort w t true is = same_Some s t is
     sort w t false is = all.sort w t is
 
-declared_below : (o : Option Relation) (ss : List Sort) → option_map (λ d. d.sorts) o ≡ Some ss → (d : Relation) × (o ≡ Some d)
-declared_below None ss is = absurd (true≢false (sym (ap is_some is)))
-declared_below (Some d) ss is = (d, refl)
-
--- a relation that may stand there is one of the program's
-named_in : (P : Parts) (r : Pred) (ss : List Sort) → sorts_of (signature P) r ≡ Some ss → no_packet r → IsIn r (all_relations P)
-named_in P (Stored r) ss declared other =
-    let stored : ℕ → Pred = λ k. Stored (record { 0 = k }) in
-    let found = declared_below (slice_get P.relations r.0) ss declared in
-    in_left (map stored (places_from 0 (length P.relations))) (Ft ∷ Sent ∷ []) (Stored r)
-    (in_map stored (places_from 0 (length P.relations)) r.0 (place_in 0 (length P.relations) r.0 (omega arith) (omega (arith, slice_get_within P.relations r.0 found.0 found.1))))
-named_in P Ft ss declared other = in_right (map (λ k. Stored (record { 0 = k })) (places_from 0 (length P.relations))) (Ft ∷ Sent ∷ []) Ft (inl refl)
-named_in P Sent ss declared other = in_right (map (λ k. Stored (record { 0 = k })) (places_from 0 (length P.relations))) (Ft ∷ Sent ∷ []) Sent (inr (inl refl))
-named_in P RcvThis ss declared other = absurd (true≢false other)
-
 module _ (P : Parts) (g : Form) where
-  constant_named : (s : Sort) (k : ConstId) (o : Option Constant) → slice_get P.constants k.0 ≡ o → option_map (λ d. d.sort) o ≡ Some s → (sort_of_constant P k.0 ≡ s) × (has_term (Const k) (names_of P s) ≡ true)
-  constant_named s k None here is = absurd (true≢false (sym (ap is_some is)))
-  constant_named s k (Some c) here is =
-      let same : c.sort ≡ s = one_sort c.sort s is in
-      let first : 0 + k.0 ≡ k.0 = omega arith in
-      let there = constant_has s 0 P.constants k.0 c here same in (
-        ap sort_or here ∙ same,
-        in_term (Const k) (names_of P s) (in_left (constants_from s 0 P.constants) (numerals_of s P.numerals) (Const k) (subst (λ n. IsIn (Const (record { 0 = n })) (constants_from s 0 P.constants)) first there)),
-      )
-
   -- a term fits its sort, which is found
   term_fitting : (Γ : Scope) (bound : List (ℕ × Sort)) → IsBound Γ bound → (s : Sort) (t : Term) → HasSortIn (signature P) Γ s t → (term_fits (vocabulary P g) bound s t ≡ true) × (term_sort (vocabulary P g) bound t ≡ s)
   term_fitting Γ bound all s (Var v) has = (all.there v.0 s has, all.sort v.0 s has)
   term_fitting Γ bound all s (Const k) has =
-      let named = constant_named s k (slice_get P.constants k.0) refl has in
+      let named = constant_named P s k (slice_get P.constants k.0) refl has in
       (and_from (same_sort (sort_of_constant P k.0) s) (has_term (Const k) (names_of P s)) (ap (λ t. same_sort t s) named.0 ∙ same_sort-refl s) named.1, named.0)
   term_fitting Γ bound all s (Port k) has =
       let named = (is_vocabulary P g).numbered k (contains_in P.numerals k has.1) in
@@ -98,14 +61,10 @@ module _ (P : Parts) (g : Form) where
   terms_fitting Γ bound all (s ∷ ss) [] have = absurd have
   terms_fitting Γ bound all (s ∷ ss) (t ∷ ts) have = and_from (term_fits (vocabulary P g) bound s t) (terms_fit (vocabulary P g) bound ss ts) (term_fitting Γ bound all s t have.0).0 (terms_fitting Γ bound all ss ts have.1)
 
-  -- what is used here is used in the whole
-  abbrev IsWithin : Form → Type 0
-  IsWithin p = (r : Pred) → uses p r ≡ true → uses g r ≡ true
-
-  atom_fits : (Γ : Scope) (bound : List (ℕ × Sort)) → IsBound Γ bound → (sign : Bool) (r : Pred) (ts : List Term) → IsAtomIn (signature P) Γ r ts → no_packet r → IsWithin (Atom sign r ts) → fits (vocabulary P g) bound (Atom sign r ts) ≡ true
+  atom_fits : (Γ : Scope) (bound : List (ℕ × Sort)) → IsBound Γ bound → (sign : Bool) (r : Pred) (ts : List Term) → IsAtomIn (signature P) Γ r ts → no_packet r → IsWithin P g (Atom sign r ts) → fits (vocabulary P g) bound (Atom sign r ts) ≡ true
   atom_fits Γ bound all sign r ts atom other within =
       let voc = vocabulary P g in
-      let listed = in_filter (uses g) (all_relations P) r (named_in P r atom.sorts atom.declared other) (within r (same_pred-refl r)) in
+      let listed = in_filter (uses g) (all_relations P) r (is_listed P r atom.sorts atom.declared other) (within r (same_pred-refl r)) in
       and_from (list_any (same_pred r) voc.relations) (terms_fit voc bound (voc.columns r) ts) (any_from (same_pred r) voc.relations r listed (same_pred-refl r))
       (subst (λ ss. terms_fit voc bound ss ts ≡ true) (sym (ap sorts_or atom.declared)) (terms_fitting Γ bound all atom.sorts ts atom.terms))
 
@@ -117,13 +76,7 @@ module _ (P : Parts) (g : Form) where
       and_from (term_fits voc bound (term_sort voc bound t) t) (term_fits voc bound (term_sort voc bound t) u)
       (subst (λ k. term_fits voc bound k t ≡ true) (sym first.1) first.0) (subst (λ k. term_fits voc bound k u ≡ true) (sym first.1) second.0)
 
-  -- two forms, each within the whole where both are
-  both_fit : (bound : List (ℕ × Sort)) (p q : Form) → ((r : Pred) → (uses p r || uses q r) ≡ true → uses g r ≡ true) → (IsWithin p → fits (vocabulary P g) bound p ≡ true) → (IsWithin q → fits (vocabulary P g) bound q ≡ true)
-      → (fits (vocabulary P g) bound p && fits (vocabulary P g) bound q) ≡ true
-  both_fit bound p q within first second =
-      and_from (fits (vocabulary P g) bound p) (fits (vocabulary P g) bound q) (first (λ r used. within r (or_from_left (uses p r) (uses q r) used))) (second (λ r used. within r (or_from_right (uses p r) (uses q r) used)))
-
-  fitting : (sign : Bool) (F : Formula) (Γ : Scope) (bound : List (ℕ × Sort)) → IsBound Γ bound → IsSortedIn (signature P) no_packet Γ F → IsWithin (normal_form sign F) → fits (vocabulary P g) bound (normal_form sign F) ≡ true
+  fitting : (sign : Bool) (F : Formula) (Γ : Scope) (bound : List (ℕ × Sort)) → IsBound Γ bound → IsSortedIn (signature P) no_packet Γ F → IsWithin P g (normal_form sign F) → fits (vocabulary P g) bound (normal_form sign F) ≡ true
   unfolding normal_form IsSortedIn
   fitting true f.True Γ bound all sorted within = refl
   fitting false f.True Γ bound all sorted within = refl
@@ -133,20 +86,20 @@ module _ (P : Parts) (g : Form) where
   fitting sign (f.Same t u) Γ bound all sorted within = equation_fits Γ bound all sign sorted.0 t u sorted.1 sorted.2
   fitting true (negation p) Γ bound all sorted within = fitting false p Γ bound all sorted within
   fitting false (negation p) Γ bound all sorted within = fitting true p Γ bound all sorted within
-  fitting true (conjunction p q) Γ bound all sorted within = both_fit bound (normal_form true p) (normal_form true q) within (fitting true p Γ bound all sorted.0) (fitting true q Γ bound all sorted.1)
-  fitting false (conjunction p q) Γ bound all sorted within = both_fit bound (normal_form false p) (normal_form false q) within (fitting false p Γ bound all sorted.0) (fitting false q Γ bound all sorted.1)
-  fitting true (disjunction p q) Γ bound all sorted within = both_fit bound (normal_form true p) (normal_form true q) within (fitting true p Γ bound all sorted.0) (fitting true q Γ bound all sorted.1)
-  fitting false (disjunction p q) Γ bound all sorted within = both_fit bound (normal_form false p) (normal_form false q) within (fitting false p Γ bound all sorted.0) (fitting false q Γ bound all sorted.1)
-  fitting true (implication p q) Γ bound all sorted within = both_fit bound (normal_form false p) (normal_form true q) within (fitting false p Γ bound all sorted.0) (fitting true q Γ bound all sorted.1)
-  fitting false (implication p q) Γ bound all sorted within = both_fit bound (normal_form true p) (normal_form false q) within (fitting true p Γ bound all sorted.0) (fitting false q Γ bound all sorted.1)
+  fitting true (conjunction p q) Γ bound all sorted within = both_fit P g bound (normal_form true p) (normal_form true q) within (fitting true p Γ bound all sorted.0) (fitting true q Γ bound all sorted.1)
+  fitting false (conjunction p q) Γ bound all sorted within = both_fit P g bound (normal_form false p) (normal_form false q) within (fitting false p Γ bound all sorted.0) (fitting false q Γ bound all sorted.1)
+  fitting true (disjunction p q) Γ bound all sorted within = both_fit P g bound (normal_form true p) (normal_form true q) within (fitting true p Γ bound all sorted.0) (fitting true q Γ bound all sorted.1)
+  fitting false (disjunction p q) Γ bound all sorted within = both_fit P g bound (normal_form false p) (normal_form false q) within (fitting false p Γ bound all sorted.0) (fitting false q Γ bound all sorted.1)
+  fitting true (implication p q) Γ bound all sorted within = both_fit P g bound (normal_form false p) (normal_form true q) within (fitting false p Γ bound all sorted.0) (fitting true q Γ bound all sorted.1)
+  fitting false (implication p q) Γ bound all sorted within = both_fit P g bound (normal_form true p) (normal_form false q) within (fitting true p Γ bound all sorted.0) (fitting false q Γ bound all sorted.1)
   fitting true (equivalence p q) Γ bound all sorted within =
-      both_fit bound (And (normal_form true p) (normal_form true q)) (And (normal_form false p) (normal_form false q)) within
-      (λ inside. both_fit bound (normal_form true p) (normal_form true q) inside (fitting true p Γ bound all sorted.0) (fitting true q Γ bound all sorted.1))
-      (λ inside. both_fit bound (normal_form false p) (normal_form false q) inside (fitting false p Γ bound all sorted.0) (fitting false q Γ bound all sorted.1))
+      both_fit P g bound (And (normal_form true p) (normal_form true q)) (And (normal_form false p) (normal_form false q)) within
+      (λ inside. both_fit P g bound (normal_form true p) (normal_form true q) inside (fitting true p Γ bound all sorted.0) (fitting true q Γ bound all sorted.1))
+      (λ inside. both_fit P g bound (normal_form false p) (normal_form false q) inside (fitting false p Γ bound all sorted.0) (fitting false q Γ bound all sorted.1))
   fitting false (equivalence p q) Γ bound all sorted within =
-      both_fit bound (And (normal_form true p) (normal_form false q)) (And (normal_form false p) (normal_form true q)) within
-      (λ inside. both_fit bound (normal_form true p) (normal_form false q) inside (fitting true p Γ bound all sorted.0) (fitting false q Γ bound all sorted.1))
-      (λ inside. both_fit bound (normal_form false p) (normal_form true q) inside (fitting false p Γ bound all sorted.0) (fitting true q Γ bound all sorted.1))
+      both_fit P g bound (And (normal_form true p) (normal_form false q)) (And (normal_form false p) (normal_form true q)) within
+      (λ inside. both_fit P g bound (normal_form true p) (normal_form false q) inside (fitting true p Γ bound all sorted.0) (fitting false q Γ bound all sorted.1))
+      (λ inside. both_fit P g bound (normal_form false p) (normal_form true q) inside (fitting false p Γ bound all sorted.0) (fitting true q Γ bound all sorted.1))
   fitting true (universal v s p) Γ bound all sorted within = fitting true p (with_sort Γ v s) ((v.0, s) ∷ bound) (IsBound-pushed Γ bound v s all) sorted within
   fitting false (universal v s p) Γ bound all sorted within = fitting false p (with_sort Γ v s) ((v.0, s) ∷ bound) (IsBound-pushed Γ bound v s all) sorted within
   fitting true (existential v s p) Γ bound all sorted within = fitting true p (with_sort Γ v s) ((v.0, s) ∷ bound) (IsBound-pushed Γ bound v s all) sorted within
@@ -156,7 +109,4 @@ pub sentence_fits : (P : Parts) (F : Formula) → IsSortedIn (signature P) no_pa
 sentence_fits P F sorted = fitting P (form_of F) true F no_scope [] nothing sorted (λ r used. used)
   where
     nothing : IsBound no_scope []
-    nothing = record { there = λ v s is. absurd (none v s is); sort = λ v s is. absurd (none v s is) }
-      where
-        none : (v : ℕ) (s : Sort) → no_scope v ≡ Some s → ⊥
-        none v s is = true≢false (sym (ap is_some is))
+    nothing = record { there = λ v s is. absurd (none-some s is); sort = λ v s is. absurd (none-some s is) }

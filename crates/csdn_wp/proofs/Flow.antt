@@ -1,5 +1,7 @@
 -- The precondition of packet-flow events is exact, and well-sorted.
 use Rattle.std.proofs.Common.{◌≡◌, ℕ, ◌≤◌, ◌↔◌, [], ◌∷◌, None, refl, sym, subst, ◌∙◌, IsTrue, arith}
+use Rattle.general_facts.proofs.Lists.{list_all-from}
+use Rattle.fol_forms.proofs.ClosedTruth.{all_at}
 use Rattle.csdn_core.specs.declared.terms.Sort.TheVariants.{Sw, Ho, Pr}
 use Rattle.csdn_core.specs.declared.terms.Pred.TheVariants.{Ft, Sent}
 use Rattle.csdn_core.specs.declared.event.Event.TheVariants.{PktFlow}
@@ -19,7 +21,7 @@ use Rattle.fol_forms.specs.Renumber.{renumber}
 use Rattle.fol_forms.specs.Substitution.{Scope, no_scope, with_sort}
 use Rattle.csdn_wp.specs.SortedIn.{any_relation, no_packet, HaveSortsIn, IsSortedIn}
 use Rattle.csdn_wp.specs.EventPreconditions.{numbered, terms_of, first_vars, flow_terms, wp_flow}
-use Rattle.csdn_wp.proofs.Truths.{all_at, all_from, implied, implies}
+use Rattle.csdn_wp.proofs.Truths.{implied, implies}
 use Rattle.csdn_wp.proofs.Bounds.{binds_outside, bound_in-replace, bound_in-is_row, bound_in-renumbered}
 use Rattle.csdn_wp.proofs.Sorting.{Extends-none, IsSortedIn-more, IsSortedIn-renumber, terms_not}
 use Rattle.csdn_wp.proofs.Sorted.{IsSortedIn-fix_packet, IsSortedIn-add_row}
@@ -92,6 +94,6 @@ module _ (P : Parts) where
         λ h s a b i o y (in_s, in_a, in_b, in_i, in_o, enabled, is). rw is (
             sym (after_flow s a b i o) ∙ implied (x Ft (s ∷ a ∷ b ∷ i ∷ o ∷ [])) _
             (all_at _ N.ports o in_o (all_at _ N.ports i in_i (all_at _ N.hosts b in_b (all_at _ N.hosts a in_a (all_at _ N.switches s in_s h))))) enabled),
-        λ h. all_from _ N.switches (λ s in_s. all_from _ N.hosts (λ a in_a. all_from _ N.hosts (λ b in_b. all_from _ N.ports (λ i in_i. all_from _ N.ports (λ o in_o.
+        λ h. list_all-from _ N.switches (λ s in_s. list_all-from _ N.hosts (λ a in_a. list_all-from _ N.hosts (λ b in_b. list_all-from _ N.ports (λ i in_i. list_all-from _ N.ports (λ o in_o.
             implies (x Ft (s ∷ a ∷ b ∷ i ∷ o ∷ [])) _ (λ enabled. after_flow s a b i o ∙ h s a b i o (put x Sent (s ∷ a ∷ b ∷ i ∷ o ∷ [])) (in_s, in_a, in_b, in_i, in_o, enabled, refl))))))),
       )

@@ -1,5 +1,7 @@
 -- What a command and the formula after it meet, where the precondition is exact.
 use Rattle.std.proofs.Common.{◌≡◌, inl, inr, ℕ, ◌==◌, Bool, true, false, ◌||◌, cond, List, ◌∷◌, ◌++◌, Some, None, refl, ap, sym, subst, ◌∙◌, IsFalse, arith}
+use Rattle.std.proofs.lemmas.Bool.{or_from, or_parts}
+use Rattle.decision_laws.proofs.SortedForms.{distinct_left, distinct_right}
 use Rattle.csdn_core.specs.declared.terms.VarId.{VarId}
 use Rattle.csdn_core.specs.declared.terms.Sort.{Sort}
 use Rattle.csdn_core.specs.declared.terms.Term.{Term}
@@ -20,9 +22,8 @@ use Rattle.decision_laws.proofs.Lists.{in_left, in_right}
 use Rattle.fol_forms.specs.Substitution.{Scope, with_sort}
 use Rattle.csdn_wp.specs.After.{stands_in}
 use Rattle.csdn_wp.specs.Preconditions.{wp}
-use Rattle.csdn_wp.proofs.Truths.{neither, first_not, second_not}
 use Rattle.csdn_wp.specs.SortedIn.{Relations, no_packet, HaveSortsIn, IsAtomIn, IsSortedIn}
-use Rattle.csdn_wp.proofs.Bounds.{distinct_left, distinct_right, distinct_both, binds_outside, bound_in-wp}
+use Rattle.csdn_wp.proofs.Bounds.{distinct_both, binds_outside, bound_in-wp}
 use Rattle.csdn_wp.proofs.Sorting.{IsSortedIn-more, Extends-new, terms_not, not_free}
 use Rattle.csdn_wp.proofs.Sorted.{IsSortedIn-add_row, IsSortedIn-drop_row, IsSortedIn-add_flood}
 
@@ -77,24 +78,24 @@ module _ (P : Parts) where
 
   pub follows_second : (R : Relations) (Γ : Scope) (a b : Command) (q : Formula) → MayFollow R Γ (sequence a b) q → MayFollow R Γ b q
   unfolding stands_in command_bound_in
-  follows_second R Γ a b q = follows_part R Γ b (sequence a b) q (λ n. second_not (stands_in a n) (stands_in b n)) (in_right (command_bound_in a) (command_bound_in b))
+  follows_second R Γ a b q = follows_part R Γ b (sequence a b) q (λ n out. (or_parts (stands_in a n) (stands_in b n) out).1) (in_right (command_bound_in a) (command_bound_in b))
 
   pub follows_then : (R : Relations) (Γ : Scope) (p : Formula) (a b : Command) (q : Formula) → MayFollow R Γ (conditional p a b) q → MayFollow R Γ a q
   unfolding stands_in command_bound_in
   follows_then R Γ p a b q = follows_part R Γ a (conditional p a b) q
-      (λ n out. first_not (stands_in a n) (stands_in b n) (second_not (free_in p n) (stands_in a n || stands_in b n) out))
+      (λ n out. (or_parts (stands_in a n) (stands_in b n) (or_parts (free_in p n) (stands_in a n || stands_in b n) out).1).0)
       (λ n i. in_right (bound_in p) _ n (in_left (command_bound_in a) (command_bound_in b) n i))
 
   pub follows_else : (R : Relations) (Γ : Scope) (p : Formula) (a b : Command) (q : Formula) → MayFollow R Γ (conditional p a b) q → MayFollow R Γ b q
   unfolding stands_in command_bound_in
   follows_else R Γ p a b q = follows_part R Γ b (conditional p a b) q
-      (λ n out. second_not (stands_in a n) (stands_in b n) (second_not (free_in p n) (stands_in a n || stands_in b n) out))
+      (λ n out. (or_parts (stands_in a n) (stands_in b n) (or_parts (free_in p n) (stands_in a n || stands_in b n) out).1).1)
       (λ n i. in_right (bound_in p) _ n (in_right (command_bound_in a) (command_bound_in b) n i))
 
   pub follows_none : (R : Relations) (Γ : Scope) (v : VarId) (s : Sort) (p : Formula) (a b : Command) (q : Formula) → MayFollow R Γ (choice v s p a b) q → MayFollow R Γ b q
   unfolding stands_in command_bound_in
   follows_none R Γ v s p a b q = follows_part R Γ b (choice v s p a b) q
-      (λ n out. second_not (stands_in a n) (stands_in b n) (second_not (free_in p n) (stands_in a n || stands_in b n) out))
+      (λ n out. (or_parts (stands_in a n) (stands_in b n) (or_parts (free_in p n) (stands_in a n || stands_in b n) out).1).1)
       (λ n i. inr (in_right (bound_in p) _ n (in_right (command_bound_in a) (command_bound_in b) n i)))
 
   -- once the variable is picked
@@ -102,7 +103,7 @@ module _ (P : Parts) where
   unfolding stands_in command_bound_in
   follows_picked R Γ v s p a b q new may = record {
     sorted = IsSortedIn-more (signature P) R R (λ r h. h) Γ (with_sort Γ v s) (Extends-new Γ v s new) q may.sorted;
-    outside = λ n i. first_not (stands_in a n) (stands_in b n) (second_not (free_in p n) (stands_in a n || stands_in b n) (may.outside n i));
+    outside = λ n i. (or_parts (stands_in a n) (stands_in b n) (or_parts (free_in p n) (stands_in a n || stands_in b n) (may.outside n i)).1).0;
     apart = λ n i j. may.apart n i (inr (in_right (bound_in p) _ n (in_left (command_bound_in a) (command_bound_in b) n j)));
   }
 
@@ -111,16 +112,16 @@ module _ (P : Parts) where
   unfolding IsCommandIn stands_in command_bound_in
   not_standing Skip Γ n formed none other = refl
   not_standing (sequence a b) Γ n formed none other =
-      neither (stands_in a n) (stands_in b n) (not_standing a Γ n formed.0 none (λ i. other (in_left (command_bound_in a) (command_bound_in b) n i)))
+      or_from (stands_in a n) (stands_in b n) (not_standing a Γ n formed.0 none (λ i. other (in_left (command_bound_in a) (command_bound_in b) n i)))
       (not_standing b Γ n formed.1 none (λ i. other (in_right (command_bound_in a) (command_bound_in b) n i)))
   not_standing (conditional p a b) Γ n formed none other =
-      neither (free_in p n) (stands_in a n || stands_in b n) (not_free (signature P) no_packet Γ n none p formed.0)
-      (neither (stands_in a n) (stands_in b n) (not_standing a Γ n formed.1 none (λ i. other (in_right (bound_in p) _ n (in_left (command_bound_in a) (command_bound_in b) n i))))
+      or_from (free_in p n) (stands_in a n || stands_in b n) (not_free (signature P) no_packet Γ n none p formed.0)
+      (or_from (stands_in a n) (stands_in b n) (not_standing a Γ n formed.1 none (λ i. other (in_right (bound_in p) _ n (in_left (command_bound_in a) (command_bound_in b) n i))))
       (not_standing b Γ n formed.2 none (λ i. other (in_right (bound_in p) _ n (in_right (command_bound_in a) (command_bound_in b) n i)))))
   not_standing (choice v s p a b) Γ n formed none other =
       let still = still_none Γ v s n (λ is. other (inl is)) none in
-      neither (free_in p n) (stands_in a n || stands_in b n) (not_free (signature P) no_packet (with_sort Γ v s) n still p formed.0)
-      (neither (stands_in a n) (stands_in b n) (not_standing a (with_sort Γ v s) n formed.1 still (λ i. other (inr (in_right (bound_in p) _ n (in_left (command_bound_in a) (command_bound_in b) n i)))))
+      or_from (free_in p n) (stands_in a n || stands_in b n) (not_free (signature P) no_packet (with_sort Γ v s) n still p formed.0)
+      (or_from (stands_in a n) (stands_in b n) (not_standing a (with_sort Γ v s) n formed.1 still (λ i. other (inr (in_right (bound_in p) _ n (in_left (command_bound_in a) (command_bound_in b) n i)))))
       (not_standing b Γ n formed.2 none (λ i. other (inr (in_right (bound_in p) _ n (in_right (command_bound_in a) (command_bound_in b) n i))))))
   not_standing (Insert r ts) Γ n formed none other = terms_not (signature P) Γ n none formed.1.sorts ts formed.1.terms
   not_standing (Remove r ts) Γ n formed none other = terms_not (signature P) Γ n none formed.1.sorts ts formed.1.terms
@@ -151,7 +152,7 @@ module _ (P : Parts) where
       outside = λ n i. elim (bound_in-wp b q n i) [
         | inl here ↦
             not_standing a Γ n formed (own.new n (in_right (command_bound_in a) (command_bound_in b) n here)) (λ j. distinct_both (command_bound_in a) (command_bound_in b) n own.distinct j here)
-        | inr after ↦ first_not (stands_in a n) (stands_in b n) (may.outside n after)
+        | inr after ↦ (or_parts (stands_in a n) (stands_in b n) (may.outside n after)).0
       ];
       apart = λ n i j. elim (bound_in-wp b q n i) [
         | inl here ↦ distinct_both (command_bound_in a) (command_bound_in b) n own.distinct j here

@@ -59,9 +59,9 @@ wp_grows (Install ts) q = replace_grows _ q
 wp_grows (Forward ts) q = replace_grows _ q
 wp_grows (Flood ts) q = replace_grows _ q
 
-joined_nodes : (p q : Formula) → nodes (conjunction p q) ≡ nodes p + nodes q + 1
+pub nodes-two : (p q : Formula) → nodes (conjunction p q) ≡ nodes p + nodes q + 1
 unfolding nodes
-joined_nodes p q = refl
+nodes-two p q = refl
 
 -- a member, and all of them
 
@@ -86,7 +86,7 @@ first_grows h hs ks q = by_port h.port (member ks (handler_vars h) h.port h.body
   where
     by_port : (port : Option ℕ) (first : Formula) → nodes first ≤ nodes (and_later port ks first (λ more. members hs more q))
     by_port None first = omega arith
-    by_port (Some k) first = omega (arith, joined_nodes first (members hs (ks ++ k ∷ []) q))
+    by_port (Some k) first = omega (arith, nodes-two first (members hs (ks ++ k ∷ []) q))
 
 pub members_grow : (hs : List Handler) (ks : List ℕ) (q : Formula) → nodes q ≤ nodes (members hs ks q)
 unfolding members

@@ -2,6 +2,7 @@
 use Rattle.std.proofs.Common.{inl, inr, ℕ, ◌<◌, ◌↔◌, List, [], ◌∷◌, ◌++◌, refl, IsTrue, arith}
 use Rattle.std.specs.List.{flat_map}
 use Rattle.std.proofs.lemmas.List.Elements.{All-contains}
+use Rattle.decision_laws.proofs.SortedForms.{distinct_left, distinct_right, distinct_pairs}
 use Rattle.csdn_core.specs.declared.event.Event.TheVariants.{PktIn}
 use Rattle.csdn_core.specs.declared.event.Packet.TheVariants.{Nothing, At}
 use Rattle.csdn_core.specs.declared.program.Parts.{Parts}
@@ -18,7 +19,6 @@ use Rattle.decision_laws.proofs.Lists.{in_left, in_right, in_contains}
 use Rattle.fol_forms.specs.Substitution.{no_scope}
 use Rattle.csdn_wp.specs.SortedIn.{any_relation, IsSortedIn}
 use Rattle.csdn_wp.specs.EventPreconditions.{handler_vars, wp_in}
-use Rattle.csdn_wp.proofs.Bounds.{distinct_left, distinct_right, distinct_pairs}
 use Rattle.csdn_wp.proofs.Follows.{AreNew}
 use Rattle.csdn_wp.proofs.Scopes.{command_in, AreInScope-none, AreInScope-binds, AreNew-binds, AreNew-none}
 use Rattle.csdn_wp.proofs.Arrival.{AllFine, scope_binds, packet_scope, members_exact, Fits, say, after}

@@ -1,7 +1,12 @@
 -- From the rules of programs to scopes.
-use Rattle.std.proofs.Common.{◌≡◌, ◌<◌, ◌⊎◌, inl, inr, ℕ, ◌==◌, Bool, true, false, cond, List, [], ◌∷◌, ◌++◌, map, Option, Some, None, refl, ap, sym, subst, ◌∙◌, IsFalse, Contains, arith, true≢false}
+use Rattle.std.proofs.Common.{◌≡◌, ◌<◌, ◌⊎◌, inl, inr, ℕ, ◌==◌, Bool, true, false, cond, List, [], ◌∷◌, ◌++◌, map, Some, None, refl, ap, sym, subst, ◌∙◌, IsFalse, Contains, arith}
 use Rattle.std.specs.Prelude.{slice_get}
 use Rattle.std.proofs.lemmas.List.Elements.{Contains-append_cases}
+use Rattle.std.proofs.lemmas.Option.{none-some}
+use Rattle.general_facts.proofs.Numbers.{self_equal}
+use Rattle.std.proofs.lemmas.Bool.{false_from_ne_true}
+use Rattle.std.proofs.lemmas.List.{append_assoc, append-nil}
+use Rattle.decision_laws.proofs.SortedForms.{distinct_pairs}
 use Rattle.csdn_core.specs.declared.terms.VarId.{VarId}
 use Rattle.csdn_core.specs.declared.terms.RelId.{RelId}
 use Rattle.csdn_core.specs.declared.terms.Sort.{Sort}
@@ -26,7 +31,6 @@ use Rattle.decision_laws.proofs.Lists.{contains_in}
 use Rattle.fol_forms.specs.Substitution.{Scope, no_scope, with_sort}
 use Rattle.csdn_wp.specs.SortedIn.{Relations, any_relation, no_packet, HasSortIn, HaveSortsIn, IsSortedIn}
 use Rattle.csdn_wp.specs.After.{with_binds, scope_of, MayPrecede}
-use Rattle.csdn_wp.proofs.Bounds.{distinct_pairs}
 use Rattle.csdn_wp.proofs.Follows.{AreNew, AreNew-left, AreNew-right, AreNew-under, AreNew-tail, IsCommandIn, MayFollow, new_then, new_else}
 
 abbrev pub bind : VarId → Sort → Bind
@@ -39,22 +43,12 @@ AreInScope bs Γ = (b : Bind) → Contains bs b → Γ b.var.0 ≡ Some b.sort
 pub AreInScope-none : (Γ : Scope) → AreInScope [] Γ
 AreInScope-none Γ b there = absurd (let within : there.0 < 0 = there.1 in omega arith)
 
-none_is_not_some : (s : Sort) → None ≡ Some s → ⊥
-none_is_not_some s is = true≢false (ap is_none is)
-  where
-    is_none : Option Sort → Bool
-    is_none None = true
-    is_none (Some s) = false
-
 pub AreInScope-more : (bs : List Bind) (Γ : Scope) (v : VarId) (s : Sort) → Γ v.0 ≡ None → AreInScope bs Γ → AreInScope (bs ++ bind v s ∷ []) (with_sort Γ v s)
 AreInScope-more bs Γ v s new all b there = by_case b (Contains-append_cases bs (bind v s ∷ []) b there)
   where
-    self_equal : (n : ℕ) → (n == n) ≡ true
-    self_equal n = grind arith
-
     earlier : (b : Bind) → Γ b.var.0 ≡ Some b.sort → (t : Bool) → (b.var.0 == v.0) ≡ t → cond t (Some s) (Γ b.var.0) ≡ Some b.sort
     earlier b has false other = has
-    earlier b has true is = absurd (none_is_not_some b.sort (sym new ∙ ap Γ (let e : v.0 ≡ b.var.0 = grind arith in e) ∙ has))
+    earlier b has true is = absurd (none-some b.sort (sym new ∙ ap Γ (let e : v.0 ≡ b.var.0 = grind arith in e) ∙ has))
 
     by_case : (b : Bind) → Contains bs b ⊎ Contains (bind v s ∷ []) b → with_sort Γ v s b.var.0 ≡ Some b.sort
     by_case b (inl before) = earlier b (all b before) (b.var.0 == v.0) refl
@@ -145,19 +139,10 @@ pub AreNew-binds : (bs : List Bind) (Γ : Scope) (ns : List ℕ) → AreNew Γ (
 AreNew-binds [] Γ ns own = own
 AreNew-binds (b ∷ bs) Γ ns own = AreNew-binds bs (with_sort Γ b.var b.sort) ns (AreNew-under Γ b.var b.sort (numbers_of bs ++ ns) own)
 
--- b ∷ bs behind front
-regroup : (front : List Bind) (b : Bind) (bs : List Bind) → (front ++ b ∷ []) ++ bs ≡ front ++ b ∷ bs
-regroup [] b bs = refl
-regroup (a ∷ front) b bs = ap (λ cs. a ∷ cs) (regroup front b bs)
-
 pub AreInScope-binds : (front bs : List Bind) (Γ : Scope) (ns : List ℕ) → AreNew Γ (numbers_of bs ++ ns) → AreInScope front Γ → AreInScope (front ++ bs) (with_binds Γ bs)
-AreInScope-binds front [] Γ ns own all = subst (λ cs. AreInScope cs Γ) (sym (end front)) all
-  where
-    end : (front : List Bind) → front ++ [] ≡ front
-    end [] = refl
-    end (a ∷ front) = ap (λ cs. a ∷ cs) (end front)
+AreInScope-binds front [] Γ ns own all = subst (λ cs. AreInScope cs Γ) (sym (append-nil front)) all
 AreInScope-binds front (b ∷ bs) Γ ns own all =
-    subst (λ cs. AreInScope cs (with_binds (with_sort Γ b.var b.sort) bs)) (regroup front b bs)
+    subst (λ cs. AreInScope cs (with_binds (with_sort Γ b.var b.sort) bs)) (append_assoc front (b ∷ []) bs)
     (AreInScope-binds (front ++ b ∷ []) bs (with_sort Γ b.var b.sort) ns (AreNew-under Γ b.var b.sort (numbers_of bs ++ ns) own) (AreInScope-more front Γ b.var b.sort (own.new b.var.0 (inl refl)) all))
 
 -- nothing is in scope yet
@@ -175,8 +160,4 @@ module _ (P : Parts) (bs : List Bind) (c : Command) (q : Formula) (may : MayPrec
   precedes_in = command_in P may.own c bs (scope_of bs) (AreInScope-binds [] bs no_scope (command_bound_in c) all_new (AreInScope-none no_scope)) precedes_new may.command
 
   pub precedes : MayFollow P any_relation (scope_of bs) c q
-  precedes = record { sorted = may.formula; outside = λ n i. is_false _ (may.stands_outside n i); apart = may.bound_outside }
-    where
-      is_false : (b : Bool) → (b ≡ true → ⊥) → b ≡ false
-      is_false true never = absurd (never refl)
-      is_false false never = refl
+  precedes = record { sorted = may.formula; outside = λ n i. false_from_ne_true _ (may.stands_outside n i); apart = may.bound_outside }

@@ -2,6 +2,7 @@
 use Rattle.std.proofs.Common.{◌≡◌, ◌≢◌, inl, inr, ℕ, ◌==◌, ◌≤◌, Bool, true, false, not, ◌&&◌, ◌||◌, List, [], ◌∷◌, ◌++◌, Option, Some, None, refl, ap, ap₂, sym, subst, ◌∙◌, Contains, AllPairs, arith, true≢false}
 use Rattle.std.proofs.Math.Path.{fun_ext}
 use Rattle.std.specs.List.{flat_map, list_all, list_any}
+use Rattle.decision_laws.proofs.SortedForms.{distinct_pairs}
 use Rattle.csdn_core.specs.declared.terms.VarId.{VarId}
 use Rattle.csdn_core.specs.declared.terms.Sort.TheVariants.{Pr}
 use Rattle.csdn_core.specs.declared.terms.Term.{Term}
@@ -31,7 +32,6 @@ use Rattle.fol_forms.specs.Substitution.{Scope, no_scope, with_sort}
 use Rattle.csdn_wp.specs.declared.vars.PacketVars.{PacketVars}
 use Rattle.csdn_wp.specs.SortedIn.{any_relation, no_packet, IsSortedIn}
 use Rattle.csdn_wp.specs.EventPreconditions.{handler_vars, first_vars, is_port, and_also, guard, guarded, and_later, member, members, wp_in}
-use Rattle.csdn_wp.proofs.Bounds.{distinct_pairs}
 use Rattle.csdn_wp.proofs.Scopes.{AreInScope-none, AreNew-none, sorted_in, bind}
 use Rattle.csdn_wp.proofs.Arrival.{IsFine, AllFine, scope_binds, packet_scope, vars_in_scope, before_sorted, last_fine}
 use Rattle.csdn_wp.proofs.Programs.{handlers_fine}

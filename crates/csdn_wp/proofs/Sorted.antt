@@ -1,5 +1,7 @@
 -- Preconditions are well-sorted.
 use Rattle.std.proofs.Common.{◌≡◌, ℕ, ◌==◌, Bool, true, false, List, [], ◌∷◌, Option, Some, None, refl, ap, sym, subst, ◌∙◌, IsFalse, arith, if◌then◌else◌}
+use Rattle.std.proofs.lemmas.Bool.{or_parts}
+use Rattle.csdn_core.proofs.Same.{same_pred-is}
 use Rattle.csdn_core.specs.declared.terms.VarId.{VarId}
 use Rattle.csdn_core.specs.declared.terms.Sort.{Sort}
 use Rattle.csdn_core.specs.declared.terms.Sort.TheVariants.{Sw, Ho, Pr}
@@ -13,11 +15,9 @@ use Rattle.csdn_core.specs.Tree.{negation, conjunction, disjunction, implication
 use Rattle.csdn_core.specs.Network.{same_pred}
 use Rattle.csdn_core.specs.Variables.{is_var, vars_of, BindsOutside}
 use Rattle.csdn_core.specs.Sorted.{Signature, sorts_of, flow_sorts, packet_sorts}
-use Rattle.decision_laws.proofs.Basics.{same_pred-true}
 use Rattle.fol_forms.specs.Replace.{replace, same, or_row, not_row, or_flood, is_row, floods, add_row, drop_row, add_flood, fix_packet}
 use Rattle.fol_forms.specs.Substitution.{Scope, with_sort}
 use Rattle.csdn_wp.specs.SortedIn.{Relations, no_packet, HasSortIn, HaveSortsIn, IsAtomIn, IsSortedIn}
-use Rattle.csdn_wp.proofs.Truths.{first_not, second_not}
 
 module _ (S : Signature) where
   -- a term keeps its sort under a binder of another variable
@@ -36,7 +36,7 @@ module _ (S : Signature) where
   HaveSortsIn-under Γ v k [] (t ∷ ts) other have = have
   HaveSortsIn-under Γ v k (s ∷ ss) [] other have = have
   HaveSortsIn-under Γ v k (s ∷ ss) (t ∷ ts) other have =
-      (HasSortIn-under Γ v k s t (first_not (is_var t v.0) (vars_of ts v.0) other) have.0, HaveSortsIn-under Γ v k ss ts (second_not (is_var t v.0) (vars_of ts v.0) other) have.1)
+      (HasSortIn-under Γ v k s t (or_parts (is_var t v.0) (vars_of ts v.0) other).0 have.0, HaveSortsIn-under Γ v k ss ts (or_parts (is_var t v.0) (vars_of ts v.0) other).1 have.1)
 
   module _ (R Q : Relations) (ss : List Sort) (ts : List Term) (g : Pred → List Term → Formula)
       (right : (Γ : Scope) (r : Pred) (us : List Term) → HaveSortsIn S Γ ss ts → IsAtomIn S Γ r us → R r → IsSortedIn S Q Γ (g r us)) where
@@ -76,7 +76,7 @@ module _ (S : Signature) where
   -- atoms of a relation have its sorts
   pub atom_sorts : (Γ : Scope) (r q : Pred) (ss : List Sort) (us : List Term) → same_pred q r ≡ true → sorts_of S r ≡ Some ss → IsAtomIn S Γ q us → HaveSortsIn S Γ ss us
   atom_sorts Γ r q ss us is declared atom =
-      subst (λ zs. HaveSortsIn S Γ zs us) (some_is atom.sorts ss (sym atom.declared ∙ ap (sorts_of S) (same_pred-true q r is) ∙ declared)) atom.terms
+      subst (λ zs. HaveSortsIn S Γ zs us) (some_is atom.sorts ss (sym atom.declared ∙ ap (sorts_of S) (same_pred-is q r is) ∙ declared)) atom.terms
 
   either_way : (F : Formula → Type 0) (b : Bool) (p q : Formula) → (b ≡ true → F p) → (b ≡ false → F q) → F (if b then p else q)
   either_way F true p q first second = first refl

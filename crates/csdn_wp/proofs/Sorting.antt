@@ -1,5 +1,8 @@
 -- Formulas that are well-sorted in a scope.
-use Rattle.std.proofs.Common.{◌≡◌, ℕ, suc, ◌+◌, ◌<◌, ◌==◌, Bool, true, false, not, ◌&&◌, cond, List, [], ◌∷◌, length, map, Option, Some, None, refl, ap, sym, ◌∙◌, IsFalse, arith, true≢false}
+use Rattle.std.proofs.Common.{◌≡◌, ℕ, suc, ◌+◌, ◌<◌, ◌==◌, Bool, true, false, not, ◌&&◌, cond, List, [], ◌∷◌, length, map, Some, None, refl, ap, sym, ◌∙◌, IsFalse, arith}
+use Rattle.general_facts.proofs.Numbers.{self_equal}
+use Rattle.std.proofs.lemmas.Bool.{or_from}
+use Rattle.std.proofs.lemmas.Option.{none-some}
 use Rattle.csdn_core.specs.declared.terms.VarId.{VarId}
 use Rattle.csdn_core.specs.declared.terms.Sort.{Sort}
 use Rattle.csdn_core.specs.declared.terms.Term.{Term}
@@ -15,7 +18,6 @@ use Rattle.fol_forms.specs.Replace.{same}
 use Rattle.fol_forms.specs.Renumber.{binders, renamed, renumbered, renumber}
 use Rattle.fol_forms.specs.Substitution.{Scope, no_scope, with_sort}
 use Rattle.csdn_wp.specs.SortedIn.{Relations, HasSortIn, HaveSortsIn, IsSortedIn}
-use Rattle.csdn_wp.proofs.Truths.{self_equal, neither}
 
 -- what is in the first scope is in the second, with its sort
 abbrev pub Extends : Scope → Scope → Type 0
@@ -28,24 +30,17 @@ Extends-under Γ Δ v s more w t = go (w == v.0)
     go true is = is
     go false is = more w t is
 
-none_is_not_some : (s : Sort) → None ≡ Some s → ⊥
-none_is_not_some s is = true≢false (ap is_none is)
-  where
-    is_none : Option Sort → Bool
-    is_none None = true
-    is_none (Some s) = false
-
 -- a new variable extends the scope
 pub Extends-new : (Γ : Scope) (v : VarId) (s : Sort) → Γ v.0 ≡ None → Extends Γ (with_sort Γ v s)
 Extends-new Γ v s new w t is = go (w == v.0) refl
   where
     go : (b : Bool) → (w == v.0) ≡ b → cond b (Some s) (Γ w) ≡ Some t
-    go true same = absurd (none_is_not_some t (sym new ∙ ap Γ (sym (let e : w ≡ v.0 = grind arith in e)) ∙ is))
+    go true same = absurd (none-some t (sym new ∙ ap Γ (sym (let e : w ≡ v.0 = grind arith in e)) ∙ is))
     go false other = is
 
 -- where nothing is in scope, everything extends it
 pub Extends-none : (Δ : Scope) → Extends no_scope Δ
-Extends-none Δ v s is = absurd (none_is_not_some s is)
+Extends-none Δ v s is = absurd (none-some s is)
 
 module _ (S : Signature) where
   pub HasSortIn-more : (Γ Δ : Scope) → Extends Γ Δ → (s : Sort) (t : Term) → HasSortIn S Γ s t → HasSortIn S Δ s t
@@ -90,7 +85,7 @@ module _ (S : Signature) where
     where
       go : (b : Bool) → (v == w.0) ≡ b → b ≡ false
       go false other = refl
-      go true same = absurd (none_is_not_some s (sym none ∙ ap Γ (let e : v ≡ w.0 = grind arith in e) ∙ has))
+      go true same = absurd (none-some s (sym none ∙ ap Γ (let e : v ≡ w.0 = grind arith in e) ∙ has))
   term_not Γ v none s (Const k) has = refl
   term_not Γ v none s (Port k) has = refl
 
@@ -99,7 +94,7 @@ module _ (S : Signature) where
   terms_not Γ v none [] [] have = refl
   terms_not Γ v none [] (t ∷ ts) have = absurd have
   terms_not Γ v none (s ∷ ss) [] have = absurd have
-  terms_not Γ v none (s ∷ ss) (t ∷ ts) have = neither (is_var t v) (vars_of ts v) (term_not Γ v none s t have.0) (terms_not Γ v none ss ts have.1)
+  terms_not Γ v none (s ∷ ss) (t ∷ ts) have = or_from (is_var t v) (vars_of ts v) (term_not Γ v none s t have.0) (terms_not Γ v none ss ts have.1)
 
   masked : (Γ : Scope) (v : ℕ) (w : VarId) (s : Sort) (inside : Bool) → Γ v ≡ None → (with_sort Γ w s v ≡ None → inside ≡ false) → (not (v == w.0) && inside) ≡ false
   masked Γ v w s inside none to = go (v == w.0) refl
@@ -113,12 +108,12 @@ module _ (S : Signature) where
   not_free R Γ v none f.True sorted = refl
   not_free R Γ v none f.False sorted = refl
   not_free R Γ v none (f.Atom r ts) sorted = terms_not Γ v none sorted.0.sorts ts sorted.0.terms
-  not_free R Γ v none (f.Same t u) sorted = neither (is_var t v) (is_var u v) (term_not Γ v none sorted.0 t sorted.1) (term_not Γ v none sorted.0 u sorted.2)
+  not_free R Γ v none (f.Same t u) sorted = or_from (is_var t v) (is_var u v) (term_not Γ v none sorted.0 t sorted.1) (term_not Γ v none sorted.0 u sorted.2)
   not_free R Γ v none (negation p) sorted = not_free R Γ v none p sorted
-  not_free R Γ v none (conjunction p q) sorted = neither (free_in p v) (free_in q v) (not_free R Γ v none p sorted.0) (not_free R Γ v none q sorted.1)
-  not_free R Γ v none (disjunction p q) sorted = neither (free_in p v) (free_in q v) (not_free R Γ v none p sorted.0) (not_free R Γ v none q sorted.1)
-  not_free R Γ v none (implication p q) sorted = neither (free_in p v) (free_in q v) (not_free R Γ v none p sorted.0) (not_free R Γ v none q sorted.1)
-  not_free R Γ v none (equivalence p q) sorted = neither (free_in p v) (free_in q v) (not_free R Γ v none p sorted.0) (not_free R Γ v none q sorted.1)
+  not_free R Γ v none (conjunction p q) sorted = or_from (free_in p v) (free_in q v) (not_free R Γ v none p sorted.0) (not_free R Γ v none q sorted.1)
+  not_free R Γ v none (disjunction p q) sorted = or_from (free_in p v) (free_in q v) (not_free R Γ v none p sorted.0) (not_free R Γ v none q sorted.1)
+  not_free R Γ v none (implication p q) sorted = or_from (free_in p v) (free_in q v) (not_free R Γ v none p sorted.0) (not_free R Γ v none q sorted.1)
+  not_free R Γ v none (equivalence p q) sorted = or_from (free_in p v) (free_in q v) (not_free R Γ v none p sorted.0) (not_free R Γ v none q sorted.1)
   not_free R Γ v none (universal w s p) sorted = masked Γ v w s (free_in p v) none (λ still. not_free R (with_sort Γ w s) v still p sorted)
   not_free R Γ v none (existential w s p) sorted = masked Γ v w s (free_in p v) none (λ still. not_free R (with_sort Γ w s) v still p sorted)
 
@@ -172,4 +167,4 @@ module _ (S : Signature) where
 
   -- a sentence stays one
   pub IsSortedIn-renumber : (R : Relations) (p : Formula) (k : ℕ) → IsSortedIn S R no_scope p → IsSortedIn S R no_scope (renumber p k)
-  IsSortedIn-renumber R p k sorted = IsSortedIn-renumbered R p no_scope (λ v. v) k no_scope (record { below = λ v s is. absurd (none_is_not_some s is); same = λ v s is. is }) sorted
+  IsSortedIn-renumber R p k sorted = IsSortedIn-renumbered R p no_scope (λ v. v) k no_scope (record { below = λ v s is. absurd (none-some s is); same = λ v s is. is }) sorted

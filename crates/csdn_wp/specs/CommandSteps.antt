@@ -1,5 +1,5 @@
--- The clauses of `wp`, at what the code writes, and how many parts a command has.
-use Rattle.std.specs.Prelude.{◌≡◌, ℕ, ◌+◌, List, refl}
+-- The clauses of `wp`, at what the code writes.
+use Rattle.std.specs.Prelude.{◌≡◌, List, refl}
 use Rattle.csdn_core.specs.declared.terms.VarId.{VarId}
 use Rattle.csdn_core.specs.declared.terms.RelId.{RelId}
 use Rattle.csdn_core.specs.declared.terms.Sort.{Sort}
@@ -9,7 +9,7 @@ use Rattle.csdn_core.specs.declared.syntax.Formula.{Formula}
 use Rattle.csdn_core.specs.declared.syntax.Formula.TheVariants as f
 use Rattle.csdn_core.specs.declared.syntax.Command.{Command}
 use Rattle.csdn_core.specs.declared.syntax.Command.TheVariants as c
-use Rattle.csdn_core.specs.Tree.{sequence, conditional, choice, Seq-is, If-is, Pick-is, Not-is, And-is, Implies-is, Forall-is, Exists-is}
+use Rattle.csdn_core.specs.Tree.{Seq-is, If-is, Pick-is, Not-is, And-is, Implies-is, Forall-is, Exists-is}
 use Rattle.fol_forms.specs.Replace.{add_row, drop_row, add_flood}
 use Rattle.csdn_wp.specs.Preconditions.{wp}
 
@@ -51,23 +51,3 @@ unfolding wp
 wp-Flood ts q = refl
 
 pub ruleset wp_steps = (wp-Skip, wp-Seq, wp-If, wp-Pick, wp-Insert, wp-Remove, wp-Install, wp-Forward, wp-Flood)
-
-unfoldable pub parts : Command → ℕ
-parts (sequence a b) = parts a + parts b + 1
-parts (conditional p a b) = parts a + parts b + 1
-parts (choice v s p a b) = parts a + parts b + 1
-parts _ = 1
-
-pub parts-Seq : (a b : Command) → parts (c.Seq a b) ≡ parts a + parts b + 1
-unfolding parts
-parts-Seq a b = rw Seq-is
-
-pub parts-If : (p : Formula) (a b : Command) → parts (c.If p a b) ≡ parts a + parts b + 1
-unfolding parts
-parts-If p a b = rw If-is
-
-pub parts-Pick : (v : VarId) (s : Sort) (p : Formula) (a b : Command) → parts (c.Pick v s p a b) ≡ parts a + parts b + 1
-unfolding parts
-parts-Pick v s p a b = rw Pick-is
-
-pub ruleset part_steps = (parts-Seq, parts-If, parts-Pick)

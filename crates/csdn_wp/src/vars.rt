@@ -55,27 +55,21 @@ pub fn terms_of(vars: PacketVars) -> Terms
     terms
 }
 
+fn bind(var: VarId, sort: Sort) -> Bind
+    ensures { result ≡ record { var = var; sort = sort } }
+{
+    Bind { var, sort }
+}
+
 /// The variables with their sorts.
 pub fn binds_of(alloc: Global, vars: PacketVars) -> Result<Binds, FormRefusal>
     ensures { Gives (binds_in vars) result }
 {
     let binds = [
-        Bind {
-            var: vars.s,
-            sort: Sort::Sw,
-        },
-        Bind {
-            var: vars.a,
-            sort: Sort::Ho,
-        },
-        Bind {
-            var: vars.b,
-            sort: Sort::Ho,
-        },
-        Bind {
-            var: vars.i,
-            sort: Sort::Pr,
-        },
+        bind(vars.s, Sort::Sw),
+        bind(vars.a, Sort::Ho),
+        bind(vars.b, Sort::Ho),
+        bind(vars.i, Sort::Pr),
     ];
     or_refused(Items::from_slice(alloc, &binds))
 }
@@ -95,26 +89,11 @@ pub fn flow_binds(alloc: Global) -> Result<Binds, FormRefusal>
 {
     let vars = first_vars();
     let binds = [
-        Bind {
-            var: vars.s,
-            sort: Sort::Sw,
-        },
-        Bind {
-            var: vars.a,
-            sort: Sort::Ho,
-        },
-        Bind {
-            var: vars.b,
-            sort: Sort::Ho,
-        },
-        Bind {
-            var: vars.i,
-            sort: Sort::Pr,
-        },
-        Bind {
-            var: VarId(4),
-            sort: Sort::Pr,
-        },
+        bind(vars.s, Sort::Sw),
+        bind(vars.a, Sort::Ho),
+        bind(vars.b, Sort::Ho),
+        bind(vars.i, Sort::Pr),
+        bind(VarId(4), Sort::Pr),
     ];
     or_refused(Items::from_slice(alloc, &binds))
 }

@@ -1,6 +1,5 @@
-use Rattle.std.proofs.Common.{◌≡◌, ◌≢◌, ◌≤◌, ◌-◌, ◌∙◌, sym, ap, subst, arith}
+use Rattle.std.proofs.Common.{◌≡◌, ◌-◌, ◌∙◌, sym, ap, subst}
 use Rattle.csdn_core.specs.declared.syntax.Formula.{Formula}
-use Rattle.csdn_core.specs.Nodes.{nodes}
 use Rattle.csdn_core.specs.Tree.{conjunction}
 use Rattle.fol_forms.specs.Limits.{most_nodes}
 use Rattle.csdn_wp.specs.EventPreconditions.{wp_in, wp_flow}

@@ -1,4 +1,3 @@
-use Rattle.std.proofs.Common.{◌≤◌}
 use Rattle.csdn_core.specs.Tree.{conjunction}
 use Rattle.fol_forms.specs.Limits.{most_nodes}
 use Rattle.csdn_wp.specs.EventPreconditions.{wp_in, wp_flow}

@@ -1,8 +1,5 @@
-use Rattle.std.proofs.Common.{◌≡◌, ◌+◌, ◌++◌, ◌∙◌, ap, List, subst, IfOk}
+use Rattle.std.proofs.Common.{◌≡◌, ◌++◌, ◌∙◌, ap, List, subst, IfOk}
 use Rattle.csdn_core.specs.declared.syntax.Formula.{Formula}
-use Rattle.fol_forms.specs.Answers.{widened}
-use Rattle.fol_forms.specs.Limits.{most_nodes}
-use Rattle.csdn_wp.specs.Makes.{Makes}
 use Rattle.csdn_conditions.specs.declared.lists.Join.TheVariants.{And}
 use Rattle.csdn_conditions.specs.Lists.{joined}
 use Rattle.csdn_conditions.specs.Conditions.{formulas, all_after}

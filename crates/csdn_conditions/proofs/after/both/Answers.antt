@@ -1,10 +1,11 @@
-use Rattle.std.proofs.Common.{◌≡◌, ◌∙◌, ◌+◌, ap₂, ap, sym}
+use Rattle.std.proofs.Common.{◌∙◌, ◌+◌, ap₂, ap, sym}
+use Rattle.csdn_wp.proofs.Grows.{nodes-two}
 use Rattle.csdn_core.specs.Nodes.{nodes}
 use Rattle.csdn_core.specs.Tree.{conjunction}
 use Rattle.fol_forms.specs.Limits.{capped, most_nodes}
 use Rattle.fol_forms.proofs.Capped.{capped-sum_and_one}
 use Rattle.csdn_conditions.proofs.ClassLaws.{over_nodes, under_nodes}
-use Rattle.csdn_conditions.proofs.Growth.{small_made, nodes-two}
+use Rattle.csdn_conditions.proofs.Growth.{small_made}
 use Rattle.csdn_conditions.proofs.after.both.Goals as goal
 
 pub returns-then-sum_and_one-gt-MOST_NODES : goal.returns-then-sum_and_one-gt-MOST_NODES

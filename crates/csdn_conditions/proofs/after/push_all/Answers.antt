@@ -1,4 +1,4 @@
-use Rattle.std.proofs.Common.{◌≡◌, ◌≤◌, ℕ, ◌+◌, ◌++◌, List, map, arith}
+use Rattle.std.proofs.Common.{ℕ, ◌++◌, List, map, arith}
 use Rattle.csdn_core.specs.declared.syntax.Formula.{Formula}
 use Rattle.csdn_conditions.specs.Conditions.{formulas, after_events, all_after}
 use Rattle.csdn_conditions.specs.Answers.{nodes_of_all}

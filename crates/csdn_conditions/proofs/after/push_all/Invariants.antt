@@ -1,4 +1,4 @@
-use Rattle.std.proofs.Common.{◌≡◌, ◌≤◌, ◌+◌, ◌-◌, ◌++◌, length, map}
+use Rattle.std.proofs.Common.{◌≡◌, ◌≤◌, ◌+◌, ◌-◌, ◌++◌, map}
 use Rattle.csdn_conditions.specs.Conditions.{formulas, after_events, all_after}
 use Rattle.csdn_conditions.specs.Answers.{nodes_of_all}
 use Rattle.csdn_conditions.proofs.Rooms.{from}

@@ -1,5 +1,4 @@
 use Rattle.std.proofs.Common.{◌≡◌, ◌≤◌, ◌+◌, ◌++◌, length, map}
-use Rattle.fol_forms.specs.Limits.{most_nodes}
 use Rattle.csdn_conditions.specs.Conditions.{formulas, after_events}
 use Rattle.csdn_conditions.specs.Answers.{nodes_of_all}
 use Rattle.csdn_conditions.proofs.after.push_each.Given as goal

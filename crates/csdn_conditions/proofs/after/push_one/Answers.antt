@@ -1,7 +1,7 @@
-use Rattle.std.proofs.Common.{◌≡◌, ◌≤◌, ◌∙◌, ap, subst}
+use Rattle.std.proofs.Common.{◌∙◌, ap}
 use Rattle.csdn_core.specs.declared.syntax.Formula.{Formula}
 use Rattle.csdn_core.specs.Nodes.{nodes}
-use Rattle.fol_forms.specs.Limits.{capped, most_nodes}
+use Rattle.fol_forms.specs.Limits.{capped}
 use Rattle.csdn_conditions.specs.Conditions.{after_events}
 use Rattle.csdn_conditions.proofs.ClassLaws.{no_room_left, room_left}
 use Rattle.csdn_conditions.proofs.after.push_one.Goals as goal

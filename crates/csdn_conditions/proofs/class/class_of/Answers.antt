@@ -1,9 +1,9 @@
-use Rattle.std.proofs.Common.{◌≡◌, ◌≤◌, ◌∙◌, ◌⊎◌, inl, inr, ap, rules}
+use Rattle.std.proofs.Common.{◌∙◌, inl, inr, ap, rules}
 use Rattle.csdn_core.specs.Nodes.{nodes}
 use Rattle.decision_laws.specs.Laws.{form_of}
 use Rattle.fol_forms.specs.Limits.{capped}
 use Rattle.fol_forms.specs.Written.{written}
-use Rattle.csdn_conditions.specs.Classes.{IsSmall, copied}
+use Rattle.csdn_conditions.specs.Classes.{copied}
 use Rattle.csdn_conditions.proofs.ClassLaws.{over_nodes, under_nodes, over_instances, under_instances, normal_nodes-is}
 use Rattle.csdn_conditions.proofs.class.class_of.Goals as goal
 

@@ -1,6 +1,4 @@
-use Rattle.std.proofs.Common.{◌≡◌, ◌∙◌, ◌<◌, inl, ap, subst}
-use Rattle.csdn_core.specs.Nodes.{nodes}
-use Rattle.fol_forms.specs.Limits.{most_nodes}
+use Rattle.std.proofs.Common.{◌∙◌, inl, ap, subst}
 use Rattle.fol_forms.specs.declared.refusal.FormRefusal.{FormRefusal}
 use Rattle.std.specs.Prelude.{Err}
 use Rattle.csdn_conditions.specs.Answers.{Answers}

@@ -1,4 +1,4 @@
-use Rattle.std.proofs.Common.{◌≡◌, ◌≤◌, refl}
+use Rattle.std.proofs.Common.{refl}
 use Rattle.csdn_conditions.proofs.Conditioned.{small_false}
 use Rattle.csdn_conditions.proofs.condition.conclusion.Goals as goal
 

@@ -1,4 +1,4 @@
-use Rattle.std.proofs.Common.{◌≡◌, ◌≤◌, Ok, Err}
+use Rattle.std.proofs.Common.{Ok, Err}
 use Rattle.fol_forms.specs.declared.refusal.FormRefusal.TheVariants.{Large}
 use Rattle.csdn_conditions.specs.declared.sentence.Condition.{Condition}
 use Rattle.csdn_conditions.specs.Conditions.{condition}

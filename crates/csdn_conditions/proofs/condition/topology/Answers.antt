@@ -1,10 +1,9 @@
-use Rattle.std.proofs.Common.{◌≡◌, ◌∙◌, ap, List, subst}
+use Rattle.std.proofs.Common.{◌∙◌, ap, List, subst}
 use Rattle.csdn_core.specs.declared.syntax.Formula.{Formula}
-use Rattle.csdn_core.specs.declared.program.Invariant.{Invariant}
 use Rattle.fol_forms.specs.Limits.{most_nodes}
 use Rattle.csdn_wp.specs.Makes.{Makes}
 use Rattle.csdn_conditions.specs.Lists.{conjunction_of}
-use Rattle.csdn_conditions.specs.Conditions.{formulas, all_after}
+use Rattle.csdn_conditions.specs.Conditions.{formulas}
 use Rattle.csdn_conditions.proofs.Conditioned.{all_after_none}
 use Rattle.csdn_conditions.proofs.condition.topology.Goals as goal
 

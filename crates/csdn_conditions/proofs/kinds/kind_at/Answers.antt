@@ -1,4 +1,4 @@
-use Rattle.std.proofs.Common.{◌-◌, ◌*◌, ◌+◌, arith}
+use Rattle.std.proofs.Common.{◌-◌, ◌*◌, ◌+◌}
 use Rattle.csdn_conditions.proofs.KindLaws.{init_at, init_within, step_at, step_within, trans_at, trans_within}
 use Rattle.csdn_conditions.proofs.kinds.kind_at.Goals as goal
 

@@ -1,5 +1,4 @@
-use Rattle.std.proofs.Common.{◌≡◌, ◌≤◌, ◌∙◌, ap, length, arith}
-use Rattle.csdn_conditions.specs.Start.{binds_from}
+use Rattle.std.proofs.Common.{◌≡◌, ◌∙◌, ap, length, arith}
 use Rattle.csdn_conditions.proofs.StartMade.{length-binds_from}
 use Rattle.csdn_conditions.proofs.start.holds_rows.Goals as goal
 

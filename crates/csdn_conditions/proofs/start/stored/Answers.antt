@@ -1,7 +1,5 @@
-use Rattle.std.proofs.Common.{rules, ◌∙◌, ap, subst, sym, ◌++◌, ◌≤◌, length, List, arith}
-use Rattle.csdn_core.specs.declared.syntax.Formula.{Formula}
-use Rattle.csdn_core.specs.declared.program.Relation.{Relation}
-use Rattle.csdn_conditions.specs.Start.{stored_at, stored_from}
+use Rattle.std.proofs.Common.{rules, ◌≤◌, length, arith}
+use Rattle.csdn_conditions.specs.Start.{stored_from}
 use Rattle.csdn_conditions.proofs.StartMade.{stored_next, rest_has}
 use Rattle.csdn_conditions.proofs.start.stored.Goals as goal
 
