@@ -1,5 +1,6 @@
 -- What a whole frame's header shows.
-use Rattle.std.proofs.Common.{◌≡◌, ℕ, ◌≤◌, List, length, Bool, true, false, not, ◌&&◌, eqb, ltb, Option, Some, None, refl, inl, inr, arith}
+use Rattle.std.proofs.Common.{◌≡◌, ℕ, ◌≤◌, List, length, true, false, not, ◌&&◌, eqb, ltb, Option, Some, None, refl, inl, inr, arith}
+use Rattle.std.proofs.Math.Bool.{and-false}
 use Rattle.std.proofs.lemmas.Bool.{le-ltb, eq-eqb, eqb-true, ltb-false, not-false, and_cases}
 use Rattle.of10_wire.specs.declared.refusal.WireRefusal.{WireRefusal}
 use Rattle.of10_wire.specs.declared.refusal.WireWhy.TheVariants.{BadVersion, BadType, BadLength}
@@ -71,13 +72,9 @@ opens kind bytes f is other =
 
 -- ---- what stands in a header
 
-and_false : (b : Bool) → (b && false) ≡ false
-and_false true = refl
-and_false false = refl
-
 -- HELLO has any version
 pub version_zero : (n : ℕ) → (not (eqb n 1) && not (eqb 0 0)) ≡ false
-version_zero n = and_false (not (eqb n 1))
+version_zero n = and-false (not (eqb n 1))
 
 -- a spelling of a frame is one, where its version, type and length may be so
 pub spelled_frame : (version kind xid : ℕ) (fields : List Slot) (bytes : List ℕ) → Spells (frame version kind xid fields) bytes → (not (eqb version 1) && not (eqb kind 0)) ≡ false

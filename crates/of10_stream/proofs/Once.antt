@@ -1,6 +1,6 @@
 -- Each list of bytes is one stream.
-use Rattle.std.proofs.Common.{◌≡◌, ℕ, zero, suc, ◌-◌, ◌<◌, ◌≤◌, List, [], ◌∷◌, length, Bool, true, false, not, ◌&&◌, cond, eqb, ltb, Option, Some, None, refl, sym, ap, ap₂, ◌∙◌, inl, inr, ◌⊎◌, arith, length-drop}
-use Rattle.std.proofs.lemmas.Bool.{ltb-false}
+use Rattle.std.proofs.Common.{◌≡◌, ℕ, zero, suc, ◌-◌, ◌≤◌, List, [], ◌∷◌, length, Bool, true, false, not, ◌&&◌, cond, eqb, ltb, Option, Some, None, refl, sym, ap, ap₂, ◌∙◌, inl, inr, arith, length-drop}
+use Rattle.std.proofs.lemmas.Bool.{cases_lt, ltb-false}
 use Rattle.std.proofs.lemmas.List.{length-take-le}
 use Rattle.of10_wire.specs.declared.refusal.WireRefusal.{WireRefusal}
 use Rattle.of10_wire.specs.declared.refusal.WireWhy.TheVariants.{BadVersion, BadType, BadLength}
@@ -104,11 +104,8 @@ frame_found : (bytes : List ℕ) → HasFrame bytes → (r : Reading) → Reads 
 frame_found bytes f (Spelled m) reads rest = message_found bytes m (record { frame = f; spelled = reads }) rest
 frame_found bytes f (Refused e) reads rest = tail_found bytes (Broken e) (inr (record { frame = f; refused = reads }))
 
-either_way : (m n : ℕ) → (m < n) ⊎ (n ≤ m)
-either_way m n = grind arith
-
 found_behind : (bytes : List ℕ) → HasHeader bytes → (HasFrame bytes → Found (behind bytes)) → Found bytes
-found_behind bytes h rest = elim (either_way (length bytes) (frame_length bytes)) [
+found_behind bytes h rest = elim (cases_lt (length bytes) (frame_length bytes)) [
   | inl short ↦ tail_found bytes (Cut (length bytes)) (inr (h, short), refl)
   | inr fits ↦
       let f : HasFrame bytes = record { header = h; fits = fits } in
@@ -126,7 +123,7 @@ shorter n bytes h f =
 
 found_within : (n : ℕ) (bytes : List ℕ) → length bytes ≤ n → Found bytes
 found_within zero bytes h = tail_found bytes (Cut (length bytes)) (inl (omega arith), refl)
-found_within (suc n) bytes h = elim (either_way (length bytes) 8) [
+found_within (suc n) bytes h = elim (cases_lt (length bytes) 8) [
   | inl short ↦ tail_found bytes (Cut (length bytes)) (inl short, refl)
   | inr long ↦ header_found bytes long (header_refusal bytes) refl (λ f. found_within n (behind bytes) (shorter n bytes h f))
 ]
