@@ -1,21 +1,23 @@
 -- Where the predictive parse meets a fault, no program begins so; and what was taken before begins one.
-use Rattle.std.proofs.Common.{◌≡◌, ℕ, ◌+◌, ◌≤◌, ◌<◌, List, [], ◌∷◌, ◌++◌, Bool, true, false, cond, refl, sym, subst, ap, ◌∙◌, ◌⊎◌, inl, inr, append_assoc, append-nil, arith}
+use Rattle.std.proofs.Common.{◌≡◌, ℕ, ◌+◌, ◌≤◌, ◌<◌, List, [], ◌∷◌, ◌++◌, true, false, refl, sym, subst, ap, ◌∙◌, append_assoc, arith}
+use Rattle.std.proofs.lemmas.Bool.{false≢true}
 use Rattle.csdn_tokens.specs.declared.Kind.{Kind}
 use Rattle.csdn_tokens.specs.declared.Kind.TheVariants as k
 use Rattle.csdn_tokens.specs.declared.Token.{Token}
 use Rattle.csdn_text.specs.declared.TextRefusal.{TextRefusal}
 use Rattle.csdn_text.specs.declared.TextRefusal.TheVariants.{Memory, TooLong, BadByte, BadName, BadNumber, Unexpected, TooDeep}
-use Rattle.csdn_text.specs.Symbols.{Nonterminal, Level, depth_of, Symbol, token, part, Value, Values, made, Rule, Rules, same}
+use Rattle.csdn_text.specs.Symbols.{Nonterminal, Level, depth_of, Symbol, token, part, Values, made, Rule}
 use Rattle.csdn_text.specs.Grammar.{rules}
-use Rattle.csdn_text.specs.Derives.{Mark, tokens_of, IsRule, Derives}
-use Rattle.csdn_text.specs.Reading.{Within, Alike}
+use Rattle.csdn_text.specs.Derives.{Mark, tokens_of, Derives}
+use Rattle.csdn_text.specs.Reading.{Within, Alike, NamesMisfit}
 use Rattle.csdn_text.specs.Derives.Derives.{nothing, one, by_rule}
 use Rattle.csdn_text.specs.Machine.{Takes, Fails, choose, pick, begins, next_is, next_in, has, first, refused, refused_at}
 use Rattle.csdn_text.specs.Machine.Takes.{done, step, down}
 use Rattle.csdn_text.specs.Machine.Fails.{memory, unexpected, deep, after_one, inside, after_rule}
 use Rattle.csdn_text.proofs.Sets.{same_is, is_same}
-use Rattle.csdn_text.proofs.Samples.{Word, word}
-use Rattle.csdn_text.proofs.Theory.{Within-append, tokens-append, regroup, sound, down_by, choose-is_rule}
+use Rattle.csdn_text.proofs.Samples.{word}
+use Rattle.csdn_text.proofs.Theory.{Within-append, regroup, choose-is_rule}
+use Rattle.csdn_text.proofs.Steps.{down_by, inside_by}
 
 -- a parse has one result
 pub unique : {most most' d : ℕ} {ss : List Symbol} {ts rest rest' : List Token} {vs vs' : Values ss}
@@ -51,14 +53,8 @@ not_both {most} {f = f} (down {d = d} {ss = ss} inner later) (after_rule inner' 
 
 Alike-next_in : (ts ts' : List Token) (ks : List Kind) → Alike ts ts' → next_in ts ks ≡ next_in ts' ks
 Alike-next_in [] [] ks alike = refl
-Alike-next_in [] (t ∷ ts) ks alike = absurd (off (alike t.kind ∙ is_same t.kind t.kind refl))
-  where
-    off : false ≡ true → ⊥
-    off e = cc
-Alike-next_in (t ∷ ts) [] ks alike = absurd (off (sym (alike t.kind) ∙ is_same t.kind t.kind refl))
-  where
-    off : false ≡ true → ⊥
-    off e = cc
+Alike-next_in [] (t ∷ ts) ks alike = absurd (false≢true (alike t.kind ∙ is_same t.kind t.kind refl))
+Alike-next_in (t ∷ ts) [] ks alike = absurd (false≢true (sym (alike t.kind) ∙ is_same t.kind t.kind refl))
 Alike-next_in (t ∷ ts) (t' ∷ ts') ks alike = ap (has ks) (sym (same_is t'.kind t.kind (sym (alike t.kind) ∙ is_same t.kind t.kind refl)))
 
 begins-alike : (ss : List Symbol) (ts ts' : List Token) → Alike ts ts' → begins ss ts ≡ begins ss ts'
@@ -106,11 +102,6 @@ along {most} (down {d} {l} {n} {ss} {ts} {mid} {rest} {vs} {us} inner later) =
           (subst (λ xs. Takes most' (depth_of d l) (choose n ts).parts xs us (tokens_of b.0 ++ rest')) (sym (regroup a.0 b.0 rest')) (a.4 most' up (tokens_of b.0 ++ rest') (Alike-from (tokens_of b.0) rest rest' b.1 alike)))
           (b.4 most' up rest' alike),
     )
-
-inside_by : {most d : ℕ} {l : Level} {n : Nonterminal} {r : Rule n} {ss : List Symbol} {ts : List Token} {f : TextRefusal}
-    → choose n ts ≡ r → Fails most (depth_of d l) r.parts ts f → Fails most d (part n l ∷ ss) ts f
-inside_by {most} {d} {l} {n} {r} {ss} {ts} {f} which inner =
-    subst (λ (x : Rule n). Fails most (depth_of d l) x.parts ts f → Fails most d (part n l ∷ ss) ts f) which inside inner
 
 after_by : {most d : ℕ} {l : Level} {n : Nonterminal} {r : Rule n} {ss : List Symbol} {ts mid : List Token} {us : Values r.parts} {f : TextRefusal}
     → choose n ts ≡ r → Takes most (depth_of d l) r.parts ts us mid → Fails most d ss mid f → Fails most d (part n l ∷ ss) ts f
@@ -166,11 +157,6 @@ stands_here : (most : ℕ) (ts : List Token) (more : List Mark) → Stands most 
 stands_here most [] more = refl
 stands_here most (t ∷ ts) more = refused-stands most t.kind t ts more refl
 
-abbrev pub IsMisfit : TextRefusal → Type 0
-IsMisfit Memory = ⊥
-IsMisfit (TooDeep p) = ⊥
-IsMisfit _ = Unit {0}
-
 -- A derivation that begins with what stands before the fault. A token that doesn't fit is met again, whatever follows it and however deep one may go.
 pub record Front (most d : ℕ) (ss : List Symbol) (ts : List Token) (f : TextRefusal) : Type 0 where
   pub taken : List Mark
@@ -181,7 +167,7 @@ pub record Front (most d : ℕ) (ss : List Symbol) (ts : List Token) (f : TextRe
   pub split : ts ≡ tokens_of taken ++ rest
   pub within : Within most taken
   pub stands : Stands most f rest more
-  pub again : IsMisfit f → (most' : ℕ) → most ≤ most' → (rest' : List Token) → Alike rest rest' → Fails most' d ss (tokens_of taken ++ rest') (refused_at rest')
+  pub again : NamesMisfit f → (most' : ℕ) → most ≤ most' → (rest' : List Token) → Alike rest rest' → Fails most' d ss (tokens_of taken ++ rest') (refused_at rest')
 
 along_marks : {d : ℕ} {ss : List Symbol} {vs : Values ss} (ms ms' : List Mark) → ms ≡ ms' → Derives d ss ms vs → Derives d ss ms' vs
 along_marks {d} {ss} {vs} ms ms' e h = subst (λ xs. Derives d ss xs vs) e h

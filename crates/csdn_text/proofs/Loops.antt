@@ -1,5 +1,5 @@
 -- A loop over a list: what more of it gives, put behind what is found, is what all of it gives.
-use Rattle.std.proofs.Common.{◌≡◌, ℕ, ◌≤◌, List, [], ◌∷◌, ◌++◌, Ok, Err, true, false, length, refl, sym, subst, ◌∙◌, append_assoc, append-nil, arith}
+use Rattle.std.proofs.Common.{◌≡◌, ℕ, ◌≤◌, List, [], ◌∷◌, ◌++◌, Ok, Err, true, false, length, refl, sym, subst, append_assoc, append-nil, arith}
 use Rattle.csdn_tokens.specs.declared.Kind.TheVariants as k
 use Rattle.csdn_tokens.specs.declared.Token.{Token}
 use Rattle.csdn_core.specs.declared.terms.Sort.{Sort}
@@ -9,10 +9,9 @@ use Rattle.csdn_tree.specs.declared.syntax.RawProgram.{RawProgram}
 use Rattle.csdn_tree.specs.declared.syntax.RawRow.{RawRow}
 use Rattle.csdn_text.specs.declared.TextRefusal.{TextRefusal}
 use Rattle.csdn_text.specs.Symbols.{Nonterminal, Value, here, token, part, sort, sort_list, more_sorts, row, rows, more_rows, term, terms, more_terms, item, items, program}
-use Rattle.csdn_text.specs.Machine.{Takes, Fails, Parses, next_is, next_in, first, limit}
+use Rattle.csdn_text.specs.Machine.{Fails, Parses, next_is, next_in, first, limit}
 use Rattle.csdn_text.specs.Machine.Takes.{done}
-use Rattle.csdn_text.specs.Machine.Parses.{reads, refuses}
-use Rattle.csdn_text.proofs.Steps.{last, this, other, by, not_by, then_token, then, then_by, no_token, no_part, no_part_by, after_token, after_part}
+use Rattle.csdn_text.proofs.Steps.{last, this, other, by, not_by, then_token, then, no_part_by, after_token, after_part}
 
 -- From here more of m is all of n, if put behind what is found.
 pub record GoesOn (d : ℕ) (n m : Nonterminal) (old now : List Token) (put : Value m → Value n) : Type 0 where

@@ -1,20 +1,20 @@
 -- A text has one refusal.
-use Rattle.std.proofs.Common.{◌≡◌, ℕ, ◌+◌, ◌≤◌, ◌<◌, List, [], ◌∷◌, ◌++◌, Bool, true, false, cond, ◌&&◌, refl, sym, subst, ap, ◌∙◌, ◌⊎◌, inl, inr, append_assoc, append-nil, length, arith}
+use Rattle.std.proofs.Common.{◌≡◌, ℕ, ◌+◌, ◌≤◌, ◌<◌, List, [], ◌∷◌, ◌++◌, true, cond, ◌&&◌, refl, sym, subst, ap, ◌∙◌, ◌⊎◌, inl, inr, append_assoc, arith}
+use Rattle.std.proofs.lemmas.Bool.{and_parts}
 use Rattle.csdn_tokens.specs.declared.Kind.{Kind}
 use Rattle.csdn_tokens.specs.declared.Kind.TheVariants as k
 use Rattle.csdn_tokens.specs.declared.Token.{Token}
 use Rattle.csdn_tokens.proofs.Runs.{lexes_one}
 use Rattle.csdn_tree.specs.declared.syntax.RawProgram.{RawProgram}
 use Rattle.csdn_text.specs.declared.TextRefusal.{TextRefusal}
-use Rattle.csdn_text.specs.declared.TextRefusal.TheVariants.{TooLong, TooDeep}
-use Rattle.csdn_text.specs.Symbols.{Nonterminal, Level, depth_of, Symbol, token, part, Values, made, Rule, Rules, same}
-use Rattle.csdn_text.specs.Derives.{Mark, tokens_of, IsRule, Derives}
+use Rattle.csdn_text.specs.declared.TextRefusal.TheVariants.{TooDeep}
+use Rattle.csdn_text.specs.Symbols.{depth_of, Symbol, token, Values, Rule, same}
+use Rattle.csdn_text.specs.Derives.{Mark, tokens_of, Derives}
 use Rattle.csdn_text.specs.Derives.Derives.{nothing, one, by_rule}
 use Rattle.csdn_text.specs.Machine.{limit, next_is, next_in, choose, refused_at}
-use Rattle.csdn_text.specs.Reading.{whole, IsProgram, Within, Begins, Alike, IsMisfit, IsTooDeep, Misfits, NestsTooDeep, IsRefusedText}
+use Rattle.csdn_text.specs.Reading.{IsProgram, Within, Begins, Alike, IsMisfit, IsTooDeep, IsRefusedText}
 use Rattle.csdn_text.specs.Reading.IsRefusedText.{long, misfits, nests}
-use Rattle.csdn_text.proofs.Sets.{both_true}
-use Rattle.csdn_text.proofs.Tables.{follow, starts, erasable, fine, heads}
+use Rattle.csdn_text.proofs.Tables.{follow, starts, erasable, fine}
 use Rattle.csdn_text.proofs.Sets.{within}
 use Rattle.csdn_text.proofs.Theory.{tokens-append, regroup, first_of, next_follow, next_heads, fine_kept, choose-is}
 use Rattle.csdn_text.proofs.Faults.{choose-alike}
@@ -71,8 +71,8 @@ together after rest rest' (x ∷ pre) (one {d} {l} is later) (one is' later') go
     also e (ap (λ t. record { token = t; depth = depth_of d l }) (sym e ∙ e')) (together after rest rest' pre later later' good next next' h h')
 together after rest rest' [] (by_rule r is inner later) (by_rule r' is' inner' later') good next next' h h' = out
 together {d} after rest rest' (x ∷ pre) (by_rule {l = l} {n = n} {ss = ss} {ms = a} {ms' = b} r is {us = us} inner later) (by_rule {ms = a'} {ms' = b'} r' is' {us = us'} inner' later') good next next' h h' =
-    let here = both_true (within (starts ss) (follow n) && cond (erasable ss) (within after (follow n)) true) (fine after ss) good in
-    let tables = both_true (within (starts ss) (follow n)) (cond (erasable ss) (within after (follow n)) true) here.0 in
+    let here = and_parts (within (starts ss) (follow n) && cond (erasable ss) (within after (follow n)) true) (fine after ss) good in
+    let tables = and_parts (within (starts ss) (follow n)) (cond (erasable ss) (within after (follow n)) true) here.0 in
     let mid : List Token = tokens_of b ++ rest in
     let mid' : List Token = tokens_of b' ++ rest' in
     let follows : next_in mid (follow n) ≡ true = next_follow b ss n after rest tables.0 tables.1 next (first_of later rest) in

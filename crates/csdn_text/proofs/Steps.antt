@@ -1,17 +1,16 @@
 -- How the parse of a rule is put together from the parses of its parts.
-use Rattle.std.proofs.Common.{◌≡◌, ℕ, ◌+◌, ◌≤◌, ◌<◌, List, [], ◌∷◌, Bool, true, false, not, Result, Ok, Err, length, refl, sym, subst, ap, arith, ◌∙◌, add-one}
+use Rattle.std.proofs.Common.{◌≡◌, ℕ, ◌≤◌, ◌<◌, List, [], ◌∷◌, Bool, true, false, not, Result, Ok, Err, length, refl, sym, subst, arith}
 use Rattle.std.specs.Result.{IsErrAnd}
 use Rattle.csdn_tokens.specs.declared.Kind.{Kind}
 use Rattle.csdn_tokens.specs.declared.Token.{Token}
 use Rattle.csdn_text.specs.declared.TextRefusal.{TextRefusal}
-use Rattle.csdn_text.specs.declared.TextRefusal.TheVariants.{Memory, Unexpected, TooDeep}
-use Rattle.csdn_text.specs.Symbols.{Nonterminal, Level, here, deeper, depth_of, Symbol, token, part, Value, ValueOf, Values, made, Rule, Rules, same}
+use Rattle.csdn_text.specs.declared.TextRefusal.TheVariants.{Memory, TooDeep}
+use Rattle.csdn_text.specs.Symbols.{Nonterminal, Level, here, depth_of, Symbol, token, part, Value, ValueOf, Values, made, Rule, same}
 use Rattle.csdn_text.specs.Grammar.{rules}
 use Rattle.csdn_text.specs.Machine.{Takes, Fails, Parses, choose, pick, begins, limit, next_is, refused_at}
 use Rattle.csdn_text.specs.Machine.Takes.{done, step, down}
 use Rattle.csdn_text.specs.Machine.Fails.{memory, unexpected, deep, after_one, inside, after_rule}
 use Rattle.csdn_text.specs.Machine.Parses.{reads, refuses}
-use Rattle.csdn_text.specs.Answers.{seen}
 
 -- which right side is taken
 pub data Chosen {n : Nonterminal} : List (Rule n) → Rule n → List Token → Rule n → Type 0 where
@@ -24,17 +23,27 @@ picked last = refl
 picked (this h) = rw h refl
 picked (other h more) = rw h (picked more)
 
+-- a nonterminal by the right side that is chosen
+pub down_by : {most d : ℕ} {l : Level} {n : Nonterminal} {r : Rule n} {ss : List Symbol} {ts mid rest : List Token} {us : Values r.parts} {vs : Values ss}
+    → choose n ts ≡ r → Takes most (depth_of d l) r.parts ts us mid → Takes most d ss mid vs rest
+    → Takes most d (part n l ∷ ss) ts (made r.parts r.gives us, vs) rest
+down_by {most} {d} {l} {n} {r} {ss} {ts} {mid} {rest} {us} {vs} which inner later =
+    subst (λ (x : Rule n). (ws : Values x.parts) → Takes most (depth_of d l) x.parts ts ws mid → Takes most d (part n l ∷ ss) ts (made x.parts x.gives ws, vs) rest)
+    which (λ ws whole. down whole later) us inner
+
+pub inside_by : {most d : ℕ} {l : Level} {n : Nonterminal} {r : Rule n} {ss : List Symbol} {ts : List Token} {f : TextRefusal}
+    → choose n ts ≡ r → Fails most (depth_of d l) r.parts ts f → Fails most d (part n l ∷ ss) ts f
+inside_by {most} {d} {l} {n} {r} {ss} {ts} {f} which inner =
+    subst (λ (x : Rule n). Fails most (depth_of d l) x.parts ts f → Fails most d (part n l ∷ ss) ts f) which inside inner
+
 as_takes : {most d : ℕ} {l : Level} {n : Nonterminal} {r : Rule n} {ss : List Symbol} {ts mid rest : List Token} {us : Values r.parts} {vs : Values ss}
     → Chosen (rules n).led (rules n).last ts r → Takes most (depth_of d l) r.parts ts us mid → Takes most d ss mid vs rest
     → Takes most d (part n l ∷ ss) ts (made r.parts r.gives us, vs) rest
-as_takes {most} {d} {l} {n} {r} {ss} {ts} {mid} {rest} {us} {vs} which inner later =
-    subst (λ (x : Rule n). (ws : Values x.parts) → Takes most (depth_of d l) x.parts ts ws mid → Takes most d (part n l ∷ ss) ts (made x.parts x.gives ws, vs) rest)
-    (picked which) (λ ws whole. down whole later) us inner
+as_takes which inner later = down_by (picked which) inner later
 
 as_fails : {most d : ℕ} {l : Level} {n : Nonterminal} {r : Rule n} {ss : List Symbol} {ts : List Token} {f : TextRefusal}
     → Chosen (rules n).led (rules n).last ts r → Fails most (depth_of d l) r.parts ts f → Fails most d (part n l ∷ ss) ts f
-as_fails {most} {d} {l} {n} {r} {ss} {ts} {f} which inner =
-    subst (λ (x : Rule n). Fails most (depth_of d l) x.parts ts f → Fails most d (part n l ∷ ss) ts f) (picked which) inside inner
+as_fails which inner = inside_by (picked which) inner
 
 -- a nonterminal by one of its right sides
 pub by : {d : ℕ} {n : Nonterminal} {r : Rule n} {ts rest : List Token} {us : Values r.parts} {v : Value n}

@@ -1,5 +1,5 @@
 -- Whole texts of tokens.
-use Rattle.std.proofs.Common.{◌≡◌, ℕ, ◌+◌, ◌≤◌, ◌<◌, List, [], ◌∷◌, ◌++◌, Result, Ok, Err, Bool, true, false, refl, sym, subst, ap, ◌∙◌, append_assoc, append-nil, length, arith}
+use Rattle.std.proofs.Common.{◌≡◌, ℕ, ◌+◌, ◌≤◌, ◌<◌, List, [], ◌∷◌, ◌++◌, Result, Ok, Err, true, refl, sym, subst, ap, ◌∙◌, append-nil, length, arith}
 use Rattle.csdn_tokens.specs.Lex.{Lexes}
 use Rattle.csdn_tokens.proofs.Runs.{lexes_one}
 use Rattle.std.specs.Result.{IsErrAnd}
@@ -8,17 +8,17 @@ use Rattle.csdn_tokens.specs.declared.Token.{Token}
 use Rattle.csdn_tree.specs.declared.syntax.RawProgram.{RawProgram}
 use Rattle.csdn_text.specs.declared.TextRefusal.{TextRefusal}
 use Rattle.csdn_text.specs.declared.TextRefusal.TheVariants.{Memory, TooLong, BadByte, BadName, BadNumber, Unexpected, TooDeep}
-use Rattle.csdn_text.specs.Symbols.{Nonterminal, Level, Value, Values, Symbol, token, part, here, program, same}
+use Rattle.csdn_text.specs.Symbols.{Nonterminal, Level, Value, Values, Symbol, part, program}
 use Rattle.csdn_text.specs.Derives.{Mark, tokens_of, Derives}
 use Rattle.csdn_text.specs.Derives.Derives.{nothing, one, by_rule}
-use Rattle.csdn_text.specs.Machine.{Takes, Fails, limit, refused_at, next_is, next_in}
+use Rattle.csdn_text.specs.Machine.{Takes, Fails, limit, refused_at, next_in}
 use Rattle.csdn_text.specs.Machine.Takes.{done, step, down}
-use Rattle.csdn_text.specs.Reading.{whole, IsProgram, Within, ReadsTokens, Begins, Alike, IsMisfit, IsTooDeep, Agrees, Reads, Misfits, NestsTooDeep, IsRefusedText, NamesMisfit}
+use Rattle.csdn_text.specs.Reading.{whole, Within, ReadsTokens, IsMisfit, Agrees, Reads, IsRefusedText, NamesMisfit}
 use Rattle.csdn_text.specs.Reading.IsRefusedText.{long, misfits, nests}
 use Rattle.csdn_text.specs.Answers.{IsRefused, Right, Answers, RightText, AnswersText}
 use Rattle.csdn_text.proofs.Sets.{is_same}
 use Rattle.csdn_text.proofs.Theory.{Within-append, Within-front, Within-back, regroup, complete, sound}
-use Rattle.csdn_text.proofs.Faults.{unique, not_both, Counts, front, Front, refused_at-counts, IsMisfit as Again}
+use Rattle.csdn_text.proofs.Faults.{unique, not_both, Counts, front, Front, refused_at-counts}
 
 takes_then : {most d : ℕ} {l : Level} {n : Nonterminal} {ss : List Symbol} {ts mid rest : List Token} {v : Value n} {vs : Values ss}
     → Takes most d (part n l ∷ []) ts (v, tt) mid → Takes most d ss mid vs rest → Takes most d (part n l ∷ ss) ts (v, vs) rest
@@ -58,7 +58,7 @@ answers_ok {ts} {rest} {raw} {stop} whole_taken =
       only = λ raw' reads. ap (λ vs. vs.0) (unique whole_taken (taken reads)).0;
     }
 
-misfit : {ts : List Token} (f : TextRefusal) → (h : Front limit 1 whole ts f) → Again f → Counts f → f ≡ refused_at h.rest → IsMisfit ts f
+misfit : {ts : List Token} (f : TextRefusal) → (h : Front limit 1 whole ts f) → NamesMisfit f → Counts f → f ≡ refused_at h.rest → IsMisfit ts f
 misfit f h kept counts is = record {
   before = tokens_of h.taken;
   rest = h.rest;

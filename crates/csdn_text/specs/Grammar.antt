@@ -6,7 +6,6 @@ use Rattle.csdn_tokens.specs.declared.Kind.TheVariants as k
 use Rattle.csdn_tokens.specs.declared.Token.{Token}
 use Rattle.csdn_tree.specs.declared.names.RawName.{RawName}
 use Rattle.csdn_tree.specs.declared.names.RawNumeral.{RawNumeral}
-use Rattle.csdn_tree.specs.declared.names.RawTerm.{RawTerm}
 use Rattle.csdn_tree.specs.declared.names.RawTerm.TheVariants as t
 use Rattle.csdn_tree.specs.declared.syntax.FlowWord.TheVariants as w
 use Rattle.csdn_tree.specs.declared.syntax.InvariantKind.TheVariants as v

@@ -1,7 +1,7 @@
-use Rattle.std.proofs.Common.{refl, sym, ap, true, ◌∙◌}
+use Rattle.std.proofs.Common.{refl}
 use Rattle.csdn_tree.specs.declared.syntax.RawItem.TheVariants as i
 use Rattle.csdn_text.specs.Machine.Takes.{done}
-use Rattle.csdn_text.proofs.Steps.{last, this, other, by, not_by, then_token, then, then_by, no_token, no_part, no_part_by, after_token, after_part, exit, no_memory}
+use Rattle.csdn_text.proofs.Steps.{last, by, not_by, then_token, no_token, after_token, exit}
 use Rattle.csdn_text.proofs.parser.Parser.port.Goals as goal
 
 pub returns-in_err-word-clause-parses : goal.returns-in_err-word-clause-parses

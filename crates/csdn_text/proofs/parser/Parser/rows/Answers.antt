@@ -1,6 +1,6 @@
-use Rattle.std.proofs.Common.{refl, sym, ap, ◌∙◌, arith}
+use Rattle.std.proofs.Common.{refl, sym, ◌∙◌, arith}
 use Rattle.csdn_text.specs.Machine.Takes.{done}
-use Rattle.csdn_text.proofs.Steps.{last, this, other, by, not_by, then_token, then, then_by, no_token, no_part, no_part_by, after_token, after_part, exit, no_memory}
+use Rattle.csdn_text.proofs.Steps.{last, this, other, by, not_by, no_token, no_part, no_part_by, after_token, exit, no_memory}
 use Rattle.csdn_text.proofs.Loops.{rows_from, rows_on, rows_end}
 use Rattle.csdn_text.proofs.parser.Parser.rows.Goals as goal
 
