@@ -1,13 +1,10 @@
 -- The first of a list of invariants that is false.
 use Rattle.std.proofs.Common.{◌≡◌, ◌∙◌, sym, ap, ◌-◌, ◌≤◌, true, false, if◌then◌else◌, List, [], ◌∷◌, length, take, drop, get_or, Some, arith}
-use Rattle.std.proofs.lemmas.List.{take_all}
+use Rattle.general_facts.proofs.Lists.{rest_is}
 use Rattle.csdn_core.specs.declared.program.Invariant.{Invariant}
 use Rattle.csdn_core.specs.Run.{no_values}
 use Rattle.csdn_core.specs.Truth.{Structure, truth}
 use Rattle.trace_listing.specs.Traces.{first_false}
-
-rest_is : (x : Invariant) (xs : List Invariant) → take (length (x ∷ xs) - 1) (drop 1 (x ∷ xs)) ≡ xs
-rest_is x xs = take_all (length (x ∷ xs) - 1) xs (omega arith)
 
 -- the one at hand is false
 pub found : (M : Structure) (rest : List Invariant) (v : Invariant) → 1 ≤ length rest → v ≡ get_or rest 0 v → truth M v.formula no_values ≡ false → Some v.name ≡ first_false M rest

@@ -1,8 +1,8 @@
-use Rattle.std.proofs.Common.{◌≤◌, ◌-◌, ◌∙◌, sym, ap, Some, length, drop, List, ℕ}
-use Rattle.std.proofs.lemmas.List.Elements.{All-take, All-drop}
+use Rattle.std.proofs.Common.{◌≤◌, ◌∙◌, sym, ap, Some, List, ℕ}
 use Rattle.csdn_core.specs.Network.{structure}
 use Rattle.net_structs.specs.Depth.{depth}
 use Rattle.net_structs.specs.Rows.{held}
+use Rattle.net_listing.proofs.Turns.{all_left}
 use Rattle.trace_listing.proofs.Falses.{found, passed}
 use Rattle.trace_listing.proofs.invariants.first_false.Goals as goal
 
@@ -17,5 +17,5 @@ invariants-preserved c =
     let M = structure c.args.setting.now.program.now c.args.setting.now.network.now (held c.args.state.now) c.args.packet.now in (
       passed M c.invariants.rest.now c.invariant-item.result c.in-len1-up.len_at_least c.invariant-item.is (sym c.is_true.ensures.value ∙ c.if-not-is_true.false) ∙ c.invariants.invariant.0,
       c.is_true.ensures.env ∙ c.invariants.invariant.1,
-      All-take (λ v. depth v.formula ≤ 24) (length c.invariants.rest.now - 1) (drop 1 c.invariants.rest.now) (All-drop (λ v. depth v.formula ≤ 24) 1 c.invariants.rest.now c.invariants.invariant.2),
+      all_left (λ v. depth v.formula ≤ 24) c.invariants.rest.now c.invariants.invariant.2,
     )
