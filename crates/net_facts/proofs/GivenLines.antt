@@ -4,6 +4,7 @@ use Rattle.std.specs.Str.{bytes_eq}
 use Rattle.std.proofs.lemmas.Bool.{and_parts}
 use Rattle.std.proofs.lemmas.Option.{same_Some}
 use Rattle.std.proofs.lemmas.List.Elements.{All-nil, All-push}
+use Rattle.decision_laws.proofs.NormalTruth.{same_truth-is}
 use Rattle.text_lines.specs.Text.{next, ended}
 use Rattle.text_lines.specs.Numbers.{number_of}
 use Rattle.text_lines.specs.Distinct.{are_distinct}
@@ -111,12 +112,6 @@ pub record IsTold (P : Parts) (N : Network) (static : Bool) (t : ℕ × List ℕ
   pub fixed : relation.fixed ≡ static
   pub cells : HaveElements N relation.sorts t.1
 
-same_kind : (a b : Bool) → same_truth a b ≡ true → a ≡ b
-same_kind true true is = refl
-same_kind true false is = absurd (true≢false (sym is))
-same_kind false true is = absurd (true≢false (sym is))
-same_kind false false is = refl
-
 pub tuple_given : (P : Parts) (static : Bool) (N : Network) (ws : List (List ℕ)) (t : ℕ × List ℕ) → tuple_of P static N ws ≡ Ok t → IsTold P N static t
 unfolding tuple_of
 tuple_given P static N ws t is =
@@ -129,7 +124,7 @@ tuple_given P static N ws t is =
     let number : at.0 ≡ relation_is.0.0 = omega (arith, at.1) in
     let all : HaveElements N relation_is.0.1.sorts cells_are.0 = cells_of_given N relation_is.0.1.sorts numbers.0 cells_are.0 cells_are.1 in
     subst (IsTold P N static) (given (relation_is.0.0, cells_are.0) t cells_are.2)
-    (record { relation = relation_is.0.1; declared = ap (slice_get P.relations) (sym number) ∙ at.2; fixed = same_kind relation_is.0.1.fixed static (wanted (same_truth relation_is.0.1.fixed static) why.Name kind_is.0 kind_is.1); cells = all })
+    (record { relation = relation_is.0.1; declared = ap (slice_get P.relations) (sym number) ∙ at.2; fixed = same_truth-is relation_is.0.1.fixed static (wanted (same_truth relation_is.0.1.fixed static) why.Name kind_is.0 kind_is.1); cells = all })
 
 pub flow_given : (N : Network) (ws : List (List ℕ)) (cells : List ℕ) → flow_of N ws ≡ Ok cells → HaveElements N flow_sorts cells
 unfolding flow_of

@@ -7,6 +7,9 @@ use Rattle.std.proofs.lemmas.Bool.{and_parts, and_from, or_left, or_right, or_ca
 use Rattle.std.proofs.lemmas.Option.{same_Some}
 use Rattle.std.proofs.lemmas.List.Elements.{All-nil, All-cons, All-append, All-map, All-weaker, All-filter, All-contains_itself, recursion_from_All}
 use Rattle.std.proofs.lemmas.List.Folds.{list_any-append}
+use Rattle.general_facts.proofs.Lists.{list_any-map}
+use Rattle.general_facts.proofs.Numbers.{self_equal}
+use Rattle.csdn_core.proofs.Same.{same_pred-refl, same_cells-is, same_pred-is}
 use Rattle.csdn_core.specs.declared.terms.Sort.{Sort}
 use Rattle.csdn_core.specs.declared.terms.Pred.{Pred}
 use Rattle.csdn_core.specs.declared.terms.Pred.TheVariants.{Stored, Ft, Sent, RcvThis}
@@ -28,10 +31,6 @@ use Rattle.net_facts.specs.Listed.{HasTruthOfList}
 
 -- ---- tests of lists
 
-any-map : {X Y : Type 0} (p : Y → Bool) (f : X → Y) (xs : List X) → list_any p (map f xs) ≡ list_any (λ x. p (f x)) xs
-any-map p f [] = refl
-any-map p f (x ∷ xs) = ap (λ b. p (f x) || b) (any-map p f xs)
-
 any_weaker : {X : Type 0} (p q : X → Bool) (xs : List X) → ((x : X) → p x ≡ true → q x ≡ true) → list_any p xs ≡ true → list_any q xs ≡ true
 any_weaker p q [] weaker is = is
 any_weaker p q (x ∷ xs) weaker is = by_case (or_cases (p x) (list_any p xs) is) (any_weaker p q xs weaker)
@@ -50,45 +49,6 @@ any_flat p f (y ∷ ys) x (suc k) within here is =
 all_flat : {X Y : Type 0} (Q : Y → Type 0) (f : X → List Y) (xs : List X) → AllByRecursion (λ x. All Q (f x)) xs → All Q (flat_map f xs)
 all_flat Q f [] all = All-nil Q
 all_flat Q f (x ∷ xs) all = All-append Q (f x) (flat_map f xs) all.0 (all_flat Q f xs all.1)
-
-cells_themselves : (ms : List ℕ) → same_cells ms ms ≡ true
-cells_themselves [] = refl
-cells_themselves (m ∷ ms) = let itself : (m == m) ≡ true = grind arith in and_from (m == m) (same_cells ms ms) itself (cells_themselves ms)
-
-pred_itself : (r : Pred) → same_pred r r ≡ true
-pred_itself (Stored r) = grind arith
-pred_itself Ft = refl
-pred_itself Sent = refl
-pred_itself RcvThis = refl
-
-same_number : (m n : ℕ) → (m == n) ≡ true → m ≡ n
-same_number m n is = grind (arith, is)
-
-cells_equal : (ms ns : List ℕ) → same_cells ms ns ≡ true → ms ≡ ns
-cells_equal [] [] is = refl
-cells_equal [] (n ∷ ns) is = absurd (true≢false (sym is))
-cells_equal (m ∷ ms) [] is = absurd (true≢false (sym is))
-cells_equal (m ∷ ms) (n ∷ ns) is =
-    let parts = and_parts (m == n) (same_cells ms ns) is in
-    ap₂ (λ k ks. k ∷ ks) (same_number m n parts.0) (cells_equal ms ns parts.1)
-
-pred_equal : (r q : Pred) → same_pred r q ≡ true → r ≡ q
-pred_equal (Stored r) (Stored q) is = ap (λ (n : ℕ). Stored (record { 0 = n })) (same_number r.0 q.0 is)
-pred_equal Ft Ft is = refl
-pred_equal Sent Sent is = refl
-pred_equal RcvThis RcvThis is = refl
-pred_equal (Stored r) Ft is = absurd (true≢false (sym is))
-pred_equal (Stored r) Sent is = absurd (true≢false (sym is))
-pred_equal (Stored r) RcvThis is = absurd (true≢false (sym is))
-pred_equal Ft (Stored q) is = absurd (true≢false (sym is))
-pred_equal Ft Sent is = absurd (true≢false (sym is))
-pred_equal Ft RcvThis is = absurd (true≢false (sym is))
-pred_equal Sent (Stored q) is = absurd (true≢false (sym is))
-pred_equal Sent Ft is = absurd (true≢false (sym is))
-pred_equal Sent RcvThis is = absurd (true≢false (sym is))
-pred_equal RcvThis (Stored q) is = absurd (true≢false (sym is))
-pred_equal RcvThis Ft is = absurd (true≢false (sym is))
-pred_equal RcvThis Sent is = absurd (true≢false (sym is))
 
 -- ---- all tuples of elements
 
@@ -116,10 +76,9 @@ module _ (N : Network) where
   tuples_are_all [] (m ∷ ms) all = absurd all
   tuples_are_all (s ∷ ss) [] all = absurd all
   tuples_are_all (s ∷ ss) (m ∷ ms) (there, all) =
-      let itself : (m == m) ≡ true = grind arith in
       let front : list_any (λ ns. same_cells (m ∷ ms) ns) (map (λ ns. m ∷ ns) (tuples_of ss)) ≡ true =
-      any-map (λ ns. same_cells (m ∷ ms) ns) (λ ns. m ∷ ns) (tuples_of ss)
-      ∙ any_weaker (λ ns. same_cells ms ns) (λ ns. same_cells (m ∷ ms) (m ∷ ns)) (tuples_of ss) (λ ns is. and_from (m == m) (same_cells ms ns) itself is) (tuples_are_all ss ms all) in
+      list_any-map (λ ns. same_cells (m ∷ ms) ns) (λ ns. m ∷ ns) (tuples_of ss)
+      ∙ any_weaker (λ ns. same_cells ms ns) (λ ns. same_cells (m ∷ ms) (m ∷ ns)) (tuples_of ss) (λ ns is. and_from (m == m) (same_cells ms ns) (self_equal m) is) (tuples_are_all ss ms all) in
       any_flat (λ ns. same_cells (m ∷ ms) ns) (λ n. map (λ ns. n ∷ ns) (tuples_of ss)) (elements N s) m there.0 there.1 there.2 front
 
 -- ---- the relations that a state has tuples of, with their sorts
@@ -206,15 +165,15 @@ abbrev is_row : Pred → List ℕ → Row → Bool
 is_row r cells row = same_pred r row.pred && same_cells cells row.cells
 
 held_any : (rows : List Row) (r : Pred) (cells : List ℕ) → held rows r cells ≡ list_any (is_row r cells) rows
-held_any rows r cells = any-map (λ t. same_pred r t.rel && same_cells cells t.cells) tuple_of rows
+held_any rows r cells = list_any-map (λ t. same_pred r t.rel && same_cells cells t.cells) tuple_of rows
 
 all_held : (P : Parts) (N : Network) (r : Pred) (ss : List Sort) (cells : List ℕ) → IsKept P r → sorts_of (signature P) r ≡ Some ss → HaveElements N ss cells → held (all_rows P N) r cells ≡ true
 unfolding all_rows rows_of_relation
 all_held P N r ss cells free declared all =
     let there = kept_there P r ss free declared in
     let front : list_any (is_row r cells) (map (as_row r) (tuples_of N ss)) ≡ true =
-    any-map (is_row r cells) (as_row r) (tuples_of N ss)
-    ∙ any_weaker (λ ns. same_cells cells ns) (λ ns. same_pred r r && same_cells cells ns) (tuples_of N ss) (λ ns is. and_from (same_pred r r) (same_cells cells ns) (pred_itself r) is) (tuples_are_all N ss cells all) in
+    list_any-map (is_row r cells) (as_row r) (tuples_of N ss)
+    ∙ any_weaker (λ ns. same_cells cells ns) (λ ns. same_pred r r && same_cells cells ns) (tuples_of N ss) (λ ns is. and_from (same_pred r r) (same_cells cells ns) (same_pred-refl r) is) (tuples_are_all N ss cells all) in
     held_any (flat_map (λ q. map (as_row q.0) (tuples_of N q.1)) (kept P)) r cells
     ∙ any_flat (is_row r cells) (λ q. map (as_row q.0) (tuples_of N q.1)) (kept P) (r, ss) there.0 there.1 there.2 front
 
@@ -229,13 +188,13 @@ one_held x r cells row true true same there rest left is = mine ∙ true_and (x 
     mine : true ≡ x r cells
     mine =
         let parts = and_parts (same_pred r row.pred) (same_cells cells row.cells) same in
-        sym (ap₂ x (pred_equal r row.pred parts.0) (cells_equal cells row.cells parts.1) ∙ there)
+        sym (ap₂ x (same_pred-is r row.pred parts.0) (same_cells-is cells row.cells parts.1) ∙ there)
 
     true_and : (b : Bool) → b ≡ (true && b)
     true_and b = refl
 one_held x r cells row true false same there rest left is =
     let parts = and_parts (same_pred r row.pred) (same_cells cells row.cells) same in
-    let absent : x r cells ≡ false = ap₂ x (pred_equal r row.pred parts.0) (cells_equal cells row.cells parts.1) ∙ there in
+    let absent : x r cells ≡ false = ap₂ x (same_pred-is r row.pred parts.0) (same_cells-is cells row.cells parts.1) ∙ there in
     is ∙ ap (λ b. rest && b) absent ∙ and_false rest ∙ sym absent
   where
     and_false : (b : Bool) → (b && false) ≡ false

@@ -1,30 +1,23 @@
 -- Truth of a formula that is well-sorted in a scope looks at tuples of the network's elements alone.
-use Rattle.std.proofs.Common.{◌≡◌, ◌∙◌, sym, ap, ap₂, subst, refl, ℕ, Bool, true, false, not, ◌==◌, ◌&&◌, ◌||◌, List, [], ◌∷◌, Option, Some, None, Contains, if◌then◌else◌}
-use Rattle.std.specs.Prelude.{option_map, slice_get, slice_index}
+use Rattle.std.proofs.Common.{◌≡◌, ◌∙◌, sym, ap, ap₂, subst, refl, not, ◌==◌, ◌&&◌, ◌||◌, List, [], ◌∷◌, Contains}
 use Rattle.std.proofs.lemmas.List.Elements.{All-contains}
+use Rattle.general_facts.proofs.Lists.{list_all-same, list_any-same}
+use Rattle.csdn_core.proofs.Agreement.{constant_there, holds-same}
 use Rattle.csdn_core.specs.declared.terms.Sort.{Sort}
 use Rattle.csdn_core.specs.declared.terms.Term.{Term}
 use Rattle.csdn_core.specs.declared.terms.Term.TheVariants.{Var, Const, Port}
-use Rattle.csdn_core.specs.declared.terms.Pred.{Pred}
-use Rattle.csdn_core.specs.declared.terms.Pred.TheVariants.{Stored, Ft, Sent, RcvThis}
 use Rattle.csdn_core.specs.declared.event.Packet.{Packet}
-use Rattle.csdn_core.specs.declared.program.Constant.{Constant}
 use Rattle.csdn_core.specs.declared.program.Parts.{Parts}
 use Rattle.csdn_core.specs.declared.syntax.Formula.{Formula}
 use Rattle.csdn_core.specs.declared.syntax.Formula.TheVariants as f
 use Rattle.csdn_core.specs.Tree.{negation, conjunction, disjunction, implication, equivalence, universal, existential}
 use Rattle.csdn_core.specs.Truth.{Structure, Assignment, with_var, truth, value, values, same_truth}
-use Rattle.csdn_core.specs.Network.{Network, State, elements, structure, holds_in, is_fixed, HaveElements, IsNetwork}
-use Rattle.csdn_core.specs.Sorted.{sorts_of}
+use Rattle.csdn_core.specs.Network.{Network, State, elements, structure, holds_in, HaveElements, IsNetwork}
 use Rattle.csdn_core.specs.WellSorted.{signature}
 use Rattle.csdn_core.specs.Agreement.{AgreeOnElements}
 use Rattle.fol_forms.specs.Substitution.{Scope, with_sort, KeepsSorts}
-use Rattle.fol_forms.proofs.Replaced.{list_all-same, list_any-same, KeepsSorts-with, values-with_relations, value-with_relations}
+use Rattle.fol_forms.proofs.Replaced.{KeepsSorts-with, values-with_relations, value-with_relations}
 use Rattle.csdn_wp.specs.SortedIn.{Relations, HasSortIn, HaveSortsIn, IsSortedIn}
-
-if_same : (b u x y : Bool) → x ≡ y → (if b then u else x) ≡ (if b then u else y)
-if_same true u x y same = refl
-if_same false u x y same = same
 
 module _ (P : Parts) (N : Network) (network : IsNetwork P N) (x y : State) (agree : AgreeOnElements P N x y) (packet : Packet) where
   abbrev here : Structure
@@ -33,16 +26,9 @@ module _ (P : Parts) (N : Network) (network : IsNetwork P N) (x y : State) (agre
   abbrev there : Structure
   there = structure P N y packet
 
-  constant_there : (k : ℕ) (s : Sort) → option_map (λ (d : Constant). d.sort) (slice_get P.constants k) ≡ Some s → Contains (elements N s) (slice_index N.constants k)
-  constant_there k s is = at (slice_get P.constants k) refl is
-    where
-      at : (o : Option Constant) → slice_get P.constants k ≡ o → option_map (λ (d : Constant). d.sort) o ≡ Some s → Contains (elements N s) (slice_index N.constants k)
-      at None found is = absurd (cc)
-      at (Some d) found is = let same : d.sort ≡ s = cc in subst (λ (t : Sort). Contains (elements N t) (slice_index N.constants k)) same (network.sorted k d found)
-
   value_there : (Γ : Scope) (e : Assignment) → KeepsSorts here Γ e → (s : Sort) (t : Term) → HasSortIn (signature P) Γ s t → Contains (elements N s) (value here e t)
   value_there Γ e keeps s (Var v) is = keeps v.0 s is
-  value_there Γ e keeps s (Const k) is = constant_there k.0 s is
+  value_there Γ e keeps s (Const k) is = constant_there P N network x y agree packet k.0 s is
   value_there Γ e keeps s (Port k) (is, numeral) = subst (λ (t : Sort). Contains (elements N t) k) (sym is) (All-contains (Contains N.ports) P.numerals k network.numerals numeral)
 
   values_there : (Γ : Scope) (e : Assignment) → KeepsSorts here Γ e → (ss : List Sort) (ts : List Term) → HaveSortsIn (signature P) Γ ss ts → HaveElements N ss (values here e ts)
@@ -52,18 +38,12 @@ module _ (P : Parts) (N : Network) (network : IsNetwork P N) (x y : State) (agre
   values_there Γ e keeps (s ∷ ss) [] sorted = absurd sorted
   values_there Γ e keeps (s ∷ ss) (t ∷ ts) sorted = (value_there Γ e keeps s t sorted.0, values_there Γ e keeps ss ts sorted.1)
 
-  holds-same : (r : Pred) (ss : List Sort) (cells : List ℕ) → sorts_of (signature P) r ≡ Some ss → HaveElements N ss cells → holds_in P N x packet r cells ≡ holds_in P N y packet r cells
-  holds-same (Stored r) ss cells declared all = if_same (is_fixed P r.0) _ _ _ (agree (Stored r) ss cells declared all)
-  holds-same Ft ss cells declared all = agree Ft ss cells declared all
-  holds-same Sent ss cells declared all = agree Sent ss cells declared all
-  holds-same RcvThis ss cells declared all = refl
-
   pub formula-same : (R : Relations) (Γ : Scope) (p : Formula) (e : Assignment) → IsSortedIn (signature P) R Γ p → KeepsSorts here Γ e → truth here p e ≡ truth there p e
   unfolding truth IsSortedIn
   formula-same R Γ f.True e sorted keeps = refl
   formula-same R Γ f.False e sorted keeps = refl
   formula-same R Γ (f.Atom r ts) e sorted keeps =
-      holds-same r sorted.0.sorts (values here e ts) sorted.0.declared (values_there Γ e keeps sorted.0.sorts ts sorted.0.terms) ∙ ap (holds_in P N y packet r) (values-with_relations here (holds_in P N y packet) e ts)
+      holds-same P N network x y agree packet r sorted.0.sorts (values here e ts) sorted.0.declared (values_there Γ e keeps sorted.0.sorts ts sorted.0.terms) ∙ ap (holds_in P N y packet r) (values-with_relations here (holds_in P N y packet) e ts)
   formula-same R Γ (f.Same t u) e sorted keeps =
       ap₂ (λ a b. a == b) (value-with_relations here (holds_in P N y packet) e t) (value-with_relations here (holds_in P N y packet) e u)
   formula-same R Γ (negation p) e sorted keeps = ap not (formula-same R Γ p e sorted keeps)
