@@ -3,8 +3,9 @@ use Rattle.std.proofs.Common.{◌≡◌, ◌<◌, ◌≤◌, ◌-◌, ℕ, Bool,
 use Rattle.std.specs.Prelude.{codes}
 use Rattle.std.specs.List.{flat_map}
 use Rattle.std.proofs.lemmas.List.{append_assoc, append-nil}
+use Rattle.std.proofs.Math.Bool.{and_assoc}
 use Rattle.std.proofs.lemmas.Bool.{false≢true}
-use Rattle.clause_log.proofs.Units.{rest_is}
+use Rattle.general_facts.proofs.Lists.{rest_is}
 use Rattle.clause_log.specs.Literals.{ClauseList, IsModel}
 use Rattle.clause_log.specs.Refutations.{Step}
 use Rattle.clause_search.specs.Outcomes.{IsRefutationOf}
@@ -44,10 +45,6 @@ refutation_added (Err x) c log old new refuted is = is
 -- what is kept over the blocks
 abbrev pub Kept : List Block → List Block → List ℕ → Bool → Type 0
 Kept all rest text good = ((t : List ℕ) → AreListed rest t → AreListed all (text ++ t)) × ((good && all_pass rest) ≡ all_pass all)
-
-and_assoc : (a b c : Bool) → ((a && b) && c) ≡ (a && (b && c))
-and_assoc true b c = refl
-and_assoc false b c = refl
 
 pub and_true : (a b : Bool) → a ≡ true → b ≡ (a && b)
 and_true true b e = refl

@@ -1,18 +1,19 @@
 //! The lines of a listing.
 
-ghost use Rattle.std.specs.Prelude.{◌≡◌, ℕ, List, ◌∷◌, ◌++◌, IfOk, OnOk, decimal, map, codes};
+ghost use Rattle.std.specs.Prelude.{◌≡◌, ℕ, List, ◌++◌, IfOk, OnOk, map, codes};
 ghost use Rattle.std.specs.List.{flat_map};
-ghost use Rattle.clause_log.specs.Literals.{Literal, truths};
-ghost use Rattle.clause_log.specs.Refutations.{Step, is_refutation};
+ghost use Rattle.clause_log.specs.Literals.{truths};
+ghost use Rattle.clause_log.specs.Refutations.{is_refutation};
 ghost use Rattle.text_lines.specs.Printed.{line_text, spaced};
-ghost use Rattle.log_text.specs.LogText.{literal_word, step_words};
-ghost use Rattle.clause_listing.specs.Answers.{IsAnswer, literal_by, model_words, verdict};
+ghost use Rattle.log_text.specs.LogText.{step_words};
+ghost use Rattle.clause_listing.specs.Answers.{IsAnswer, model_words, verdict};
 
 use crate::named::named_atoms;
-use clause_log::{Clauses, Lit, Log, Valuation, accepts};
+use clause_log::{Clauses, Log, Valuation, accepts};
 use clause_search::{Outcome, solve};
+use log_text::{put_next_literal, put_steps};
 use std::alloc::{AllocError, Global};
-use text_lines::{put_line_end, put_next_number, put_next_word, put_number, put_word};
+use text_lines::{put_line_end, put_word};
 
 /// Appends whether the log is accepted. The answer says so too.
 pub fn put_verdict(
@@ -63,21 +64,10 @@ fn put_literals_of(
 {
     let mut rest = atoms;
     'atoms: while let [atom, more @ ..] = rest {
-        put_next(out, valuation.value(*atom), *atom)?;
+        put_next_literal(out, valuation.value(*atom), *atom)?;
         rest = more;
     }
     Ok(())
-}
-
-fn put_next(out: &mut Vec<u8>, is_positive: bool, atom: u64) -> Result<(), AllocError>
-    ensures { OnOk result (let l : Literal = record { positive = is_positive; atom = atom } in out.new.items ≡ out.old.items ++ 32 ∷ literal_word l) }
-{
-    if is_positive {
-        put_next_number(out, atom)
-    } else {
-        put_next_word(out, b"-")?;
-        put_number(out, atom)
-    }
 }
 
 fn put_refutation(out: &mut Vec<u8>, log: &Log) -> Result<(), AllocError>
@@ -85,48 +75,4 @@ fn put_refutation(out: &mut Vec<u8>, log: &Log) -> Result<(), AllocError>
 {
     put_word(out, b": refuted\n")?;
     put_steps(out, log)
-}
-
-fn put_steps(out: &mut Vec<u8>, log: &Log) -> Result<(), AllocError>
-    ensures { OnOk result (out.new.items ≡ out.old.items ++ flat_map line_text (map step_words log.now)) }
-{
-    let count = log.len();
-    'steps: for at in 0..count {
-        put_step(out, log.literals(at), log.hints(at))?;
-    }
-    Ok(())
-}
-
-fn put_step(out: &mut Vec<u8>, literals: &[Lit], hints: &[u64]) -> Result<(), AllocError>
-    ensures { OnOk result (let s : Step = record { literals = literals.now; hints = hints.now } in out.new.items ≡ out.old.items ++ line_text (step_words s)) }
-{
-    put_word(out, b"s")?;
-    put_literals(out, literals)?;
-    put_next_word(out, b"0")?;
-    put_hints(out, hints)?;
-    put_next_word(out, b"0")?;
-    put_line_end(out)?;
-    Ok(())
-}
-
-fn put_literals(out: &mut Vec<u8>, literals: &[Lit]) -> Result<(), AllocError>
-    ensures { OnOk result (out.new.items ≡ out.old.items ++ spaced (map literal_word literals.now)) }
-{
-    let mut rest = literals;
-    'literals: while let [l, more @ ..] = rest {
-        put_next(out, l.is_positive(), l.atom())?;
-        rest = more;
-    }
-    Ok(())
-}
-
-fn put_hints(out: &mut Vec<u8>, hints: &[u64]) -> Result<(), AllocError>
-    ensures { OnOk result (out.new.items ≡ out.old.items ++ spaced (map decimal hints.now)) }
-{
-    let mut rest = hints;
-    'hints: while let [hint, more @ ..] = rest {
-        put_next_number(out, *hint)?;
-        rest = more;
-    }
-    Ok(())
 }

@@ -1,20 +1,15 @@
 -- Going through a clause under the values of a trail.
-use Rattle.std.proofs.Common.{◌≡◌, ◌<◌, ℕ, zero, suc, get_or, Bool, true, false, cond, not, ◌||◌, List, [], ◌∷◌, ◌++◌, length, take, ◌+◌, Option, Some, None, refl, sym, ap, ◌∙◌, arith, subst, inl, inr}
+use Rattle.std.proofs.Common.{◌≡◌, ◌<◌, ℕ, get_or, Bool, true, false, cond, not, ◌||◌, List, [], ◌∷◌, ◌++◌, length, take, ◌+◌, Option, Some, None, refl, sym, ap, ◌∙◌, subst, inl, inr}
 use Rattle.std.proofs.lemmas.List.Folds.{list_all_more}
-use Rattle.std.specs.Option.{option_map}
+use Rattle.std.proofs.lemmas.List.Sums.{AllPass-from_list_all}
 use Rattle.std.specs.List.{list_all}
-use Rattle.std.proofs.lemmas.Bool.{and_parts, and_from}
-use Rattle.clause_log.specs.Literals.{Literal, ClauseList, signed, has_distinct_atoms, is_within, is_clause}
+use Rattle.std.proofs.lemmas.Bool.{and_parts, and_from, or_right}
+use Rattle.clause_log.specs.Literals.{Literal, ClauseList, has_distinct_atoms, is_within, is_clause}
 use Rattle.clause_log.specs.Assignments.{Assignment, literal_value, open_literals, is_empty, is_conflict, unit_literal, is_false}
-use Rattle.clause_log.proofs.Units.{found_list, IsNew, open-false, open-new}
+use Rattle.clause_log.proofs.Units.{found_list, IsNew, no_value_by, open-false, open-new}
 use Rattle.clause_search.specs.Searches.{is_satisfied, says_true, IsOf, IsEither}
 use Rattle.clause_search.specs.declared.clause.Candidate.{Candidate}
-use Rattle.clause_search.proofs.Places.{none_some}
 use Rattle.clause_search.proofs.Learned.{only_is, only_from}
-
-no_value : (s : Bool) (o : Option Bool) → option_map (signed s) o ≡ None → o ≡ None
-no_value s None e = refl
-no_value s (Some b) e = absurd (none_some (signed s b) e)
 
 -- the open literals found, and those of the rest, are those of the clause
 pub record IsScanned (f : Assignment) (found : Option Literal) (rest clause : List Literal) : Type 0 where
@@ -28,7 +23,7 @@ pub scan_false : (f : Assignment) (found : Option Literal) (l : Literal) (ls cla
 scan_false f found l ls clause e h = record { so_far = ap (λ z. found_list found ++ z) (sym (open-false f l ls e)) ∙ h.so_far; new = h.new }
 
 pub scan_new : (f : Assignment) (l : Literal) (ls clause : List Literal) → literal_value f l ≡ None → IsScanned f None (l ∷ ls) clause → IsScanned f (Some l) ls clause
-scan_new f l ls clause e h = record { so_far = sym (open-new f l ls e) ∙ h.so_far; new = no_value l.positive (f l.atom) e }
+scan_new f l ls clause e h = record { so_far = sym (open-new f l ls e) ∙ h.so_far; new = no_value_by l.positive (f l.atom) e }
 
 pub scan_forces : (f : Assignment) (l : Literal) (clause : List Literal) → IsScanned f (Some l) [] clause → unit_literal f clause ≡ Some l
 scan_forces f l clause h = only_from f (open_literals f clause) l (sym h.so_far) h.new
@@ -49,12 +44,8 @@ pub record IsLeft (f : Assignment) (found : Option Candidate) (rest clause : Lis
 pub left_start : (f : Assignment) (clause : List Literal) → IsLeft f None clause clause
 left_start f clause = record { satisfied = λ e. e; whole = λ test e. e; open_one = refl }
 
-or_later : (b c : Bool) → c ≡ true → (b || c) ≡ true
-or_later true c e = refl
-or_later false c e = e
-
 later : (f : Assignment) (l : Literal) (ls clause : List Literal) → (is_satisfied f (l ∷ ls) ≡ true → is_satisfied f clause ≡ true) → is_satisfied f ls ≡ true → is_satisfied f clause ≡ true
-later f l ls clause k e = k (or_later (says_true (literal_value f l)) (is_satisfied f ls) e)
+later f l ls clause k e = k (or_right (says_true (literal_value f l)) (is_satisfied f ls) e)
 
 tail_passes : (test : Literal → Bool) (l : Literal) (ls : List Literal) → list_all test (l ∷ ls) ≡ true → list_all test ls ≡ true
 tail_passes test l ls e = (and_parts (test l) (list_all test ls) e).1
@@ -79,7 +70,7 @@ pub left_more : (f : Assignment) (found : Option Candidate) (k : Candidate) (l :
 left_more f found k l ls clause e either h = record {
   satisfied = later f l ls clause h.satisfied;
   whole = λ test p. tail_passes test l ls (h.whole test p);
-  open_one = either_passes found l k.literal f (l ∷ ls) clause either h.open_one (no_value l.positive (f l.atom) e) (λ test p. (and_parts (test l) (list_all test ls) (h.whole test p)).0);
+  open_one = either_passes found l k.literal f (l ∷ ls) clause either h.open_one (no_value_by l.positive (f l.atom) e) (λ test p. (and_parts (test l) (list_all test ls) (h.whole test p)).0);
 }
 
 pub left_true : (f : Assignment) (found : Option Candidate) (l : Literal) (ls clause : List Literal) → literal_value f l ≡ Some true → IsLeft f found (l ∷ ls) clause → is_satisfied f clause ≡ true
@@ -112,14 +103,9 @@ forced_new f c l u = (only_is f (open_literals f c) l u).1
 pub all_within : (atoms : ℕ) (c : List Literal) → is_clause atoms c ≡ true → list_all (is_within atoms) c ≡ true
 all_within atoms c h = (and_parts (has_distinct_atoms c) (list_all (is_within atoms) c) h).1
 
-passes_at : (atoms : ℕ) (cs : List (List Literal)) (i : ℕ) → i < length cs → list_all (is_clause atoms) cs ≡ true → is_clause atoms (get_or cs i []) ≡ true
-passes_at atoms [] i l h = absurd (omega (arith, l))
-passes_at atoms (c ∷ cs) zero l h = (and_parts (is_clause atoms c) (list_all (is_clause atoms) cs) h).0
-passes_at atoms (c ∷ cs) (suc i) l h = passes_at atoms cs i (omega (arith, l)) (and_parts (is_clause atoms c) (list_all (is_clause atoms) cs) h).1
-
 -- each literal of the clause at this place is within the atoms
 pub within_at : (atoms : ℕ) (cs : List (List Literal)) (i : ℕ) (c : List Literal) → i < length cs → list_all (is_clause atoms) cs ≡ true → c ≡ get_or cs i [] → list_all (is_within atoms) c ≡ true
-within_at atoms cs i c l h e = all_within atoms c (ap (is_clause atoms) e ∙ passes_at atoms cs i l h)
+within_at atoms cs i c l h e = all_within atoms c (ap (is_clause atoms) e ∙ AllPass-from_list_all (is_clause atoms) cs h i [] l)
 
 pub forced_within : (atoms : ℕ) (cs : List (List Literal)) (i : ℕ) (f : Assignment) (c : List Literal) (l : Literal) → i < length cs → list_all (is_clause atoms) cs ≡ true → c ≡ get_or cs i [] → unit_literal f c ≡ Some l → is_within atoms l ≡ true
 forced_within atoms cs i f c l b h e u = forced_passes (is_within atoms) f c l u (within_at atoms cs i c b h e)

@@ -1,7 +1,7 @@
 -- Trails, entry by entry.
 use Rattle.std.proofs.Common.{◌≡◌, ℕ, zero, suc, List, [], ◌∷◌, ◌++◌, Option, Some, None, refl, sym, ap, ap₂, ◌∙◌, subst}
-use Rattle.std.specs.Prelude.{slice_get}
 use Rattle.std.proofs.lemmas.List.{append_assoc, append-nil}
+use Rattle.general_facts.proofs.Lists.{slice_get-append}
 use Rattle.clause_log.specs.Literals.{Literal}
 use Rattle.clause_log.specs.Assignments.{Assignment, no_values, assign}
 use Rattle.clause_log.specs.Refutations.{clause_at, unit_at}
@@ -36,14 +36,9 @@ pub trail-back : (atoms : ℕ) (cs : List (List Literal)) (f : Assignment) (xs y
 trail-back atoms cs f [] ys h = h
 trail-back atoms cs f (x ∷ xs) ys h = trail-back atoms cs (assign x.literal f) xs ys h.1
 
-slice_get-more : {X : Type 0} (xs ys : List X) (i : ℕ) (x : X) → slice_get xs i ≡ Some x → slice_get (xs ++ ys) i ≡ Some x
-slice_get-more [] ys i x e = absurd (let n : None ≡ Some x = e in cc)
-slice_get-more (z ∷ zs) ys zero x e = e
-slice_get-more (z ∷ zs) ys (suc i) x e = slice_get-more zs ys i x e
-
 pub clause_at-more : (cs ds : List (List Literal)) (h : ℕ) (c : List Literal) → clause_at cs h ≡ Some c → clause_at (cs ++ ds) h ≡ Some c
 clause_at-more cs ds zero c e = absurd (let n : None ≡ Some c = e in cc)
-clause_at-more cs ds (suc i) c e = slice_get-more cs ds i c e
+clause_at-more cs ds (suc i) c e = slice_get-append cs ds i c e
 
 unit_at-by : (cs ds : List (List Literal)) (f : Assignment) (h : ℕ) (l : Literal) (o : Option (List Literal)) → clause_at cs h ≡ o → unit_at f o ≡ Some l → unit_at f (clause_at (cs ++ ds) h) ≡ Some l
 unit_at-by cs ds f h l None e u = absurd (let n : None ≡ Some l = u in cc)

@@ -3,15 +3,16 @@ use Rattle.std.proofs.Common.{◌≡◌, ℕ, Bool, true, false, cond, not, eqb,
 use Rattle.std.specs.Prelude.{option_to_list, is_none}
 use Rattle.std.specs.Option.{option_map}
 use Rattle.std.specs.List.{list_all}
-use Rattle.std.proofs.lemmas.Bool.{and_from, cases_Bool, false≢true, eq-eqb}
+use Rattle.std.proofs.lemmas.Bool.{and_from, or_parts, cases_Bool, false≢true, ne_eqb}
 use Rattle.std.proofs.lemmas.Option.{same_Some}
+use Rattle.general_facts.proofs.Numbers.{self_equal, eqb-turned}
 use Rattle.clause_log.specs.Literals.{Literal, negated, has_atom, has_distinct_atoms, is_within, is_clause, signed}
 use Rattle.clause_log.specs.Assignments.{Assignment, no_values, says_false, is_false, assign, with_false, open_literals, only_new, unit_literal}
 use Rattle.clause_log.specs.Refutations.{clause_at, is_conflict_at, unit_at, with_unit, reaches_conflict}
 use Rattle.clause_search.specs.declared.trail.Entry.{Entry}
 use Rattle.clause_search.specs.Outcomes.{is_hint}
 use Rattle.clause_search.specs.Trails.{after, values_of, if_decided, decisions, reasons, IsForced, IsTrail}
-use Rattle.clause_search.proofs.Places.{none_some, assign_at, assign_apart, none_before, value_stays, swap, negated_twice, eqb_turned, differ}
+use Rattle.clause_search.proofs.Places.{none_some, assign_at, assign_apart, none_before, value_stays, swap, negated_twice}
 
 -- literals of atoms without a value, one after the other
 abbrev pub AreFresh : Assignment → List Literal → Type 0
@@ -46,21 +47,13 @@ open_here f g m c b e k h =
 none_open : (f : Assignment) (m : Literal) → f m.atom ≡ None → is_false f m ≡ false
 none_open f m e = ap (λ o. says_false (option_map (signed m.positive) o)) e
 
-or_left : (b c : Bool) → (b || c) ≡ false → b ≡ false
-or_left true c e = e
-or_left false c e = refl
-
-or_right : (b c : Bool) → (b || c) ≡ false → c ≡ false
-or_right true c e = absurd (false≢true (sym e))
-or_right false c e = e
-
 tail_apart : (a : ℕ) (m : Literal) (ls : List Literal) (b : Bool) → has_atom a (cond (not b) (m ∷ ls) ls) ≡ false → has_atom a ls ≡ false
 tail_apart a m ls true e = e
-tail_apart a m ls false e = or_right (eqb a m.atom) (has_atom a ls) e
+tail_apart a m ls false e = (or_parts (eqb a m.atom) (has_atom a ls) e).1
 
 head_apart : (a : ℕ) (m : Literal) (ls : List Literal) (b : Bool) → b ≡ false → has_atom a (cond (not b) (m ∷ ls) ls) ≡ false → eqb a m.atom ≡ false
 head_apart a m ls true q e = absurd (false≢true (sym q))
-head_apart a m ls false q e = or_left (eqb a m.atom) (has_atom a ls) e
+head_apart a m ls false q e = (or_parts (eqb a m.atom) (has_atom a ls) e).0
 
 open_stays : (f : Assignment) (d : Literal) (c : List Literal) → f d.atom ≡ None → has_atom d.atom (open_literals f c) ≡ false → open_literals (assign d f) c ≡ open_literals f c
 open_stays f d [] n h = refl
@@ -69,7 +62,7 @@ open_stays f d (m ∷ c) n h =
     elim (cases_Bool (eqb m.atom d.atom)) [
       | inl t ↦
           (let free : is_false f m ≡ false = none_open f m (ap f (eqb-true m.atom d.atom t) ∙ n) in
-          absurd (false≢true (sym (head_apart d.atom m (open_literals f c) (is_false f m) free h) ∙ eq-eqb d.atom m.atom (sym (eqb-true m.atom d.atom t)))))
+          absurd (false≢true (sym (head_apart d.atom m (open_literals f c) (is_false f m) free h) ∙ eqb-turned d.atom m.atom ∙ t)))
       | inr t ↦ open_here f (assign d f) m c (is_false f m) refl (ap (λ o. says_false (option_map (signed m.positive) o)) (assign_apart f d m.atom t)) deep
     ]
 
@@ -95,7 +88,7 @@ unit_more : (f : Assignment) (d : Literal) (c : List Literal) (l : Literal) → 
 unit_more f d c l n apart u =
     let p = only_is f (open_literals f c) l u in
     let none : has_atom d.atom (open_literals f c) ≡ false = ap (has_atom d.atom) p.0 ∙ ap (λ t. t || false) apart in
-    only_from (assign d f) (open_literals (assign d f) c) l (open_stays f d c n none ∙ p.0) (assign_apart f d l.atom (eqb_turned d.atom l.atom apart) ∙ p.1)
+    only_from (assign d f) (open_literals (assign d f) c) l (open_stays f d c n none ∙ p.0) (assign_apart f d l.atom (eqb-turned l.atom d.atom ∙ apart) ∙ p.1)
 
 unit_at_more : (f : Assignment) (d : Literal) (o : Option (List Literal)) (l : Literal) → f d.atom ≡ None → eqb d.atom l.atom ≡ false → unit_at f o ≡ Some l → unit_at (assign d f) o ≡ Some l
 unit_at_more f d None l n apart u = u
@@ -145,14 +138,14 @@ concludes atoms cs h f (x ∷ xs) t e =
 not_among : (g : Assignment) (a : ℕ) (b : Bool) (ds : List Literal) → g a ≡ Some b → AreFresh g ds → has_atom a (map negated ds) ≡ false
 not_among g a b [] e h = refl
 not_among g a b (d ∷ ds) e h =
-    let apart : eqb a d.atom ≡ false = differ a d.atom (λ q. none_some b (sym e ∙ ap g q ∙ h.0)) in
+    let apart : eqb a d.atom ≡ false = ne_eqb a d.atom (λ q. none_some b (sym e ∙ ap g q ∙ h.0)) in
     ap (λ t. t || has_atom a (map negated ds)) apart ∙ not_among (assign d g) a b ds (assign_apart g d a apart ∙ e) h.1
 
 distinct : (f : Assignment) (ds : List Literal) → AreFresh f ds → has_distinct_atoms (map negated ds) ≡ true
 distinct f [] h = refl
 distinct f (d ∷ ds) h =
     and_from (not (has_atom d.atom (map negated ds))) (has_distinct_atoms (map negated ds))
-    (ap not (not_among (assign d f) d.atom d.positive ds (assign_at f d d.atom (eq-eqb d.atom d.atom refl)) h.1))
+    (ap not (not_among (assign d f) d.atom d.positive ds (assign_at f d d.atom (self_equal d.atom)) h.1))
     (distinct (assign d f) ds h.1)
 
 within_by : (atoms : ℕ) (r : Option ℕ) (l : Literal) (ds : List Literal) → is_within atoms l ≡ true → list_all (is_within atoms) (map negated ds) ≡ true → list_all (is_within atoms) (map negated (if_decided r l ds)) ≡ true
@@ -201,7 +194,7 @@ decided_false g (Some r) l ds c e h = h
 pub decisions_false : (atoms : ℕ) (cs : List (List Literal)) (f : Assignment) (es : List Entry) (c : List Literal) → IsTrail atoms cs f es → open_literals (after f es) (map negated (decisions es) ++ c) ≡ open_literals (after f es) c
 decisions_false atoms cs f [] c h = refl
 decisions_false atoms cs f (e ∷ es) c h =
-    let now : assign e.literal f e.literal.atom ≡ Some e.literal.positive = assign_at f e.literal e.literal.atom (eq-eqb e.literal.atom e.literal.atom refl) in
+    let now : assign e.literal f e.literal.atom ≡ Some e.literal.positive = assign_at f e.literal e.literal.atom (self_equal e.literal.atom) in
     decided_false (after (assign e.literal f) es) e.reason e.literal (decisions es) c (keeps atoms cs (assign e.literal f) es e.literal.atom e.literal.positive h.1 now) (decisions_false atoms cs (assign e.literal f) es c h.1)
 
 -- under what stands before the last decision, the learned clause forces that decision's opposite

@@ -2,29 +2,15 @@
 use Rattle.std.proofs.Common.{◌≡◌, ℕ, Bool, true, false, cond, eqb, ◌||◌, List, [], ◌∷◌, Option, Some, None, refl, sym, ap, ◌∙◌, inl, inr, eqb-true}
 use Rattle.std.specs.Option.{option_map}
 use Rattle.std.specs.List.{list_all}
-use Rattle.std.proofs.lemmas.Bool.{and_parts, and_from, cases_Bool, false≢true, eq-eqb}
+use Rattle.std.proofs.Math.Bool.{or-true, or-false}
+use Rattle.std.proofs.lemmas.Bool.{and_parts, and_from, or_left, cases_Bool, false≢true}
+use Rattle.general_facts.proofs.Numbers.{eqb-turned}
 use Rattle.clause_log.specs.Literals.{Literal, signed, literal_true, clause_true, IsModel, truths}
 use Rattle.clause_log.specs.Assignments.{Assignment, no_values, assign, literal_value}
 use Rattle.clause_search.specs.declared.trail.Entry.{Entry}
 use Rattle.clause_search.specs.Trails.{after, values_of, AreNew, positives}
 use Rattle.clause_search.specs.Searches.{says_true, is_satisfied}
-use Rattle.clause_search.proofs.Places.{assign_at, assign_apart, eqb_turned}
-
-or-assoc : (a b c : Bool) → ((a || b) || c) ≡ (a || (b || c))
-or-assoc true b c = refl
-or-assoc false b c = refl
-
-or-true : (b : Bool) → (b || true) ≡ true
-or-true true = refl
-or-true false = refl
-
-first_true : (a b c : Bool) → a ≡ true → ((a || b) || c) ≡ true
-first_true true b c e = refl
-first_true false b c e = absurd (false≢true e)
-
-first_false : (a b c : Bool) → a ≡ false → ((a || b) || c) ≡ (b || c)
-first_false true b c e = absurd (false≢true (sym e))
-first_false false b c e = refl
+use Rattle.clause_search.proofs.Places.{assign_at, assign_apart}
 
 -- the atom's truth: among the positive ones, or before
 step_true : (f : Assignment) (l : Literal) (a : ℕ) (rest : List ℕ) (s : Bool) → l.positive ≡ s → f l.atom ≡ None
@@ -32,11 +18,11 @@ step_true : (f : Assignment) (l : Literal) (a : ℕ) (rest : List ℕ) (s : Bool
 step_true f l a rest true p n =
     elim (cases_Bool (eqb l.atom a)) [
       | inl t ↦
-          (let e : eqb a l.atom ≡ true = eq-eqb a l.atom (sym (eqb-true l.atom a t)) in
-          first_true (eqb l.atom a) (truths rest a) (says_true (f a)) t ∙ sym (ap (λ o. truths rest a || says_true o) (assign_at f l a e ∙ ap Some p) ∙ or-true (truths rest a)))
+          (let e : eqb a l.atom ≡ true = eqb-turned a l.atom ∙ t in
+          or_left (eqb l.atom a || truths rest a) (says_true (f a)) (or_left (eqb l.atom a) (truths rest a) t) ∙ sym (ap (λ o. truths rest a || says_true o) (assign_at f l a e ∙ ap Some p) ∙ or-true (truths rest a)))
       | inr t ↦
-          (let e : eqb a l.atom ≡ false = eqb_turned l.atom a t in
-          first_false (eqb l.atom a) (truths rest a) (says_true (f a)) t ∙ sym (ap (λ o. truths rest a || says_true o) (assign_apart f l a e)))
+          (let e : eqb a l.atom ≡ false = eqb-turned a l.atom ∙ t in
+          ap (λ b. (b || truths rest a) || says_true (f a)) t ∙ sym (ap (λ o. truths rest a || says_true o) (assign_apart f l a e)))
     ]
 step_true f l a rest false p n =
     elim (cases_Bool (eqb a l.atom)) [
@@ -47,10 +33,6 @@ step_true f l a rest false p n =
 positives_true : (f : Assignment) (es : List Entry) (a : ℕ) → AreNew f es → (truths (positives es) a || says_true (f a)) ≡ says_true (after f es a)
 positives_true f [] a h = refl
 positives_true f (e ∷ es) a h = step_true f e.literal a (positives es) e.literal.positive refl h.0 ∙ positives_true (assign e.literal f) es a h.1
-
-or-false : (b : Bool) → (b || false) ≡ b
-or-false true = refl
-or-false false = refl
 
 pub trues_are : (es : List Entry) (a : ℕ) → AreNew no_values es → truths (positives es) a ≡ says_true (values_of es a)
 trues_are es a h = sym (or-false (truths (positives es) a)) ∙ positives_true no_values es a h

@@ -1,7 +1,8 @@
 -- Assignments one by one.
-use Rattle.std.proofs.Common.{◌≡◌, ℕ, Bool, true, false, cond, not, eqb, Some, None, refl, sym, ap, ◌∙◌, eqb-true, inl, inr}
+use Rattle.std.proofs.Common.{◌≡◌, ℕ, Bool, true, false, cond, eqb, Some, None, refl, sym, ap, ◌∙◌, eqb-true, inl, inr}
+use Rattle.std.proofs.Math.Bool.{not-not}
 use Rattle.std.proofs.Math.Path.{fun_ext}
-use Rattle.std.proofs.lemmas.Bool.{cases_Bool, false≢true, eq-eqb, ne_eqb}
+use Rattle.std.proofs.lemmas.Bool.{cases_Bool, false≢true, eq-eqb}
 use Rattle.clause_log.specs.Literals.{Literal, negated}
 use Rattle.clause_log.specs.Assignments.{Assignment, assign}
 
@@ -40,15 +41,5 @@ swap_at f d l a false false p q n = assign_apart (assign l f) d a p ∙ assign_a
 pub swap : (f : Assignment) (d l : Literal) → eqb d.atom l.atom ≡ false → assign d (assign l f) ≡ assign l (assign d f)
 swap f d l n = fun_ext (λ a. swap_at f d l a (eqb a d.atom) (eqb a l.atom) refl refl n)
 
-not_not : (b : Bool) → not (not b) ≡ b
-not_not true = refl
-not_not false = refl
-
 pub negated_twice : (l : Literal) → negated (negated l) ≡ l
-negated_twice l = ap (λ b. let m : Literal = record { positive = b; atom = l.atom } in m) (not_not l.positive)
-
-pub differ : (a b : ℕ) → (a ≡ b → ⊥) → eqb a b ≡ false
-differ a b n = ne_eqb a b n
-
-pub eqb_turned : (a b : ℕ) → eqb a b ≡ false → eqb b a ≡ false
-eqb_turned a b e = ne_eqb b a (λ q. false≢true (sym e ∙ eq-eqb a b (sym q)))
+negated_twice l = ap (λ b. let m : Literal = record { positive = b; atom = l.atom } in m) (not-not l.positive)

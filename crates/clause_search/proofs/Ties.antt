@@ -4,12 +4,13 @@ use Rattle.std.specs.Prelude.{is_ok, is_err}
 use Rattle.std.specs.Ordering.{nat_cmp, is_eq}
 use Rattle.std.specs.Cmp.{unsigned_tied}
 use Rattle.std.proofs.Math.Path.{fun_ext}
-use Rattle.std.proofs.lemmas.Bool.{cases_Bool, false≢true, eq-eqb}
+use Rattle.std.proofs.lemmas.Bool.{cases_Bool, false≢true}
+use Rattle.general_facts.proofs.Numbers.{eqb-turned}
 use Rattle.clause_log.specs.Literals.{Literal}
 use Rattle.clause_log.specs.Assignments.{Assignment, no_values, assign}
 use Rattle.clause_search.specs.declared.trail.Entry.{Entry}
 use Rattle.clause_search.specs.Trails.{values_of, AreNew}
-use Rattle.clause_search.proofs.Places.{assign_apart, eqb_turned}
+use Rattle.clause_search.proofs.Places.{assign_apart}
 use Rattle.clause_search.proofs.Entries.{after-append, new-append, new-front, new-back}
 
 pub when_ok : {T E : Type 0} (r : Result T E) (P : Type 0) → is_err r ≡ false → OnOk r P → P
@@ -20,15 +21,8 @@ pub items_ok : {T E X : Type 0} (r : Result T E) (xs ys zs : List X) → is_err 
 items_ok (Ok x) xs ys zs e h = h
 items_ok (Err x) xs ys zs e h = absurd (false≢true (sym e))
 
-turned_eqb : (x y : ℕ) → eqb x y ≡ eqb y x
-turned_eqb x y =
-    elim (cases_Bool (eqb y x)) [
-      | inl t ↦ eq-eqb x y (sym (eqb-true y x t)) ∙ sym t
-      | inr t ↦ eqb_turned y x t ∙ sym t
-    ]
-
 at_key : (x y : ℕ) → is_eq (nat_cmp x y) ≡ eqb y x
-at_key x y = unsigned_tied x y ∙ turned_eqb x y
+at_key x y = unsigned_tied x y ∙ eqb-turned x y
 
 put_is : (f g : Assignment) (l : Literal) (key : ℕ) (w : Bool) → key ≡ l.atom → w ≡ l.positive → ((q : ℕ) → g q ≡ cond (is_eq (nat_cmp key q)) (Some w) (f q)) → g ≡ assign l f
 put_is f g l key w k p u = fun_ext (λ q. u q ∙ ap₂ (λ t v. cond t (Some v) (f q)) (at_key key q ∙ ap (eqb q) k) p)

@@ -1,12 +1,12 @@
 -- What a turn back does.
-use Rattle.std.proofs.Common.{◌≡◌, ◌<◌, ℕ, ◌+◌, true, ◌&&◌, List, [], ◌∷◌, ◌++◌, map, length, Option, Some, None, Result, Ok, Err, OnOk, IfOk, refl, sym, ap, ap₂, ◌∙◌, subst, arith, length-append}
+use Rattle.std.proofs.Common.{◌≡◌, ◌<◌, ℕ, ◌+◌, true, List, [], ◌∷◌, ◌++◌, map, length, Option, Some, None, Result, Ok, Err, IfOk, refl, sym, ap, ap₂, ◌∙◌, subst, arith, length-append}
 use Rattle.std.specs.List.{list_all}
 use Rattle.std.proofs.lemmas.Bool.{and_from, false≢true}
 use Rattle.std.proofs.lemmas.List.{map-append}
-use Rattle.std.proofs.lemmas.List.Folds.{list_all-append}
 use Rattle.clause_log.specs.Literals.{Literal, ClauseList, negated, has_distinct_atoms, is_within, is_clause}
 use Rattle.clause_log.specs.Assignments.{Assignment, no_values, unit_literal}
 use Rattle.clause_log.specs.Refutations.{Step, clause_at, is_conflict_at, unit_at, step_holds, steps_hold, ends_empty, is_refutation}
+use Rattle.clause_log.proofs.Flat.{all_more}
 use Rattle.clause_search.specs.Outcomes.{is_hint, is_step, IsRefutationOf}
 use Rattle.clause_search.specs.declared.trail.Entry.{Entry}
 use Rattle.clause_search.specs.Trails.{values_of, decisions, reasons, Fits, IsTrail, Extends, trail_number}
@@ -39,9 +39,7 @@ learned_is_step c log trail h s k =
     (learned_clause c.atoms (with_steps c.clauses log) no_values trail s.fits) (learned_hints c.atoms (with_steps c.clauses log) h no_values trail k.1 s.fits)
 
 pub learned_within : (c : ClauseList) (log : List Step) (trail : List Entry) (h : ℕ) → IsSearch c log trail → IsConflict c.clauses (values_of trail) h → list_all (is_step c.atoms) (log ++ learned trail h ∷ []) ≡ true
-learned_within c log trail h s k =
-    list_all-append (is_step c.atoms) log (learned trail h ∷ [])
-    ∙ and_from (list_all (is_step c.atoms) log) (is_step c.atoms (learned trail h) && true) s.within (and_from (is_step c.atoms (learned trail h)) true (learned_is_step c log trail h s k) refl)
+learned_within c log trail h s k = all_more (is_step c.atoms) log (log ++ learned trail h ∷ []) (learned trail h) refl s.within (learned_is_step c log trail h s k)
 
 pub pushable : (c : ClauseList) (log : List Step) (trail : List Entry) → IsSearch c log trail → has_distinct_atoms (map negated (decisions trail)) ≡ true
 pushable c log trail s = learned_distinct c.atoms (with_steps c.clauses log) no_values trail s.fits
@@ -149,7 +147,3 @@ turns_by c old mid new log Failed e h = h
 pub turns_from : {E : Type 0} (r : Result Turn E) (c : ClauseList) (old mid new : List Entry) (log : List Step) → Extends c.atoms c.clauses old mid → IfOk r (λ t. Turns c mid log new t) → IfOk r (λ t. Turns c old log new t)
 turns_from (Ok t) c old mid new log e h = turns_by c old mid new log t e h
 turns_from (Err x) c old mid new log e h = h
-
-pub ok_then : {T E : Type 0} (r : Result T E) (P Q : Type 0) → (P → Q) → OnOk r P → OnOk r Q
-ok_then (Ok x) P Q f h = f h
-ok_then (Err x) P Q f h = h

@@ -1,3 +1,5 @@
+//! What a search comes to: a model, or a log that refutes the clauses.
+
 use clause_log::{Log, Valuation};
 
 /// What a search answers.

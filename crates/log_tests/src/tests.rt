@@ -1,3 +1,5 @@
+//! Log texts that are accepted, not accepted or refused, and what is printed of blocks.
+
 use clause_log::{Clauses, Lit, Log, accepts};
 use log_text::{Block, LogRefusal, print_log, read_log};
 use sqlite_items::Items;

@@ -3,6 +3,7 @@ use Rattle.std.proofs.Common.{◌≡◌, ℕ, ◌+◌, ◌-◌, ◌≤◌, List,
 use Rattle.std.proofs.lemmas.Grind.{common_steps}
 use Rattle.std.proofs.Math.Seq.{take-add}
 use Rattle.std.proofs.lemmas.List.{take_rest}
+use Rattle.std.proofs.lemmas.Option.{same_Some}
 use Rattle.vericon_edge.specs.Written.{Grown}
 
 pub grown_nothing : (old : Option (List ℕ)) → Grown old old []
@@ -16,10 +17,7 @@ grown_more None mid new xs ys to_mid to_new = grown_none mid new ys to_mid to_ne
     grown_none None new ys is h = h
     grown_none (Some m) new ys is h = cc
 grown_more (Some old) None new xs ys to_mid to_new = cc
-grown_more (Some old) (Some mid) new xs ys to_mid to_new = to_new ∙ ap Some (ap (λ m. m ++ ys) (same mid (old ++ xs) to_mid) ∙ append_assoc old xs ys)
-  where
-    same : (a b : List ℕ) → Some a ≡ Some b → a ≡ b
-    same a b h = cc
+grown_more (Some old) (Some mid) new xs ys to_mid to_new = to_new ∙ ap Some (ap (λ m. m ++ ys) (same_Some mid (old ++ xs) to_mid) ∙ append_assoc old xs ys)
 
 pub grown_front : (old mid new : Option (List ℕ)) (piece : List ℕ) (done n : ℕ) → Grown old mid (take done piece) → Grown mid new (take n (take (length piece - done) (drop done piece))) → Grown old new (take (done + n) piece)
 grown_front old mid new piece done n to_mid to_new =

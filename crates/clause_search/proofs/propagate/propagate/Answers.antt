@@ -1,7 +1,7 @@
 use Rattle.std.proofs.Common.{subst, sym}
 use Rattle.clause_search.specs.Trails.{Extends}
 use Rattle.clause_search.proofs.Entries.{extends_on}
-use Rattle.clause_search.proofs.Turned.{ok_then}
+use Rattle.std.proofs.lemmas.Result.{on_ok_weaker}
 use Rattle.clause_search.proofs.propagate.propagate.Goals.{then-from-eq0+in_ok-found+else-is_some, else-from-eq0}
 use Rattle.clause_search.proofs.propagate.propagate.Goals as goal
 
@@ -11,6 +11,6 @@ returns-clause-extends c =
     let cs = c.args.clauses.now.clauses in
     elim c.if-from-eq0.branch [
       | then-from-eq0+in_ok-found+else-is_some w ↦
-          ok_then c.spread.result _ _ (λ e. extends_on atoms cs c.args.trail.now c.if-from-eq0.trail c.spread.new.trail (subst (λ z. Extends atoms cs c.args.trail.now z) (sym w.trail-is) w.in_ok-found.ensures.extends) e) c.spread.ensures.extends
-      | else-from-eq0 w ↦ ok_then c.spread.result _ _ (λ e. subst (λ z. Extends atoms cs z c.spread.new.trail) w.trail-is e) c.spread.ensures.extends
+          on_ok_weaker c.spread.result (λ e. extends_on atoms cs c.args.trail.now c.if-from-eq0.trail c.spread.new.trail (subst (λ z. Extends atoms cs c.args.trail.now z) (sym w.trail-is) w.in_ok-found.ensures.extends) e) c.spread.ensures.extends
+      | else-from-eq0 w ↦ on_ok_weaker c.spread.result (λ e. subst (λ z. Extends atoms cs z c.spread.new.trail) w.trail-is e) c.spread.ensures.extends
     ]
