@@ -1,20 +1,21 @@
 -- Commands that break no rule are well-sorted.
-use Rattle.std.proofs.Common.{◌≡◌, ℕ, ◌+◌, ◌<◌, ◌≤◌, Bool, true, false, not, ◌==◌, List, [], ◌∷◌, ◌++◌, length, map, Option, Some, None, slice_get, unwrap_or, refl, sym, ap, ap₂, subst, ◌∙◌, arith}
-use Rattle.std.proofs.lemmas.Bool.Decides.{nat_tests}
+use Rattle.std.proofs.Common.{◌≡◌, ℕ, ◌+◌, not, ◌==◌, List, [], ◌∷◌, ◌++◌, length, Option, Some, None, slice_get, unwrap_or, refl, ap, subst, arith}
+use Rattle.std.proofs.lemmas.Bool.{eqb-true}
+use Rattle.std.proofs.lemmas.List.{map-append}
+use Rattle.csdn_core.specs.Same.{same_term}
+use Rattle.csdn_core.proofs.Same.{same_term-is}
 use Rattle.csdn_core.specs.declared.terms.Place.TheVariants.{Handler as InHandler}
 use Rattle.csdn_core.specs.declared.terms.Sort.{Sort}
 use Rattle.csdn_core.specs.declared.terms.Sort.TheVariants.{Sw, Ho, Pr}
 use Rattle.csdn_core.specs.declared.terms.Term.{Term}
-use Rattle.csdn_core.specs.declared.terms.Term.TheVariants.{Var, Const, Port}
 use Rattle.csdn_core.specs.declared.program.Relation.{Relation}
 use Rattle.csdn_core.specs.declared.syntax.Command.{Command}
 use Rattle.csdn_core.specs.Tree.{Seq-is, If-is, Pick-is}
-use Rattle.csdn_core.specs.Sorted.{Signature, Bind, HasSort, HaveSorts, IsSorted, most_variables, flow_sorts, packet_sorts, bound_in}
-use Rattle.csdn_core.specs.WellSorted.{OwnPacket, IsWrite, IsInstall, IsForward, IsFlood, IsCommand, command_bound_in}
+use Rattle.csdn_core.specs.Sorted.{Signature}
+use Rattle.csdn_core.specs.WellSorted.{IsWrite, IsInstall, IsForward, IsFlood, IsCommand, command_bound_in}
 use Rattle.csdn_tree.specs.declared.names.RawTerm.TheVariants.{Name}
 use Rattle.csdn_tree.specs.declared.names.RawName.{RawName}
 use Rattle.csdn_tree.specs.declared.names.RawTerm.{RawTerm}
-use Rattle.csdn_types.specs.declared.refusal.SortRefusal.{SortRefusal}
 use Rattle.csdn_types.specs.declared.refusal.SortRefusal.TheVariants.{WrongArity, NotAllowed}
 use Rattle.csdn_tree.specs.declared.syntax.RawFlow.{RawFlow}
 use Rattle.csdn_tree.specs.declared.syntax.RawPacket.{RawPacket}
@@ -28,22 +29,11 @@ use Rattle.csdn_types.specs.Scope.{Scope, relation_named, bound}
 use Rattle.csdn_types.specs.Typed.{typed, term_of, terms_of, flow_of, packet_of, next_var}
 use Rattle.csdn_tree.specs.Binders.{binders}
 use Rattle.csdn_types.specs.Faults.{fault_if, is_forbidden, term_faults, terms_faults, use_faults, relation_faults, variable_faults, flow_faults, faults}
-use Rattle.csdn_types.specs.Commands.{same_term, own_faults, forward_faults, flood_faults, command_faults, command_typed, later}
+use Rattle.csdn_types.specs.Commands.{own_faults, forward_faults, flood_faults, command_faults, command_typed, later}
 use Rattle.csdn_tree.specs.Binders.{command_binders}
-use Rattle.csdn_types.specs.Signed.{bind_of, binds_of, IsPart, HaveNumerals, FormulaNumerals, CommandNumerals, counted, seen}
-use Rattle.csdn_types.proofs.Lists.{map-snoc}
-use Rattle.csdn_types.proofs.Sorts.{terms_have, term_has, flow_have, packet_have, no_fault, fault_free, free_left, free_right, lengths_agree, part_bound, room_left, in_body, typed_is_sorted, bound_in-typed, counted-add, counted-next}
-
-terms_agree : (t u : Term) → same_term t u ≡ true → t ≡ u
-terms_agree (Var v) (Var w) same = ap (λ n. Var (record { 0 = n })) (lengths_agree v.0 w.0 same)
-terms_agree (Const k) (Const l) same = ap (λ n. Const (record { 0 = n })) (lengths_agree k.0 l.0 same)
-terms_agree (Port m) (Port n) same = ap Port (lengths_agree m n same)
-terms_agree (Var v) (Const l) same = absurd cc
-terms_agree (Var v) (Port n) same = absurd cc
-terms_agree (Const k) (Var w) same = absurd cc
-terms_agree (Const k) (Port n) same = absurd cc
-terms_agree (Port m) (Var w) same = absurd cc
-terms_agree (Port m) (Const l) same = absurd cc
+use Rattle.csdn_types.specs.Signed.{bind_of, binds_of, IsPart, HaveNumerals, CommandNumerals, counted, seen}
+use Rattle.csdn_types.proofs.First.{free_both}
+use Rattle.csdn_types.proofs.Sorts.{terms_have, flow_have, packet_have, no_fault, fault_free, free_left, free_right, part_bound, room_left, in_body, typed_is_sorted, bound_in-typed, counted-add, counted-next}
 
 part_later : (s : Scope) (S : Signature) (n : ℕ) → IsPart s S → IsPart (later s n) S
 part_later s S n part = record { relations = part.relations; constants = part.constants }
@@ -55,7 +45,7 @@ use_is_write s S part at ts id (Some d) is numerals free =
     let arity = fault_if (not (length ts == length d.sorts)) (WrongArity at) in
     let allowed = fault_if (is_forbidden Write d) (NotAllowed at) in
     let rest = free_right arity (allowed ++ terms_faults s d.sorts ts) free in
-    let many : length ts ≡ length d.sorts = lengths_agree (length ts) (length d.sorts) (no_fault (length ts == length d.sorts) (WrongArity at) (free_left arity (allowed ++ terms_faults s d.sorts ts) free)) in
+    let many : length ts ≡ length d.sorts = eqb-true (length ts) (length d.sorts) (no_fault (length ts == length d.sorts) (WrongArity at) (free_left arity (allowed ++ terms_faults s d.sorts ts) free)) in
     record {
       relation = d;
       declared = part.relations id d is;
@@ -69,13 +59,10 @@ relation_is_write s S part at ts (Some id) numerals free = use_is_write s S part
 
 -- an own term is the handler's
 own_is : (s : Scope) (sort : Sort) (own : Term) (t : RawTerm) → own_faults s sort own t ≡ [] → term_of s t ≡ own
-own_is s sort own t free = terms_agree (term_of s t) own (no_fault (same_term (term_of s t) own) (NotAllowed (place_of t)) (free_right (term_faults s sort t) _ free))
+own_is s sort own t free = same_term-is (term_of s t) own (no_fault (same_term (term_of s t) own) (NotAllowed (place_of t)) (free_right (term_faults s sort t) _ free))
 
 own_free : (s : Scope) (sort : Sort) (own : Term) (t : RawTerm) → own_faults s sort own t ≡ [] → term_faults s sort t ≡ []
 own_free s sort own t free = free_left (term_faults s sort t) _ free
-
-both : (xs ys : List SortRefusal) → xs ≡ [] → ys ≡ [] → xs ++ ys ≡ []
-both xs ys left right = rw (left, right)
 
 module _ (S : Signature) (own : OwnTerms) where
   install_is : (s : Scope) → IsPart s S → (w : RawFlow) → HaveNumerals S (Name w.switch ∷ w.source ∷ w.target ∷ w.ingress ∷ w.egress ∷ []) → own_faults s Sw own.switch (Name w.switch) ++ flow_faults s w ≡ [] → IsInstall S (seen own) (binds_of s) (term_of s (Name w.switch) ∷ flow_of s w)
@@ -97,9 +84,9 @@ module _ (S : Signature) (own : OwnTerms) where
         egress = term_of s w.egress;
         is = rw (own_is s Sw own.switch (Name w.switch) switch, own_is s Ho own.source w.source source, own_is s Ho own.target w.target target, own_is s Pr own.ingress w.ingress ingress);
         terms = flow_have s S part w numerals (own_free s Sw own.switch (Name w.switch) switch)
-            (both (term_faults s Ho w.source) _ (own_free s Ho own.source w.source source)
-            (both (term_faults s Ho w.target) _ (own_free s Ho own.target w.target target)
-            (both (term_faults s Pr w.ingress) _ (own_free s Pr own.ingress w.ingress ingress) egress)));
+            (free_both (term_faults s Ho w.source) _ (own_free s Ho own.source w.source source)
+            (free_both (term_faults s Ho w.target) _ (own_free s Ho own.target w.target target)
+            (free_both (term_faults s Pr w.ingress) _ (own_free s Pr own.ingress w.ingress ingress) egress)));
       }
 
 three : (k l m n : ℕ) → counted k l ++ (counted (k + l) m ++ counted (k + (l + m)) n) ≡ counted k (l + (m + n))
@@ -138,12 +125,12 @@ flood_parts S own s part w numerals free =
     record {
       is = rw (own_is s Sw own.switch (Name w.switch) switch, own_is s Ho own.source w.source source, own_is s Ho own.target w.target target, own_is s Pr own.ingress w.ingress ingress);
       terms = packet_have s S part w numerals (own_free s Sw own.switch (Name w.switch) switch)
-          (both (term_faults s Ho w.source) _ (own_free s Ho own.source w.source source)
-          (both (term_faults s Ho w.target) (term_faults s Pr w.ingress) (own_free s Ho own.target w.target target) (own_free s Pr own.ingress w.ingress ingress)));
+          (free_both (term_faults s Ho w.source) _ (own_free s Ho own.source w.source source)
+          (free_both (term_faults s Ho w.target) (term_faults s Pr w.ingress) (own_free s Ho own.target w.target target) (own_free s Pr own.ingress w.ingress ingress)));
     }
 
 in_block : (S : Signature) (own : OwnTerms) (s : Scope) (name : RawName) (sort : Sort) (n : ℕ) (x : Command) → IsCommand S (seen own) (binds_of (later (bound s name sort) n)) x → IsCommand S (seen own) (binds_of s ++ record { var = next_var s; sort = sort } ∷ []) x
-in_block S own s name sort n x sorted = subst (λ Γ. IsCommand S (seen own) Γ x) (map-snoc bind_of s.variables _) sorted
+in_block S own s name sort n x sorted = subst (λ Γ. IsCommand S (seen own) Γ x) (map-append bind_of s.variables _) sorted
 
 pub command_is_sorted : (S : Signature) (own : OwnTerms) (s : Scope) (x : RawCommand) → IsPart s S → CommandNumerals S x → command_faults own s x ≡ [] → IsCommand S (seen own) (binds_of s) (command_typed s x)
 unfolding CommandNumerals command_faults command_typed IsCommand

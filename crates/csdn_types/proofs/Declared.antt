@@ -1,8 +1,9 @@
 -- The names and the limits of what the items so far declare.
-use Rattle.std.proofs.Common.{◌≡◌, ℕ, ◌+◌, ◌<◌, ◌≤◌, ◌==◌, suc, zero, Bool, true, false, not, cond, List, [], ◌∷◌, ◌++◌, length, map, All, Decides, bytes_eq, is_some, position, nat_le, nat_lt, refl, sym, ap, ◌∙◌, inl, inr, arith, length-append}
+use Rattle.std.proofs.Common.{◌≡◌, ℕ, ◌+◌, ◌≤◌, ◌==◌, Bool, true, false, not, cond, List, [], ◌∷◌, ◌++◌, length, map, All, bytes_eq, is_some, position, nat_le, nat_lt, refl, ap, ◌∙◌, inl, inr, arith, length-append}
 use Rattle.std.specs.List.{AllByRecursion as ByRecursion}
 use Rattle.std.proofs.lemmas.Bool.{cases_eq, eq-eqb, ne_eqb}
 use Rattle.std.proofs.lemmas.Bool.Decides.{nat_tests}
+use Rattle.std.proofs.lemmas.List.{map-append}
 use Rattle.std.proofs.lemmas.List.Elements.{All-push}
 use Rattle.std.proofs.lemmas.Slice.Eq.{bytes_eq-Decides}
 use Rattle.csdn_core.specs.Names.{IsName}
@@ -27,15 +28,11 @@ use Rattle.csdn_types.specs.Faults.{fault_if, faults}
 use Rattle.csdn_types.specs.Scope.{Scope, relation_named}
 use Rattle.csdn_types.specs.Items.{name_faults, row_of, rows_of, rows_faults, row_faults, relation_item_faults, handler_of}
 use Rattle.csdn_types.specs.Programs.{Draft, place_of, named_formula, with_invariant, constant_faults, invariant_faults, item_faults, with_item, items_faults, with_items}
-use Rattle.csdn_types.proofs.Counts.{passes, passes-true, passes-false, times, times-nil, times-append, times-push, times-new, times-once_more}
-use Rattle.csdn_types.proofs.Lists.{map-snoc}
+use Rattle.csdn_types.proofs.Counts.{passes, passes-true, passes-false, times, times-append, times-push, times-new, times-once_more}
 use Rattle.csdn_types.proofs.NumeralSorts.{all_left, all_right}
-use Rattle.csdn_types.proofs.Sorts.{free_left, free_right, fault_free}
+use Rattle.csdn_types.proofs.Sorts.{free_left, free_right, fault_free, below}
 
 -- ---- what a rule that is not broken says
-
-below : (m n : ℕ) (e : SortRefusal) → fault_if (nat_le m n) e ≡ [] → n < m
-below m n e free = let b = fault_free (nat_le m n) e free in grind (arith, nat_tests)
 
 at_most : (m n : ℕ) (e : SortRefusal) → fault_if (nat_lt m n) e ≡ [] → n ≤ m
 at_most m n e free = let b = fault_free (nat_lt m n) e free in grind (arith, nat_tests)
@@ -151,7 +148,7 @@ module _ (s : Scope) (start : List StartRow) (r : RawRelation) (word : IsName r.
   one_relation : KeptRelations (s.relations ++ declared ∷ []) (start ++ rows_of s r)
   one_relation = record {
     words = All-push (λ x. IsName x.name) s.relations declared h.words word;
-    names = λ x. rw (map-snoc (λ y. y.name) s.relations declared) (once_more (map (λ y. y.name) s.relations) r.name.text (Duplicate r.name.at) new h.names x);
+    names = λ x. rw (map-append (λ y. y.name) s.relations (declared ∷ [])) (once_more (map (λ y. y.name) s.relations) r.name.text (Duplicate r.name.at) new h.names x);
     arities = All-push (λ x. length x.sorts ≤ 5) s.relations declared h.arities (at_most 5 (length r.sorts) (WrongArity r.name.at) (free_left (fault_if (nat_lt 5 (length r.sorts)) (WrongArity r.name.at)) _ limits));
     few = let room = below 64 (length s.relations) (TooMany r.name.at) (free_right (fault_if (nat_lt 5 (length r.sorts)) (WrongArity r.name.at)) _ limits) in omega (arith, more, room);
     rows = rows_step;
@@ -166,14 +163,14 @@ one_constant s name sort word free h =
     let room = below 64 (length s.constants) (TooMany name.at) (free_right same _ free) in
     record {
       words = All-push (λ k. IsName k.name) s.constants _ h.words word;
-      names = λ x. rw (map-snoc (λ k. k.name) s.constants (record { name = name.text; sort = sort })) (once_more (map (λ k. k.name) s.constants) name.text (Duplicate name.at) (free_left same _ free) h.names x);
+      names = λ x. rw (map-append (λ k. k.name) s.constants ((record { name = name.text; sort = sort }) ∷ [])) (once_more (map (λ k. k.name) s.constants) name.text (Duplicate name.at) (free_left same _ free) h.names x);
       few = omega (arith, length-append s.constants (record { name = name.text; sort = sort } ∷ []), room);
     }
 
 -- ---- one more invariant
 
 names_pushed : (q : List ℕ → Bool) (vs : List NamedFormula) (v : NamedFormula) → times q (map (λ x. x.name) (vs ++ v ∷ [])) ≡ times q (map (λ x. x.name) vs) + passes (q v.name)
-names_pushed q vs v = ap (λ names. times q names) (map-snoc (λ x. x.name) vs v) ∙ times-push q (map (λ x. x.name) vs) v.name
+names_pushed q vs v = ap (λ names. times q names) (map-append (λ x. x.name) vs (v ∷ [])) ∙ times-push q (map (λ x. x.name) vs) v.name
 
 names_sum : (q : List ℕ → Bool) (xs ys zs : List NamedFormula) → times q (gathered_names xs ys zs) ≡ times q (map (λ x. x.name) xs) + (times q (map (λ x. x.name) ys) + times q (map (λ x. x.name) zs))
 names_sum q xs ys zs = rw (times-append q (map (λ x. x.name) xs) (map (λ x. x.name) ys ++ map (λ x. x.name) zs), times-append q (map (λ x. x.name) ys) (map (λ x. x.name) zs)) refl

@@ -1,10 +1,10 @@
 -- The first of several lists of faults.
-use Rattle.std.proofs.Common.{◌≡◌, List, [], ◌∷◌, ◌++◌, Some, None, refl, inl, inr, sym, subst, Result, Ok, Err}
+use Rattle.std.proofs.Common.{◌≡◌, List, [], ◌∷◌, ◌++◌, refl, inl, inr, sym, subst, Result, Ok, Err}
 use Rattle.std.specs.Result.{IsErrAnd}
 use Rattle.csdn_types.specs.declared.refusal.SortRefusal.{SortRefusal}
 use Rattle.csdn_types.specs.declared.refusal.SortRefusal.TheVariants.{Memory}
 use Rattle.csdn_types.specs.Programs.{Passes}
-use Rattle.csdn_types.specs.Answers.{head, IsFirst, IsTyped, Answers}
+use Rattle.csdn_types.specs.Answers.{IsFirst, Answers}
 
 pub first_is : (e : SortRefusal) (faults : List SortRefusal) → IsFirst (e ∷ faults) e
 first_is e faults = record { is = inr refl }

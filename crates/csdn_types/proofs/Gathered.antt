@@ -1,6 +1,5 @@
 -- What the invariants and the handlers of a program give: the items are gathered by kind, so it is counted.
-use Rattle.std.proofs.Common.{◌≡◌, ℕ, ◌+◌, ◌<◌, ◌≤◌, ◌==◌, zero, suc, Bool, List, [], ◌∷◌, ◌++◌, length, flat_map, refl, sym, ap, ◌∙◌, inl, inr, arith}
-use Rattle.std.proofs.lemmas.Bool.{cases_eq, eqb-true}
+use Rattle.std.proofs.Common.{◌≡◌, ℕ, ◌+◌, Bool, List, [], ◌∷◌, ◌++◌, length, flat_map, refl, sym, ap, ◌∙◌, arith}
 use Rattle.std.proofs.lemmas.List.Concat.{flat_map-append}
 use Rattle.csdn_core.specs.Numerals as core
 use Rattle.csdn_core.specs.WellSorted.{handler_bound_in, invariant_bound_in, command_bound_in}
@@ -12,13 +11,12 @@ use Rattle.csdn_tree.specs.declared.syntax.RawItem.TheVariants.{Relation, Consta
 use Rattle.csdn_tree.specs.declared.syntax.RawHandler.{RawHandler}
 use Rattle.csdn_tree.specs.Binders.{item_binders, items_binders, command_binders}
 use Rattle.csdn_tree.specs.Numerals.{item_numerals, items_numerals}
-use Rattle.csdn_core.specs.declared.terms.RelId.{RelId}
 use Rattle.csdn_types.specs.Scope.{Scope}
 use Rattle.csdn_types.specs.Commands.{command_typed}
 use Rattle.csdn_types.specs.Items.{handler_of, inside, rows_of}
 use Rattle.csdn_types.specs.Programs.{Draft, named_formula, with_item, with_items}
 use Rattle.csdn_types.specs.Signed.{counted}
-use Rattle.csdn_types.proofs.Counts.{passes, times, times-nil, times-append, times-flat_push}
+use Rattle.csdn_types.proofs.Counts.{times, times-nil, times-append, times-flat_push}
 use Rattle.csdn_types.proofs.ItemLists.{next-with_item}
 use Rattle.csdn_types.proofs.Sorts.{counted-add, counted-next, bound_in-typed}
 use Rattle.csdn_types.proofs.CommandSorts.{command_bound_in-typed}

@@ -1,9 +1,8 @@
 -- A handler that breaks no rule is well-sorted.
-use Rattle.std.proofs.Common.{◌≡◌, ℕ, ◌+◌, List, [], ◌∷◌, ◌++◌, length, refl, ap, subst, nat_le}
-use Rattle.csdn_core.specs.declared.terms.Sort.TheVariants.{Sw, Ho, Pr}
-use Rattle.csdn_core.specs.declared.terms.Term.{Term}
-use Rattle.csdn_core.specs.Sorted.{Signature, Bind}
-use Rattle.csdn_core.specs.WellSorted.{OwnPacket, IsCommand, own_packet, own_ingress, handler_binds}
+use Rattle.std.proofs.Common.{◌≡◌, ℕ, ◌+◌, [], refl, ap, subst, nat_le}
+use Rattle.csdn_core.specs.declared.terms.Sort.TheVariants.{Sw, Ho}
+use Rattle.csdn_core.specs.Sorted.{Signature}
+use Rattle.csdn_core.specs.WellSorted.{IsCommand, own_packet, own_ingress, handler_binds}
 use Rattle.csdn_types.specs.declared.refusal.SortRefusal.TheVariants.{TooMany}
 use Rattle.csdn_tree.specs.declared.syntax.RawPattern.{RawPattern}
 use Rattle.csdn_tree.specs.declared.syntax.RawPattern.TheVariants.{Any, Port}
@@ -12,7 +11,7 @@ use Rattle.csdn_types.specs.Scope.{Scope, bound}
 use Rattle.csdn_types.specs.Faults.{fault_if, variable_faults}
 use Rattle.csdn_types.specs.Commands.{command_faults, command_typed}
 use Rattle.csdn_types.specs.Items.{ingress_term, port_of, ingress_faults, inside, own_of, handler_faults, handler_of}
-use Rattle.csdn_types.specs.Signed.{bind_of, binds_of, IsPart, CommandNumerals, seen}
+use Rattle.csdn_types.specs.Signed.{binds_of, IsPart, CommandNumerals, seen}
 use Rattle.csdn_types.proofs.Sorts.{free_right}
 use Rattle.csdn_types.proofs.CommandSorts.{command_is_sorted}
 

@@ -1,6 +1,7 @@
 -- The faults of a tree stand in the order of refusals, where its places rise in the order of the text.
-use Rattle.std.proofs.Common.{◌≡◌, ◌⊎◌, ℕ, ◌+◌, ◌*◌, ◌<◌, ◌≤◌, Bool, true, false, not, ◌==◌, List, [], ◌∷◌, ◌++◌, length, Option, Some, None, slice_get, is_some, nat_le, All, Contains, refl, sym, inl, inr, arith}
+use Rattle.std.proofs.Common.{◌≡◌, ◌⊎◌, ℕ, ◌+◌, ◌*◌, ◌<◌, ◌≤◌, Bool, true, false, not, ◌==◌, List, [], ◌∷◌, ◌++◌, length, Option, Some, None, slice_get, is_some, nat_le, All, refl, inl, inr, arith}
 use Rattle.std.proofs.lemmas.List.Elements.{All-nil, All-cons}
+use Rattle.csdn_core.specs.Same.{same_sort}
 use Rattle.csdn_core.specs.declared.terms.Place.{Place}
 use Rattle.csdn_core.specs.declared.terms.Sort.{Sort}
 use Rattle.csdn_core.specs.declared.terms.Sort.TheVariants.{Sw, Ho, Pr}
@@ -21,9 +22,10 @@ use Rattle.csdn_types.specs.declared.terms.Use.TheVariants.{InFormula}
 use Rattle.csdn_types.specs.Answers.{head, IsFirst}
 use Rattle.csdn_types.specs.Scope.{Scope, relation_named, named, meaning, bound}
 use Rattle.csdn_types.specs.Typed.{after}
-use Rattle.csdn_types.specs.Faults.{fault_if, same_sort, known_faults, sort_faults, term_faults, terms_faults, right_faults, same_faults, is_forbidden, use_faults, relation_faults, atom_faults, flow_faults, packet_faults, variable_faults, word_is_outside, packet_is_outside, faults}
+use Rattle.csdn_types.specs.Faults.{fault_if, known_faults, sort_faults, term_faults, terms_faults, right_faults, same_faults, is_forbidden, use_faults, relation_faults, atom_faults, flow_faults, packet_faults, variable_faults, word_is_outside, packet_is_outside, faults}
 use Rattle.csdn_types.specs.Order.{at_of, rank, ComesFirst, IsLeast}
 use Rattle.csdn_tree.specs.Within.{TermsWithin, Within}
+use Rattle.csdn_tree.proofs.Ends.{terms_end}
 
 -- place and rank as one number
 abbrev pub key : SortRefusal → ℕ
@@ -88,14 +90,9 @@ then_later from at to xs ys low here later =
     joined _ (8 * at + 8) _ xs ys (ordered_from _ (8 * at) xs _ (omega arith) here) (ordered_from _ (8 * (at + 1)) ys _ (omega arith) later)
 
 -- terms one after another, of which some may be left out at the end
-pub within_holds : (from to : ℕ) (ts : List RawTerm) → TermsWithin from ts to → from ≤ to
-unfolding TermsWithin
-within_holds from to [] within = within
-within_holds from to (t ∷ ts) within = omega (arith, within.0, within_holds (place_of t + 1) to ts within.1)
-
 pub terms_ordered : (s : Scope) (sorts : List Sort) (ts : List RawTerm) (from to : ℕ) → TermsWithin from ts to → Ordered (8 * from) (terms_faults s sorts ts) (8 * to)
 unfolding TermsWithin terms_faults
-terms_ordered s [] ts from to within = none _ _ (omega (arith, within_holds from to ts within))
+terms_ordered s [] ts from to within = none _ _ (omega (arith, terms_end from to ts within))
 terms_ordered s (sort ∷ sorts) [] from to within = none _ _ (omega (arith, within))
 terms_ordered s (sort ∷ sorts) (t ∷ ts) from to within =
     then_later from (place_of t) to (term_faults s sort t) (terms_faults s sorts ts) within.0 (term_ordered s sort t) (terms_ordered s sorts ts (place_of t + 1) to within.1)
@@ -112,14 +109,14 @@ same_ordered s t u from to within =
 -- ---- atoms
 
 use_ordered : (use_of : Use) (s : Scope) (at : ℕ) (ts : List RawTerm) (d : Option Relation) (to : ℕ) → TermsWithin (at + 1) ts to → Ordered (8 * at) (use_faults use_of s at ts d) (8 * to)
-use_ordered use_of s at ts None to within = one _ _ (Unknown at) (omega arith) (omega (arith, within_holds (at + 1) to ts within))
+use_ordered use_of s at ts None to within = one _ _ (Unknown at) (omega arith) (omega (arith, terms_end (at + 1) to ts within))
 use_ordered use_of s at ts (Some d) to within =
     joined _ (8 * at + 4) _ (fault_if (not (length ts == length d.sorts)) (WrongArity at)) _ (if_one (not (length ts == length d.sorts)) _ _ (WrongArity at) (omega arith) (omega arith))
     (joined _ (8 * at + 6) _ (fault_if (is_forbidden use_of d) (NotAllowed at)) _ (if_one (is_forbidden use_of d) _ _ (NotAllowed at) (omega arith) (omega arith))
     (ordered_from _ (8 * (at + 1)) _ _ (omega arith) (terms_ordered s d.sorts ts (at + 1) to within)))
 
 relation_ordered : (use_of : Use) (s : Scope) (at : ℕ) (ts : List RawTerm) (id : Option ℕ) (to : ℕ) → TermsWithin (at + 1) ts to → Ordered (8 * at) (relation_faults use_of s at ts id) (8 * to)
-relation_ordered use_of s at ts None to within = one _ _ (Unknown at) (omega arith) (omega (arith, within_holds (at + 1) to ts within))
+relation_ordered use_of s at ts None to within = one _ _ (Unknown at) (omega arith) (omega (arith, terms_end (at + 1) to ts within))
 relation_ordered use_of s at ts (Some id) to within = use_ordered use_of s at ts (slice_get s.relations id) to within
 
 pub atom_ordered : (use_of : Use) (s : Scope) (name : RawName) (ts : List RawTerm) (from to : ℕ) → from ≤ name.at → TermsWithin (name.at + 1) ts to → Ordered (8 * from) (atom_faults use_of s name ts) (8 * to)

@@ -1,12 +1,13 @@
 -- Items, one more at a time.
-use Rattle.std.proofs.Common.{◌≡◌, ℕ, ◌+◌, ◌<◌, ◌≤◌, List, [], ◌∷◌, ◌++◌, length, drop, get_or, refl, sym, ◌∙◌, ap, arith, add-zero}
+use Rattle.std.proofs.Common.{◌≡◌, ℕ, ◌+◌, ◌<◌, ◌≤◌, List, [], ◌++◌, length, drop, get_or, refl, sym, ◌∙◌, add-zero}
+use Rattle.std.proofs.Math.ListN.{drop_of_length-le}
 use Rattle.csdn_types.specs.declared.refusal.SortRefusal.{SortRefusal}
 use Rattle.csdn_tree.specs.declared.syntax.RawItem.{RawItem}
 use Rattle.csdn_tree.specs.declared.syntax.RawItem.TheVariants.{Relation, Constant, Invariant, Handler}
 use Rattle.csdn_tree.specs.declared.syntax.InvariantKind.TheVariants.{Topology, Safety, Trans}
 use Rattle.csdn_types.specs.Programs.{Draft, item_faults, with_item, items_faults, with_items}
 use Rattle.csdn_tree.specs.Binders.{item_binders, items_binders}
-use Rattle.csdn_types.proofs.Lists.{drop-item, drop-all}
+use Rattle.csdn_types.proofs.Lists.{drop-item}
 
 -- an item uses the numbers of the variables that it binds
 pub next-with_item : (d : Draft) (item : RawItem) → (with_item d item).scope.next ≡ d.scope.next + item_binders item
@@ -35,8 +36,8 @@ module _ (raw : List RawItem) (i : ℕ) (item : RawItem) (within : i < length ra
 
 pub no_more_item_faults : (d : Draft) (raw : List RawItem) (i : ℕ) → length raw ≤ i → items_faults d (drop i raw) ≡ []
 unfolding items_faults
-no_more_item_faults d raw i past = rw (drop-all raw i past)
+no_more_item_faults d raw i past = rw (drop_of_length-le raw past)
 
 pub no_more_items : (d : Draft) (raw : List RawItem) (i : ℕ) → length raw ≤ i → with_items d (drop i raw) ≡ d
 unfolding with_items
-no_more_items d raw i past = rw (drop-all raw i past)
+no_more_items d raw i past = rw (drop_of_length-le raw past)

@@ -1,6 +1,6 @@
 -- The faults of commands and items stand in the order of refusals.
-use Rattle.std.proofs.Common.{◌≡◌, ◌⊎◌, ℕ, ◌+◌, ◌*◌, ◌<◌, ◌≤◌, Bool, true, false, not, ◌==◌, List, [], ◌∷◌, ◌++◌, length, map, position, is_some, nat_le, nat_lt, refl, inl, inr, arith}
-use Rattle.std.specs.Str.{bytes_eq}
+use Rattle.std.proofs.Common.{◌≡◌, ◌⊎◌, ℕ, ◌+◌, ◌*◌, Bool, not, ◌==◌, List, [], ◌∷◌, ◌++◌, length, is_some, nat_le, nat_lt, inl, inr, arith}
+use Rattle.csdn_core.specs.Same.{same_term}
 use Rattle.csdn_core.specs.declared.terms.Place.TheVariants.{Handler as InHandler}
 use Rattle.csdn_core.specs.declared.terms.Sort.{Sort}
 use Rattle.csdn_core.specs.declared.terms.Sort.TheVariants.{Sw, Ho, Pr}
@@ -14,7 +14,6 @@ use Rattle.csdn_tree.specs.declared.syntax.RawCommand.TheVariants as c
 use Rattle.csdn_tree.specs.RawTree.{raw_seq, raw_if, raw_pick}
 use Rattle.csdn_tree.specs.declared.syntax.RawRow.{RawRow}
 use Rattle.csdn_tree.specs.declared.syntax.RawRelation.{RawRelation}
-use Rattle.csdn_tree.specs.declared.syntax.RawHandler.{RawHandler}
 use Rattle.csdn_tree.specs.declared.syntax.RawPattern.{RawPattern}
 use Rattle.csdn_tree.specs.declared.syntax.RawPattern.TheVariants.{Any as AnyPort, Port as OnePort}
 use Rattle.csdn_tree.specs.declared.syntax.RawItem.{RawItem}
@@ -22,18 +21,18 @@ use Rattle.csdn_tree.specs.declared.syntax.RawItem.TheVariants.{Relation, Consta
 use Rattle.csdn_tree.specs.Places.{place as place_of}
 use Rattle.csdn_types.specs.declared.own.OwnTerms.{OwnTerms}
 use Rattle.csdn_types.specs.declared.terms.Use.TheVariants.{Write}
-use Rattle.csdn_types.specs.Answers.{head, IsFirst}
+use Rattle.csdn_types.specs.Answers.{IsFirst}
 use Rattle.csdn_types.specs.Scope.{Scope, relation_named, bound, meaning}
 use Rattle.csdn_types.specs.Typed.{term_of}
 use Rattle.csdn_tree.specs.Binders.{binders}
-use Rattle.csdn_types.specs.Faults.{fault_if, term_faults, terms_faults, flow_faults, atom_faults, variable_faults, faults}
-use Rattle.csdn_types.specs.Commands.{same_term, own_faults, install_faults, forward_faults, flood_faults, command_faults, later}
+use Rattle.csdn_types.specs.Faults.{fault_if, term_faults, variable_faults, faults}
+use Rattle.csdn_types.specs.Commands.{own_faults, command_faults, later}
 use Rattle.csdn_tree.specs.Binders.{command_binders}
-use Rattle.csdn_types.specs.Items.{row_faults, rows_faults, name_faults, relation_item_faults, ingress_faults, own_of, inside, handler_faults}
-use Rattle.csdn_types.specs.Programs.{Draft, place_of as kind_place, constant_faults, invariant_faults, item_faults, with_item, items_faults}
+use Rattle.csdn_types.specs.Items.{row_faults, rows_faults, name_faults, ingress_faults, own_of, inside}
+use Rattle.csdn_types.specs.Programs.{Draft, place_of as kind_place, invariant_faults, item_faults, with_item, items_faults}
 use Rattle.csdn_types.specs.Order.{IsLeast}
-use Rattle.csdn_tree.specs.Within.{TermsWithin, Within, CommandWithin, RowsWithin, port_place, ItemWithin, ItemsWithin}
-use Rattle.csdn_types.proofs.InOrder.{Ordered, sort_low, ordered_from, joined, none, one, if_one, ordered_to, between, then_later, within_holds, term_ordered, terms_ordered, atom_ordered, variable_ordered, faults_ordered, least}
+use Rattle.csdn_tree.specs.Within.{TermsWithin, CommandWithin, RowsWithin, port_place, ItemWithin, ItemsWithin}
+use Rattle.csdn_types.proofs.InOrder.{Ordered, sort_low, ordered_from, joined, none, if_one, between, then_later, term_ordered, terms_ordered, atom_ordered, variable_ordered, faults_ordered, least}
 
 -- ---- commands
 

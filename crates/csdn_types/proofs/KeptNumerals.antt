@@ -1,5 +1,5 @@
 -- What stands for a tree has the numerals of the tree.
-use Rattle.std.proofs.Common.{◌≡◌, ℕ, ◌+◌, Bool, true, false, List, [], ◌∷◌, ◌++◌, map, flat_map, Option, Some, None, option_map, option_and_then, slice_get, position, bytes_eq, if◌then◌else◌, refl, sym, ap, ap₂, ◌∙◌, append-nil}
+use Rattle.std.proofs.Common.{◌≡◌, ℕ, ◌+◌, Bool, true, false, List, [], ◌∷◌, ◌++◌, map, flat_map, Option, Some, None, option_map, option_and_then, slice_get, position, bytes_eq, if◌then◌else◌, refl, ap, ap₂, ◌∙◌, append-nil}
 use Rattle.csdn_core.specs.declared.terms.Term.TheVariants.{Var, Const}
 use Rattle.csdn_core.specs.declared.program.Constant.{Constant}
 use Rattle.csdn_core.specs.Numerals as core
@@ -22,7 +22,7 @@ use Rattle.csdn_tree.specs.Numerals.{term_numerals, terms_numerals, flow_numeral
 use Rattle.csdn_types.specs.declared.scope.SortedTerm.{SortedTerm}
 use Rattle.csdn_types.specs.declared.scope.Variable.{Variable}
 use Rattle.csdn_core.specs.declared.terms.RelId.{RelId}
-use Rattle.csdn_types.specs.Scope.{Scope, variable_named, constant_at, constant_named, or_else, named, bound}
+use Rattle.csdn_types.specs.Scope.{Scope, variable_named, constant_at, constant_named, or_else, bound}
 use Rattle.csdn_types.specs.Typed.{known_term, term_of, terms_of, flow_of, packet_of, typed, after}
 use Rattle.csdn_types.specs.Commands.{command_typed, later}
 use Rattle.csdn_types.specs.Items.{port_of, row_of, handler_of, inside}

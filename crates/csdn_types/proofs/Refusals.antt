@@ -1,5 +1,5 @@
 -- The refusal of a program.
-use Rattle.std.proofs.Common.{◌≡◌, ℕ, List, [], ◌∷◌, sym, subst, inl, Result, Ok, Err, MatchResult}
+use Rattle.std.proofs.Common.{◌≡◌, sym, subst, inl, Result, Ok, Err, MatchResult}
 use Rattle.std.specs.Result.{IsErrAnd}
 use Rattle.csdn_core.specs.declared.program.Parts.{Parts}
 use Rattle.csdn_types.specs.declared.refusal.SortRefusal.{SortRefusal}

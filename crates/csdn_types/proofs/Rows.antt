@@ -1,11 +1,10 @@
 -- Small programs, by computing.
-use Rattle.std.proofs.Common.{◌≡◌, ℕ, List, [], ◌∷◌, Some, false, true, refl}
-use Rattle.csdn_core.specs.declared.terms.Sort.TheVariants.{Sw, Ho, Pr}
+use Rattle.std.proofs.Common.{◌≡◌, ℕ, List, [], ◌∷◌, false, refl}
+use Rattle.csdn_core.specs.declared.terms.Sort.TheVariants.{Sw, Ho}
 use Rattle.csdn_core.specs.declared.syntax.Formula.TheVariants as t
-use Rattle.csdn_core.specs.declared.terms.Term.TheVariants.{Var}
 use Rattle.csdn_tree.specs.declared.names.RawName.{RawName}
-use Rattle.csdn_tree.specs.declared.names.RawTerm.TheVariants.{Name, Port}
-use Rattle.csdn_types.specs.declared.refusal.SortRefusal.TheVariants.{Duplicate, Unknown, WrongArity, WrongSort, NotAllowed, TooMany}
+use Rattle.csdn_tree.specs.declared.names.RawTerm.TheVariants.{Name}
+use Rattle.csdn_types.specs.declared.refusal.SortRefusal.TheVariants.{Duplicate, WrongArity, WrongSort, NotAllowed}
 use Rattle.csdn_tree.specs.declared.syntax.RawFormula.TheVariants as f
 use Rattle.csdn_tree.specs.declared.syntax.RawItem.{RawItem}
 use Rattle.csdn_tree.specs.declared.syntax.RawProgram.{RawProgram}
@@ -14,10 +13,8 @@ use Rattle.csdn_tree.specs.declared.syntax.InvariantKind.TheVariants.{Topology, 
 use Rattle.csdn_tree.specs.RawTree.{raw_not, raw_forall}
 use Rattle.csdn_types.specs.Faults.{faults, terms_faults}
 use Rattle.csdn_types.specs.Items.{rows_faults}
-use Rattle.csdn_types.specs.Programs.{items_faults, with_items}
-use Rattle.csdn_types.specs.Typed.{typed}
-use Rattle.csdn_tree.specs.Binders.{binders}
-use Rattle.csdn_types.specs.Resolved.{broken_rules, parts_of}
+use Rattle.csdn_types.specs.Programs.{items_faults}
+use Rattle.csdn_types.specs.Resolved.{broken_rules}
 
 abbrev program : List RawItem → RawProgram
 program items = record { items = items }

@@ -1,24 +1,21 @@
 -- What the items that break no rule declare is well-sorted.
-use Rattle.std.proofs.Common.{◌≡◌, ℕ, ◌+◌, ◌<◌, ◌≤◌, ◌==◌, suc, zero, Bool, true, false, not, List, [], ◌∷◌, ◌++◌, length, map, All, Contains, Option, Some, None, slice_get, nat_le, refl, sym, ap, subst, ◌∙◌, inl, inr, arith}
+use Rattle.std.proofs.Common.{◌≡◌, ℕ, ◌+◌, ◌==◌, false, not, List, [], ◌∷◌, ◌++◌, length, map, All, Contains, Some, slice_get, nat_le, refl, ap, subst, inl, inr, arith}
 use Rattle.std.specs.List.{AllByRecursion as ByRecursion}
-use Rattle.std.proofs.lemmas.Bool.{cases_Bool}
+use Rattle.std.proofs.lemmas.Bool.{cases_Bool, eqb-true}
 use Rattle.std.proofs.lemmas.List.Elements.{All-push, All-append, All-from_recursion}
+use Rattle.general_facts.proofs.Lists.{slice_get-append}
 use Rattle.csdn_core.specs.declared.terms.Place.{Place}
 use Rattle.csdn_core.specs.declared.terms.Place.TheVariants as place
-use Rattle.csdn_core.specs.declared.terms.Sort.{Sort}
 use Rattle.csdn_core.specs.declared.terms.RelId.{RelId}
 use Rattle.csdn_core.specs.declared.program.Relation.{Relation as AnyRelation}
 use Rattle.csdn_core.specs.declared.program.Invariant.{Invariant as NamedFormula}
-use Rattle.csdn_core.specs.declared.program.StartRow.{StartRow}
 use Rattle.csdn_core.specs.declared.program.Handler.{Handler as TypedHandler}
 use Rattle.csdn_core.specs.declared.program.Parts.{Parts}
 use Rattle.csdn_core.specs.Sorted.{Signature, HaveSorts, IsSorted}
 use Rattle.csdn_core.specs.WellSorted.{signature, IsStartRow, IsCommand, own_packet, handler_binds}
 use Rattle.csdn_tree.specs.declared.names.RawName.{RawName}
-use Rattle.csdn_tree.specs.declared.syntax.InvariantKind.{InvariantKind}
 use Rattle.csdn_tree.specs.declared.syntax.InvariantKind.TheVariants.{Topology, Safety, Trans}
 use Rattle.csdn_tree.specs.declared.syntax.RawFormula.{RawFormula}
-use Rattle.csdn_tree.specs.declared.syntax.RawHandler.{RawHandler}
 use Rattle.csdn_tree.specs.declared.syntax.RawRelation.{RawRelation}
 use Rattle.csdn_tree.specs.declared.syntax.RawRow.{RawRow}
 use Rattle.csdn_tree.specs.declared.syntax.RawItem.{RawItem}
@@ -29,27 +26,22 @@ use Rattle.csdn_types.specs.declared.refusal.SortRefusal.TheVariants.{WrongArity
 use Rattle.csdn_types.specs.Scope.{Scope}
 use Rattle.csdn_types.specs.Faults.{fault_if, faults, terms_faults}
 use Rattle.csdn_types.specs.Typed.{typed, terms_of}
-use Rattle.csdn_types.specs.Items.{row_faults, rows_faults, name_faults, row_of, rows_of, handler_of, handler_faults}
-use Rattle.csdn_types.specs.Programs.{Draft, place_of, named_formula, with_invariant, invariant_faults, item_faults, with_item, items_faults, with_items}
-use Rattle.csdn_types.specs.Signed.{bind_of, binds_of, IsPart}
+use Rattle.csdn_types.specs.Items.{row_faults, rows_faults, name_faults, row_of, rows_of, handler_of}
+use Rattle.csdn_types.specs.Programs.{Draft, named_formula, invariant_faults, item_faults, with_item, items_faults, with_items}
+use Rattle.csdn_types.specs.Signed.{bind_of, IsPart}
 use Rattle.csdn_types.proofs.NumeralSorts.{Named, all_left, all_right, terms_named, formula_named, command_named}
-use Rattle.csdn_types.proofs.Sorts.{free_left, free_right, no_fault, lengths_agree, terms_have, typed_is_sorted}
+use Rattle.csdn_types.proofs.Sorts.{free_left, free_right, no_fault, terms_have, typed_is_sorted}
 use Rattle.csdn_types.proofs.HandlerSorts.{handler_is_sorted}
 
 -- ---- a declaration keeps its place
-
-pub get-append : {X : Type 0} (xs ys : List X) (k : ℕ) (x : X) → slice_get xs k ≡ Some x → slice_get (xs ++ ys) k ≡ Some x
-get-append [] ys k x is = absurd cc
-get-append (y ∷ xs) ys zero x is = is
-get-append (y ∷ xs) ys (suc k) x is = get-append xs ys k x is
 
 pub get-last : {X : Type 0} (xs : List X) (x : X) → slice_get (xs ++ x ∷ []) (length xs) ≡ Some x
 get-last [] x = refl
 get-last (y ∷ xs) x = get-last xs x
 
 part-item : (S : Signature) (d : Draft) (item : RawItem) → IsPart (with_item d item).scope S → IsPart d.scope S
-part-item S d (Relation r) part = record { relations = λ k x is. part.relations k x (get-append d.scope.relations _ k x is); constants = part.constants }
-part-item S d (Constant name sort) part = record { relations = part.relations; constants = λ k x is. part.constants k x (get-append d.scope.constants _ k x is) }
+part-item S d (Relation r) part = record { relations = λ k x is. part.relations k x (slice_get-append d.scope.relations _ k x is); constants = part.constants }
+part-item S d (Constant name sort) part = record { relations = part.relations; constants = λ k x is. part.constants k x (slice_get-append d.scope.constants _ k x is) }
 part-item S d (Invariant Topology name p) part = record { relations = part.relations; constants = part.constants }
 part-item S d (Invariant Safety name p) part = record { relations = part.relations; constants = part.constants }
 part-item S d (Invariant Trans name p) part = record { relations = part.relations; constants = part.constants }
@@ -91,7 +83,7 @@ module _ (P : Parts) where
   rows_sorted s none part id relation declared stored count [] numerals free = tt
   rows_sorted s none part id relation declared stored count (row ∷ rows) numerals free =
       let here = free_left (row_faults s relation.sorts count row) _ free in
-      let arity = lengths_agree _ _ (no_fault (length row.terms == length relation.sorts) (WrongArity row.at) (free_left (fault_if (not (length row.terms == length relation.sorts)) (WrongArity row.at)) _ here)) in
+      let arity = eqb-true _ _ (no_fault (length row.terms == length relation.sorts) (WrongArity row.at) (free_left (fault_if (not (length row.terms == length relation.sorts)) (WrongArity row.at)) _ here)) in
       let terms = free_right (fault_if (nat_le 1024 count) (TooMany row.at)) (terms_faults s relation.sorts row.terms) (free_right (fault_if (not (length row.terms == length relation.sorts)) (WrongArity row.at)) _ here) in
       let has = terms_have s (signature P) part relation.sorts row.terms arity (terms_named (signature P) row.terms (all_left (Contains P.numerals) (terms_numerals row.terms) (rows_numerals rows) numerals)) terms in (
         record { relation = relation; declared = declared; stored = stored; terms = subst (λ Γ. HaveSorts (signature P) Γ relation.sorts (terms_of s row.terms)) (ap (λ vs. map bind_of vs) none) has },

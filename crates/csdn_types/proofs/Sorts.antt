@@ -1,7 +1,11 @@
 -- What breaks no rule is well-sorted.
-use Rattle.std.proofs.Common.{◌≡◌, ◌⊎◌, ℕ, ◌+◌, ◌*◌, ◌<◌, ◌≤◌, Bool, true, false, not, ◌==◌, List, [], ◌∷◌, ◌++◌, length, map, get_or, Option, Some, None, option_map, option_and_then, slice_get, is_some, nat_le, position, unwrap_or, All, Contains, if◌then◌else◌, refl, sym, ap, subst, ◌∙◌, inl, inr, arith, zero, suc, add-zero, zero-add}
-use Rattle.std.proofs.lemmas.List.Elements.{Contains-append_left, Contains-append_right}
+use Rattle.std.proofs.Common.{◌≡◌, ℕ, ◌+◌, ◌<◌, Bool, true, false, not, ◌==◌, List, [], ◌∷◌, ◌++◌, length, map, Option, Some, None, option_map, option_and_then, slice_get, is_some, nat_le, position, unwrap_or, Contains, if◌then◌else◌, refl, ap, subst, arith, zero, suc, add-zero, zero-add}
+use Rattle.std.proofs.lemmas.Bool.{eqb-true}
+use Rattle.std.proofs.lemmas.List.{map-append, length-map}
+use Rattle.std.proofs.lemmas.List.Elements.{Contains-append_right}
 use Rattle.std.specs.Str.{bytes_eq}
+use Rattle.csdn_core.specs.Same.{same_sort}
+use Rattle.csdn_core.proofs.Same.{same_sort-is}
 use Rattle.csdn_core.specs.declared.terms.Place.{Place}
 use Rattle.csdn_core.specs.declared.terms.Place.TheVariants.{Topology, Safety, Trans, Handler}
 use Rattle.csdn_core.specs.declared.terms.Sort.{Sort}
@@ -16,11 +20,11 @@ use Rattle.csdn_tree.specs.declared.names.RawName.{RawName}
 use Rattle.csdn_tree.specs.declared.names.RawTerm.{RawTerm}
 use Rattle.csdn_tree.specs.declared.names.RawTerm.TheVariants.{Name, Port}
 use Rattle.csdn_types.specs.declared.refusal.SortRefusal.{SortRefusal}
-use Rattle.csdn_types.specs.declared.refusal.SortRefusal.TheVariants.{Duplicate, Unknown, WrongArity, WrongSort, NotAllowed, TooMany}
+use Rattle.csdn_types.specs.declared.refusal.SortRefusal.TheVariants.{Duplicate, WrongArity, WrongSort, NotAllowed, TooMany}
 use Rattle.csdn_types.specs.declared.scope.SortedTerm.{SortedTerm}
 use Rattle.csdn_types.specs.declared.scope.Variable.{Variable}
 use Rattle.csdn_types.specs.Scope.{Scope, variable_named, constant_at, constant_named, or_else, named, meaning}
-use Rattle.csdn_types.specs.Faults.{fault_if, same_sort, sort_faults, term_faults, terms_faults, known_faults, right_faults, same_faults, stands_outside, is_forbidden, use_faults, relation_faults, atom_faults, flow_faults, packet_faults, word_is_outside, packet_is_outside, variable_faults, faults}
+use Rattle.csdn_types.specs.Faults.{fault_if, sort_faults, term_faults, terms_faults, known_faults, right_faults, stands_outside, is_forbidden, use_faults, relation_faults, flow_faults, packet_faults, word_is_outside, packet_is_outside, variable_faults, faults}
 use Rattle.csdn_types.specs.declared.terms.Use.TheVariants.{InFormula}
 use Rattle.std.proofs.lemmas.Bool.Decides.{nat_tests}
 use Rattle.csdn_types.specs.Scope.{relation_named, bound}
@@ -36,7 +40,6 @@ use Rattle.csdn_tree.specs.declared.syntax.FlowWord.TheVariants.{Ft, Sent}
 use Rattle.csdn_tree.specs.declared.syntax.RawFlow.{RawFlow}
 use Rattle.csdn_tree.specs.declared.syntax.RawPacket.{RawPacket}
 use Rattle.csdn_tree.specs.RawTree.{raw_not, raw_and, raw_or, raw_implies, raw_iff, raw_forall, raw_exists}
-use Rattle.csdn_types.proofs.Lists.{map-snoc, length-mapped}
 use Rattle.csdn_core.specs.declared.syntax.Formula.{Formula}
 use Rattle.csdn_tree.specs.Places.{place as place_of}
 
@@ -86,17 +89,6 @@ meaning_has s S part (Port k) numeral known is =
     let same : record { term = PortTerm k.number; sort = Pr } ≡ known = cc in
     subst (Has S (binds_of s)) same (refl, numeral)
 
-sorts_agree : (a b : Sort) → same_sort a b ≡ true → a ≡ b
-sorts_agree Sw Sw same = refl
-sorts_agree Ho Ho same = refl
-sorts_agree Pr Pr same = refl
-sorts_agree Sw Ho same = absurd cc
-sorts_agree Sw Pr same = absurd cc
-sorts_agree Ho Sw same = absurd cc
-sorts_agree Ho Pr same = absurd cc
-sorts_agree Pr Sw same = absurd cc
-sorts_agree Pr Ho same = absurd cc
-
 pub no_fault : (b : Bool) (e : SortRefusal) → fault_if (not b) e ≡ [] → b ≡ true
 no_fault true e free = refl
 no_fault false e free = absurd cc
@@ -104,7 +96,7 @@ no_fault false e free = absurd cc
 known_has : (S : Signature) (Γ : List Bind) (at : ℕ) (sort : Sort) (k : Option SortedTerm) → ((known : SortedTerm) → k ≡ Some known → Has S Γ known) → sort_faults at sort k ≡ [] → HasSort S Γ sort (known_term k)
 known_has S Γ at sort None has free = absurd cc
 known_has S Γ at sort (Some known) has free =
-    let same : known.sort ≡ sort = sorts_agree known.sort sort (no_fault (same_sort known.sort sort) (WrongSort at) free) in
+    let same : known.sort ≡ sort = same_sort-is known.sort sort (no_fault (same_sort known.sort sort) (WrongSort at) free) in
     subst (λ x. HasSort S Γ x known.term) same (has known refl)
 
 -- a term that breaks no rule has its sort
@@ -138,8 +130,9 @@ pub fault_free : (b : Bool) (e : SortRefusal) → fault_if b e ≡ [] → b ≡ 
 fault_free true e free = absurd cc
 fault_free false e free = refl
 
-pub lengths_agree : (m n : ℕ) → (m == n) ≡ true → m ≡ n
-lengths_agree m n same = grind (arith, nat_tests)
+-- a limit that is kept
+pub below : (m n : ℕ) (e : SortRefusal) → fault_if (nat_le m n) e ≡ [] → n < m
+below m n e free = let b = fault_free (nat_le m n) e free in grind (arith, nat_tests)
 
 -- a declared relation, with its faults
 pub use_is_atom : (place : Place) (s : Scope) (S : Signature) → IsPart s S → (at : ℕ) (ts : List RawTerm) (id : ℕ) (d : Option Relation) → slice_get s.relations id ≡ d → HaveNumerals S ts → use_faults (InFormula place) s at ts d ≡ [] → IsAtom S place (binds_of s) (pred.Stored (record { 0 = id })) (terms_of s ts)
@@ -149,7 +142,7 @@ use_is_atom place s S part at ts id (Some d) is numerals free =
     let allowed = fault_if (is_forbidden (InFormula place) d) (NotAllowed at) in
     let rest = free_right arity (allowed ++ terms_faults s d.sorts ts) free in
     let stands : slice_get S.relations id ≡ Some d = part.relations id d is in
-    let many : length ts ≡ length d.sorts = lengths_agree (length ts) (length d.sorts) (no_fault (length ts == length d.sorts) (WrongArity at) (free_left arity (allowed ++ terms_faults s d.sorts ts) free)) in
+    let many : length ts ≡ length d.sorts = eqb-true (length ts) (length d.sorts) (no_fault (length ts == length d.sorts) (WrongArity at) (free_left arity (allowed ++ terms_faults s d.sorts ts) free)) in
     record {
       sorts = d.sorts;
       declared = rw stands refl;
@@ -235,15 +228,10 @@ pub part_bound : (s : Scope) (S : Signature) (name : RawName) (sort : Sort) → 
 part_bound s S name sort part = record { relations = part.relations; constants = part.constants }
 
 pub room_left : (s : Scope) (name : RawName) → variable_faults s name ≡ [] → length (map bind_of s.variables) < most_variables
-room_left s name free =
-    let full : nat_le most_variables (length s.variables) ≡ false = fault_free (nat_le most_variables (length s.variables)) (TooMany name.at) (free_right (fault_if (is_some (named s name.text)) (Duplicate name.at)) _ free) in
-    rw length-mapped (below_most (length s.variables) full)
-  where
-    below_most : (n : ℕ) → nat_le 24 n ≡ false → n < 24
-    below_most n full = grind (arith, nat_tests)
+room_left s name free = rw length-map (below most_variables (length s.variables) (TooMany name.at) (free_right (fault_if (is_some (named s name.text)) (Duplicate name.at)) _ free))
 
 pub in_body : (S : Signature) (place : Place) (s : Scope) (name : RawName) (sort : Sort) (q : Formula) → IsSorted S place (binds_of (bound s name sort)) q → IsSorted S place (binds_of s ++ record { var = next_var s; sort = sort } ∷ []) q
-in_body S place s name sort q sorted = subst (λ Γ. IsSorted S place Γ q) (map-snoc bind_of s.variables _) sorted
+in_body S place s name sort q sorted = subst (λ Γ. IsSorted S place Γ q) (map-append bind_of s.variables _) sorted
 
 pub typed_is_sorted : (S : Signature) (place : Place) (s : Scope) (p : RawFormula) → IsPart s S → FormulaNumerals S p → faults place s p ≡ [] → IsSorted S place (binds_of s) (typed s p)
 unfolding FormulaNumerals faults typed IsSorted

@@ -1,6 +1,5 @@
 -- The parts of a program that breaks no rule are well-sorted.
-use Rattle.std.proofs.Common.{◌≡◌, ℕ, ◌+◌, ◌<◌, ◌≤◌, ◌==◌, ◌↔◌, suc, zero, Bool, true, List, [], ◌∷◌, ◌++◌, length, map, flat_map, All, Contains, bytes_eq, refl, sym, ap, ap₂, subst, ◌∙◌, inl, inr, arith}
-use Rattle.std.specs.List.{AllByRecursion as ByRecursion}
+use Rattle.std.proofs.Common.{◌≡◌, ℕ, ◌+◌, ◌<◌, ◌≤◌, ◌==◌, ◌↔◌, suc, zero, Bool, true, List, [], ◌++◌, map, flat_map, Contains, bytes_eq, refl, sym, ap, ap₂, subst, ◌∙◌, inl, inr, arith}
 use Rattle.std.proofs.lemmas.Bool.{cases_eq, eq-eqb, ne_eqb}
 use Rattle.std.proofs.lemmas.Bool.Decides.{Decides-eqb}
 use Rattle.std.proofs.lemmas.List.Elements.{All-append, All-map, All-contains, recursion_from_All}
@@ -19,10 +18,10 @@ use Rattle.csdn_types.specs.Numerals.{with_numerals}
 use Rattle.csdn_types.specs.Programs.{Draft, items_faults, with_items}
 use Rattle.csdn_types.specs.Resolved.{nothing_declared, broken_rules, parts_of_draft, parts_of}
 use Rattle.csdn_types.specs.Signed.{counted}
-use Rattle.csdn_types.proofs.Counts.{passes, passes-true, passes-false, times, times-nil, times-append, times-filter, times-every, times-apart, times-All, times-Contains, Contains-times}
+use Rattle.csdn_types.proofs.Counts.{passes-true, passes-false, times, times-nil, times-append, times-filter, times-every, times-apart, times-All, times-Contains, Contains-times}
 use Rattle.csdn_types.proofs.Rising.{numerals_rise, numerals_have, numerals_only}
-use Rattle.csdn_types.proofs.Gathered.{gathered, gathered-is, Numbered, numbered_items, next_items, all_numerals_of, numerals_of_items}
-use Rattle.csdn_types.proofs.Declared.{Declared, HasName, rows_at, uses, declared-items}
+use Rattle.csdn_types.proofs.Gathered.{gathered-is, Numbered, numbered_items, next_items, numerals_of_items}
+use Rattle.csdn_types.proofs.Declared.{Declared, declared-items}
 use Rattle.csdn_types.proofs.SortedItems.{SortedDraft, sorted-items}
 use Rattle.csdn_types.proofs.NumeralSorts.{Named}
 

@@ -1,11 +1,11 @@
 -- Commands: their rules, and what stands for them.
-use Rattle.std.specs.Prelude.{ℕ, ◌+◌, ◌==◌, nat_le, Bool, true, false, not, List, [], ◌∷◌, ◌++◌, Option, Some, None, unwrap_or, if◌then◌else◌}
+use Rattle.std.specs.Prelude.{ℕ, ◌+◌, not, List, [], ◌∷◌, ◌++◌, unwrap_or}
+use Rattle.csdn_core.specs.Same.{same_term}
 use Rattle.csdn_core.specs.declared.terms.Place.TheVariants.{Handler as InHandler}
 use Rattle.csdn_core.specs.declared.terms.Sort.{Sort}
 use Rattle.csdn_core.specs.declared.terms.Sort.TheVariants.{Sw, Ho, Pr}
 use Rattle.csdn_core.specs.declared.terms.RelId.{RelId}
 use Rattle.csdn_core.specs.declared.terms.Term.{Term}
-use Rattle.csdn_core.specs.declared.terms.Term.TheVariants.{Var, Const, Port}
 use Rattle.csdn_core.specs.declared.syntax.Command.{Command}
 use Rattle.csdn_core.specs.declared.syntax.Command.TheVariants as command
 use Rattle.csdn_tree.specs.declared.names.RawTerm.TheVariants.{Name}
@@ -15,7 +15,6 @@ use Rattle.csdn_types.specs.declared.refusal.SortRefusal.{SortRefusal}
 use Rattle.csdn_types.specs.declared.refusal.SortRefusal.TheVariants.{NotAllowed}
 use Rattle.csdn_tree.specs.declared.syntax.RawFlow.{RawFlow}
 use Rattle.csdn_tree.specs.declared.syntax.RawPacket.{RawPacket}
-use Rattle.csdn_tree.specs.declared.syntax.RawFormula.{RawFormula}
 use Rattle.csdn_tree.specs.declared.syntax.RawCommand.{RawCommand}
 use Rattle.csdn_tree.specs.declared.syntax.RawCommand.TheVariants as c
 use Rattle.csdn_tree.specs.RawTree.{raw_seq, raw_if, raw_pick}
@@ -23,16 +22,9 @@ use Rattle.csdn_tree.specs.Places.{place as place_of}
 use Rattle.csdn_types.specs.declared.own.OwnTerms.{OwnTerms}
 use Rattle.csdn_types.specs.declared.terms.Use.TheVariants.{Write}
 use Rattle.csdn_types.specs.Scope.{Scope, relation_named, bound}
-use Rattle.csdn_types.specs.Typed.{typed, after, term_of, terms_of, flow_of, packet_of, next_var}
+use Rattle.csdn_types.specs.Typed.{typed, term_of, terms_of, flow_of, packet_of, next_var}
 use Rattle.csdn_tree.specs.Binders.{binders, command_binders}
 use Rattle.csdn_types.specs.Faults.{fault_if, term_faults, flow_faults, atom_faults, variable_faults, faults}
-
--- whether two terms are one
-abbrev pub same_term : Term → Term → Bool
-same_term (Var v) (Var w) = v.0 == w.0
-same_term (Const k) (Const l) = k.0 == l.0
-same_term (Port m) (Port n) = m == n
-same_term _ _ = false
 
 -- a term that has to be one of the handler's own
 abbrev pub own_faults : Scope → Sort → Term → RawTerm → List SortRefusal

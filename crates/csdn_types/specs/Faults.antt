@@ -1,10 +1,11 @@
 -- The rules on names and sorts: what is broken, and where, in the order of the text.
-use Rattle.std.specs.Prelude.{ℕ, ◌+◌, ◌==◌, nat_le, Bool, true, false, not, ◌&&◌, ◌||◌, List, [], ◌∷◌, ◌++◌, length, Option, Some, None, is_some, slice_get, if◌then◌else◌}
+use Rattle.std.specs.Prelude.{ℕ, ◌+◌, ◌==◌, nat_le, Bool, true, false, not, List, [], ◌∷◌, ◌++◌, length, Option, Some, None, is_some, slice_get}
 use Rattle.csdn_core.specs.declared.terms.Place.{Place}
-use Rattle.csdn_core.specs.declared.terms.Place.TheVariants.{Topology, Safety, Trans, Handler}
+use Rattle.csdn_core.specs.declared.terms.Place.TheVariants.{Topology, Trans, Handler}
 use Rattle.csdn_core.specs.declared.terms.Sort.{Sort}
 use Rattle.csdn_core.specs.declared.terms.Sort.TheVariants.{Sw, Ho, Pr}
 use Rattle.csdn_core.specs.declared.program.Relation.{Relation}
+use Rattle.csdn_core.specs.Same.{same_sort}
 use Rattle.csdn_core.specs.Sorted.{most_variables}
 use Rattle.csdn_tree.specs.declared.names.RawTerm.TheVariants.{Name}
 use Rattle.csdn_tree.specs.declared.names.RawName.{RawName}
@@ -12,7 +13,7 @@ use Rattle.csdn_tree.specs.declared.names.RawTerm.{RawTerm}
 use Rattle.csdn_types.specs.declared.refusal.SortRefusal.{SortRefusal}
 use Rattle.csdn_types.specs.declared.refusal.SortRefusal.TheVariants.{Duplicate, Unknown, WrongArity, WrongSort, NotAllowed, TooMany}
 use Rattle.csdn_tree.specs.declared.syntax.FlowWord.{FlowWord}
-use Rattle.csdn_tree.specs.declared.syntax.FlowWord.TheVariants.{Ft, Sent}
+use Rattle.csdn_tree.specs.declared.syntax.FlowWord.TheVariants.{Sent}
 use Rattle.csdn_tree.specs.declared.syntax.RawFlow.{RawFlow}
 use Rattle.csdn_tree.specs.declared.syntax.RawPacket.{RawPacket}
 use Rattle.csdn_tree.specs.declared.syntax.RawFormula.{RawFormula}
@@ -29,13 +30,6 @@ use Rattle.csdn_types.specs.Typed.{after}
 abbrev pub fault_if : Bool → SortRefusal → List SortRefusal
 fault_if true fault = fault ∷ []
 fault_if false fault = []
-
--- whether two sorts are one
-abbrev pub same_sort : Sort → Sort → Bool
-same_sort Sw Sw = true
-same_sort Ho Ho = true
-same_sort Pr Pr = true
-same_sort _ _ = false
 
 -- ---- terms
 

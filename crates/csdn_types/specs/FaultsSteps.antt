@@ -1,7 +1,6 @@
 -- The clauses of the rules on formulas, at what the code sees.
-use Rattle.std.specs.Prelude.{◌≡◌, ℕ, ◌+◌, List, [], ◌∷◌, ◌++◌, unwrap_or, refl}
+use Rattle.std.specs.Prelude.{◌≡◌, ℕ, ◌+◌, List, [], ◌++◌, refl}
 use Rattle.csdn_core.specs.declared.terms.Place.{Place}
-use Rattle.csdn_core.specs.declared.terms.Place.TheVariants.{Handler as InHandler}
 use Rattle.csdn_core.specs.declared.terms.Sort.{Sort}
 use Rattle.csdn_core.specs.declared.terms.Sort.TheVariants.{Sw}
 use Rattle.csdn_core.specs.declared.terms.Pred.TheVariants as pred
@@ -15,15 +14,12 @@ use Rattle.csdn_tree.specs.declared.syntax.RawFlow.{RawFlow}
 use Rattle.csdn_tree.specs.declared.syntax.RawPacket.{RawPacket}
 use Rattle.csdn_tree.specs.declared.syntax.RawFormula.{RawFormula}
 use Rattle.csdn_tree.specs.declared.syntax.RawFormula.TheVariants as f
-use Rattle.csdn_tree.specs.declared.syntax.RawCommand.{RawCommand}
 use Rattle.csdn_tree.specs.declared.syntax.RawCommand.TheVariants as c
-use Rattle.csdn_tree.specs.RawTree.{Seq-is, If-is, Pick-is, Not-is, And-is, Or-is, Implies-is, Iff-is, Forall-is, Exists-is}
-use Rattle.csdn_tree.specs.Binders.{binders, command_binders}
+use Rattle.csdn_tree.specs.RawTree.{Not-is, And-is, Or-is, Implies-is, Iff-is, Forall-is, Exists-is}
 use Rattle.csdn_types.specs.declared.refusal.SortRefusal.TheVariants.{NotAllowed}
-use Rattle.csdn_types.specs.declared.own.OwnTerms.{OwnTerms}
-use Rattle.csdn_types.specs.declared.terms.Use.TheVariants.{InFormula, Write}
-use Rattle.csdn_types.specs.Scope.{Scope, bound, relation_named}
-use Rattle.csdn_types.specs.Typed.{after, typed, stored, terms_of, term_of, pred_of, flow_of, packet_of, next_var}
+use Rattle.csdn_types.specs.declared.terms.Use.TheVariants.{InFormula}
+use Rattle.csdn_types.specs.Scope.{Scope, bound}
+use Rattle.csdn_types.specs.Typed.{after}
 use Rattle.csdn_types.specs.Faults.{faults, fault_if, atom_faults, same_faults, term_faults, flow_faults, packet_faults, variable_faults, word_is_outside, packet_is_outside}
 
 pub faults-True : (place : Place) (s : Scope) → faults place s f.True ≡ []

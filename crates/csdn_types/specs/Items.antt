@@ -1,5 +1,5 @@
 -- Declarations and handlers: their rules, and what stands for them.
-use Rattle.std.specs.Prelude.{ℕ, ◌+◌, ◌==◌, nat_le, nat_lt, Bool, true, false, not, List, [], ◌∷◌, ◌++◌, length, map, Option, Some, None, is_some}
+use Rattle.std.specs.Prelude.{ℕ, ◌+◌, ◌==◌, nat_le, nat_lt, not, List, [], ◌∷◌, ◌++◌, length, map, Option, Some, None, is_some}
 use Rattle.csdn_core.specs.declared.terms.Sort.{Sort}
 use Rattle.csdn_core.specs.declared.terms.Sort.TheVariants.{Sw, Ho, Pr}
 use Rattle.csdn_core.specs.declared.terms.RelId.{RelId}
@@ -16,12 +16,10 @@ use Rattle.csdn_tree.specs.declared.syntax.RawPattern.{RawPattern}
 use Rattle.csdn_tree.specs.declared.syntax.RawPattern.TheVariants.{Any, Port}
 use Rattle.csdn_tree.specs.declared.syntax.RawHandler.{RawHandler}
 use Rattle.csdn_types.specs.declared.own.OwnTerms.{OwnTerms}
-use Rattle.csdn_types.specs.declared.scope.Variable.{Variable}
 use Rattle.csdn_types.specs.Scope.{Scope, relation_named, bound}
-use Rattle.csdn_types.specs.Typed.{terms_of, next_var}
+use Rattle.csdn_types.specs.Typed.{terms_of}
 use Rattle.csdn_types.specs.Faults.{fault_if, terms_faults, variable_faults}
-use Rattle.csdn_types.specs.Commands.{command_faults, command_typed, later}
-use Rattle.csdn_tree.specs.Binders.{command_binders}
+use Rattle.csdn_types.specs.Commands.{command_faults, command_typed}
 
 -- ---- relations
 

@@ -3,7 +3,6 @@ use Rattle.std.specs.Prelude.{◌≡◌, ℕ, ◌+◌, nat_le, List, [], ◌∷�
 use Rattle.std.specs.Str.{bytes_eq}
 use Rattle.csdn_core.specs.declared.terms.Place.{Place}
 use Rattle.csdn_core.specs.declared.terms.Place.TheVariants as place
-use Rattle.csdn_core.specs.declared.terms.Sort.{Sort}
 use Rattle.csdn_core.specs.declared.program.StartRow.{StartRow}
 use Rattle.csdn_core.specs.declared.program.Invariant.{Invariant as NamedFormula}
 use Rattle.csdn_core.specs.declared.program.Handler.{Handler as TypedHandler}
@@ -18,7 +17,6 @@ use Rattle.csdn_tree.specs.declared.syntax.RawFormula.{RawFormula}
 use Rattle.csdn_types.specs.Answers.{IsFirst}
 use Rattle.csdn_types.specs.Scope.{Scope, with_relation, with_constant}
 use Rattle.csdn_types.specs.Typed.{typed, after}
-use Rattle.csdn_tree.specs.Binders.{binders}
 use Rattle.csdn_types.specs.Faults.{fault_if, faults}
 use Rattle.csdn_types.specs.Commands.{later}
 use Rattle.csdn_tree.specs.Binders.{command_binders}

@@ -1,17 +1,13 @@
 -- What `resolve` answers.
-use Rattle.std.specs.Prelude.{◌≡◌, ◌⊎◌, ◌≤◌, ◌+◌, ◌*◌, ◌^◌, ℕ, List, [], ◌∷◌, Result, MatchResult}
+use Rattle.std.specs.Prelude.{◌≡◌, ◌⊎◌, ℕ, List, []}
 use Rattle.csdn_core.specs.declared.program.Parts.{Parts}
 use Rattle.csdn_types.specs.declared.refusal.SortRefusal.{SortRefusal}
 use Rattle.csdn_types.specs.declared.refusal.SortRefusal.TheVariants.{Memory}
 use Rattle.csdn_tree.specs.declared.syntax.RawProgram.{RawProgram}
-use Rattle.csdn_types.specs.Scope.{Scope}
-use Rattle.csdn_core.specs.Sorted.{most_numbers}
 use Rattle.csdn_types.specs.Programs.{Draft, items_faults, with_items}
-use Rattle.csdn_tree.specs.Binders.{items_binders}
 use Rattle.csdn_types.specs.Numerals.{with_numerals}
 use Rattle.csdn_tree.specs.Numerals.{items_numerals}
 use Rattle.csdn_types.specs.Order.{IsLeast}
-use Rattle.csdn_tree.specs.Within.{ItemsWithin}
 
 -- before the first item
 abbrev pub nothing_declared : Draft

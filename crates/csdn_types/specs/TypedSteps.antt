@@ -1,9 +1,6 @@
 -- The clauses of what stands for formulas, at what the code sees.
-use Rattle.std.specs.Prelude.{◌≡◌, ℕ, ◌+◌, List, [], ◌∷◌, ◌++◌, unwrap_or, refl}
-use Rattle.csdn_core.specs.declared.terms.Place.{Place}
-use Rattle.csdn_core.specs.declared.terms.Place.TheVariants.{Handler as InHandler}
+use Rattle.std.specs.Prelude.{◌≡◌, ℕ, List, ◌∷◌, unwrap_or, refl}
 use Rattle.csdn_core.specs.declared.terms.Sort.{Sort}
-use Rattle.csdn_core.specs.declared.terms.Sort.TheVariants.{Sw}
 use Rattle.csdn_core.specs.declared.terms.Pred.TheVariants as pred
 use Rattle.csdn_core.specs.declared.syntax.Formula.TheVariants as formula
 use Rattle.csdn_core.specs.declared.syntax.Command.TheVariants as command
@@ -15,13 +12,8 @@ use Rattle.csdn_tree.specs.declared.syntax.RawFlow.{RawFlow}
 use Rattle.csdn_tree.specs.declared.syntax.RawPacket.{RawPacket}
 use Rattle.csdn_tree.specs.declared.syntax.RawFormula.{RawFormula}
 use Rattle.csdn_tree.specs.declared.syntax.RawFormula.TheVariants as f
-use Rattle.csdn_tree.specs.declared.syntax.RawCommand.{RawCommand}
 use Rattle.csdn_tree.specs.declared.syntax.RawCommand.TheVariants as c
-use Rattle.csdn_tree.specs.RawTree.{Seq-is, If-is, Pick-is, Not-is, And-is, Or-is, Implies-is, Iff-is, Forall-is, Exists-is}
-use Rattle.csdn_tree.specs.Binders.{binders, command_binders}
-use Rattle.csdn_types.specs.declared.refusal.SortRefusal.TheVariants.{NotAllowed}
-use Rattle.csdn_types.specs.declared.own.OwnTerms.{OwnTerms}
-use Rattle.csdn_types.specs.declared.terms.Use.TheVariants.{InFormula, Write}
+use Rattle.csdn_tree.specs.RawTree.{Not-is, And-is, Or-is, Implies-is, Iff-is, Forall-is, Exists-is}
 use Rattle.csdn_types.specs.Scope.{Scope, bound, relation_named}
 use Rattle.csdn_types.specs.Typed.{after, typed, stored, terms_of, term_of, pred_of, flow_of, packet_of, next_var}
 

@@ -2,7 +2,7 @@
 ghost use Rattle.std.specs.Prelude.{◌≡◌, ◌≤◌, ◌<◌, ◌+◌, ◌^◌, ◌++◌, OnOk, not, is_some, nat_le, length, unwrap_or};
 ghost use Rattle.csdn_core.specs.declared.terms.Pred.TheVariants.{RcvThis as RcvThisPred};
 ghost use Rattle.csdn_types.specs.Typed.{term_of};
-ghost use Rattle.std.specs.Prelude.{◌∷◌};
+ghost use Rattle.std.specs.Prelude.{[], ◌∷◌};
 ghost use Rattle.csdn_core.specs.declared.syntax.Formula.TheVariants as t;
 ghost use Rattle.csdn_core.specs.Sorted.{most_variables};
 ghost use Rattle.csdn_types.specs.declared.refusal.SortRefusal.TheVariants.{NotAllowed};
@@ -55,6 +55,27 @@ pub fn bind(
     Ok(var)
 }
 
+/// A switch and a packet's terms as a row.
+pub fn packet_row(switch: Term, source: Term, target: Term, ingress: Term) -> Terms
+    ensures { result ≡ switch ∷ source ∷ target ∷ ingress ∷ [] }
+{
+    let mut terms = Terms::new();
+    terms.push(switch);
+    terms.push(source);
+    terms.push(target);
+    terms.push(ingress);
+    terms
+}
+
+/// .. and the port at which it leaves.
+pub fn flow_row(switch: Term, source: Term, target: Term, ingress: Term, egress: Term) -> Terms
+    ensures { result ≡ switch ∷ source ∷ target ∷ ingress ∷ egress ∷ [] }
+{
+    let mut terms = packet_row(switch, source, target, ingress);
+    terms.push(egress);
+    terms
+}
+
 /// The terms of `ft`, `sent`, `install` and `forward`.
 #[tactic(auto, using(crate::proofs::First::first_steps))]
 pub fn flow(scope: &Scope, switch: Term, raw: &RawFlow) -> Result<Terms, SortRefusal>
@@ -64,13 +85,7 @@ pub fn flow(scope: &Scope, switch: Term, raw: &RawFlow) -> Result<Terms, SortRef
     let target = term(scope, Sort::Ho, &raw.target)?;
     let ingress = term(scope, Sort::Pr, &raw.ingress)?;
     let egress = term(scope, Sort::Pr, &raw.egress)?;
-    let mut terms = Terms::new();
-    terms.push(switch);
-    terms.push(source);
-    terms.push(target);
-    terms.push(ingress);
-    terms.push(egress);
-    Ok(terms)
+    Ok(flow_row(switch, source, target, ingress, egress))
 }
 
 #[tactic(auto, using(crate::proofs::First::first_steps))]
@@ -80,12 +95,7 @@ pub fn packet(scope: &Scope, switch: Term, raw: &RawPacket) -> Result<Terms, Sor
     let source = term(scope, Sort::Ho, &raw.source)?;
     let target = term(scope, Sort::Ho, &raw.target)?;
     let ingress = term(scope, Sort::Pr, &raw.ingress)?;
-    let mut terms = Terms::new();
-    terms.push(switch);
-    terms.push(source);
-    terms.push(target);
-    terms.push(ingress);
-    Ok(terms)
+    Ok(packet_row(switch, source, target, ingress))
 }
 
 fn word_is_outside(place: Place, word: FlowWord) -> bool

@@ -6,9 +6,10 @@ ghost use Rattle.csdn_core.specs.declared.terms.Sort.TheVariants.{Sw};
 ghost use Rattle.csdn_types.specs.Answers.{Answers, IsFirst};
 ghost use Rattle.csdn_types.specs.Faults.{fault_if, term_faults, flow_faults};
 ghost use Rattle.csdn_types.specs.Typed.{term_of, flow_of, packet_of};
-ghost use Rattle.csdn_types.specs.Commands.{same_term, own_faults, install_faults, forward_faults, flood_faults};
+ghost use Rattle.csdn_core.specs.Same.{same_term};
+ghost use Rattle.csdn_types.specs.Commands.{own_faults, install_faults, forward_faults, flood_faults};
 
-use crate::atoms::flow;
+use crate::atoms::{flow, flow_row, packet_row};
 use crate::refusal::SortRefusal;
 use crate::scope::Scope;
 use crate::terms::{named_term, term};
@@ -83,13 +84,7 @@ pub fn forward(scope: &Scope, own: &OwnTerms, raw: &RawFlow) -> Result<Terms, So
     let target = own_term(scope, Sort::Ho, own.target, &raw.target)?;
     let ingress = own_term(scope, Sort::Pr, own.ingress, &raw.ingress)?;
     let egress = term(scope, Sort::Pr, &raw.egress)?;
-    let mut terms = Terms::new();
-    terms.push(switch);
-    terms.push(source);
-    terms.push(target);
-    terms.push(ingress);
-    terms.push(egress);
-    Ok(terms)
+    Ok(flow_row(switch, source, target, ingress, egress))
 }
 
 #[tactic(auto, using(crate::proofs::First::first_steps))]
@@ -100,10 +95,5 @@ pub fn flood(scope: &Scope, own: &OwnTerms, raw: &RawPacket) -> Result<Terms, So
     let source = own_term(scope, Sort::Ho, own.source, &raw.source)?;
     let target = own_term(scope, Sort::Ho, own.target, &raw.target)?;
     let ingress = own_term(scope, Sort::Pr, own.ingress, &raw.ingress)?;
-    let mut terms = Terms::new();
-    terms.push(switch);
-    terms.push(source);
-    terms.push(target);
-    terms.push(ingress);
-    Ok(terms)
+    Ok(packet_row(switch, source, target, ingress))
 }

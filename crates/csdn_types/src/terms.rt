@@ -4,7 +4,8 @@ ghost use Rattle.csdn_tree.specs.Places.{place as place_of};
 ghost use Rattle.csdn_tree.specs.declared.names.RawTerm.TheVariants.{Name};
 ghost use Rattle.csdn_types.specs.declared.refusal.SortRefusal.TheVariants.{Unknown};
 ghost use Rattle.csdn_types.specs.Answers.{Answers, IsFirst};
-ghost use Rattle.csdn_types.specs.Faults.{same_sort, term_faults, terms_faults, same_faults, known_faults, sort_faults, atom_faults, is_forbidden as is_forbidden_there, stands_outside as stands_there};
+ghost use Rattle.csdn_core.specs.Same.{same_sort};
+ghost use Rattle.csdn_types.specs.Faults.{term_faults, terms_faults, same_faults, known_faults, sort_faults, atom_faults, is_forbidden as is_forbidden_there, stands_outside as stands_there};
 ghost use Rattle.csdn_types.specs.Typed.{known_term, term_of, terms_of};
 ghost use Rattle.csdn_types.specs.Scope.{meaning, relation_named};
 

@@ -1,6 +1,5 @@
 -- Each binder has a place of its own: there are no more of them than places.
 use Rattle.std.proofs.Common.{ℕ, ◌+◌, ◌≤◌, List, [], ◌∷◌, arith}
-use Rattle.csdn_tree.specs.declared.names.RawTerm.{RawTerm}
 use Rattle.csdn_tree.specs.declared.names.RawTerm.TheVariants.{Name}
 use Rattle.csdn_tree.specs.declared.syntax.RawFormula.{RawFormula}
 use Rattle.csdn_tree.specs.declared.syntax.RawFormula.TheVariants as f
@@ -9,24 +8,19 @@ use Rattle.csdn_tree.specs.declared.syntax.RawCommand.TheVariants as c
 use Rattle.csdn_tree.specs.declared.syntax.RawRow.{RawRow}
 use Rattle.csdn_tree.specs.declared.syntax.RawItem.{RawItem}
 use Rattle.csdn_tree.specs.declared.syntax.RawItem.TheVariants as item
-use Rattle.csdn_tree.specs.Places.{place}
 use Rattle.csdn_tree.specs.RawTree.{raw_not, raw_and, raw_or, raw_implies, raw_iff, raw_forall, raw_exists, raw_seq, raw_if, raw_pick}
-use Rattle.csdn_tree.specs.Within.{TermsWithin, Within, CommandWithin, RowsWithin, port_place, ItemWithin, ItemsWithin}
+use Rattle.csdn_tree.specs.Within.{Within, CommandWithin, RowsWithin, port_place, ItemWithin, ItemsWithin}
+use Rattle.csdn_tree.proofs.Ends.{terms_end}
 use Rattle.csdn_tree.specs.Binders.{binders, command_binders, item_binders, items_binders}
-
-terms_end : (ts : List RawTerm) (a b : ℕ) → TermsWithin a ts b → a ≤ b
-unfolding TermsWithin
-terms_end [] a b h = h
-terms_end (t ∷ ts) a b h = omega (arith, h.0, terms_end ts (place t + 1) b h.1)
 
 formula_fewer : (p : RawFormula) (a b : ℕ) → Within a p b → a + binders p ≤ b
 unfolding Within binders
 formula_fewer f.True a b h = omega (arith, h)
 formula_fewer f.False a b h = omega (arith, h)
-formula_fewer (f.Atom name ts) a b h = omega (arith, h.0, terms_end ts (name.at + 1) b h.1)
-formula_fewer (f.Same t u) a b h = omega (arith, terms_end (t ∷ u ∷ []) a b h)
-formula_fewer (f.Flow at word w) a b h = omega (arith, h.0, h.1, terms_end (w.source ∷ w.target ∷ w.ingress ∷ w.egress ∷ []) (at + 1) b h.2)
-formula_fewer (f.RcvThis at w) a b h = omega (arith, h.0, h.1, terms_end (w.source ∷ w.target ∷ w.ingress ∷ []) (at + 1) b h.2)
+formula_fewer (f.Atom name ts) a b h = omega (arith, h.0, terms_end (name.at + 1) b ts h.1)
+formula_fewer (f.Same t u) a b h = omega (arith, terms_end a b (t ∷ u ∷ []) h)
+formula_fewer (f.Flow at word w) a b h = omega (arith, h.0, h.1, terms_end (at + 1) b (w.source ∷ w.target ∷ w.ingress ∷ w.egress ∷ []) h.2)
+formula_fewer (f.RcvThis at w) a b h = omega (arith, h.0, h.1, terms_end (at + 1) b (w.source ∷ w.target ∷ w.ingress ∷ []) h.2)
 formula_fewer (raw_not p) a b h = formula_fewer p a b h
 formula_fewer (raw_and p q) a b h = omega (arith, formula_fewer p a h.0 h.1, formula_fewer q h.0 b h.2)
 formula_fewer (raw_or p q) a b h = omega (arith, formula_fewer p a h.0 h.1, formula_fewer q h.0 b h.2)
@@ -42,16 +36,16 @@ command_fewer (raw_seq x y) a b h = omega (arith, command_fewer x a h.0 h.1, com
 command_fewer (raw_if p x y) a b h = omega (arith, formula_fewer p a h.0 h.2, command_fewer x h.0 h.1 h.3, command_fewer y h.1 b h.4)
 command_fewer (raw_pick name sort p x y) a b h =
     omega (arith, h.2, formula_fewer p (name.at + 1) h.0 h.3, command_fewer x h.0 h.1 h.4, command_fewer y h.1 b h.5)
-command_fewer (c.Insert name ts) a b h = omega (arith, h.0, terms_end ts (name.at + 1) b h.1)
-command_fewer (c.Remove name ts) a b h = omega (arith, h.0, terms_end ts (name.at + 1) b h.1)
-command_fewer (c.Install w) a b h = omega (arith, terms_end (Name w.switch ∷ w.source ∷ w.target ∷ w.ingress ∷ w.egress ∷ []) a b h)
-command_fewer (c.Forward w) a b h = omega (arith, terms_end (Name w.switch ∷ w.source ∷ w.target ∷ w.ingress ∷ w.egress ∷ []) a b h)
-command_fewer (c.Flood w) a b h = omega (arith, terms_end (Name w.switch ∷ w.source ∷ w.target ∷ w.ingress ∷ []) a b h)
+command_fewer (c.Insert name ts) a b h = omega (arith, h.0, terms_end (name.at + 1) b ts h.1)
+command_fewer (c.Remove name ts) a b h = omega (arith, h.0, terms_end (name.at + 1) b ts h.1)
+command_fewer (c.Install w) a b h = omega (arith, terms_end a b (Name w.switch ∷ w.source ∷ w.target ∷ w.ingress ∷ w.egress ∷ []) h)
+command_fewer (c.Forward w) a b h = omega (arith, terms_end a b (Name w.switch ∷ w.source ∷ w.target ∷ w.ingress ∷ w.egress ∷ []) h)
+command_fewer (c.Flood w) a b h = omega (arith, terms_end a b (Name w.switch ∷ w.source ∷ w.target ∷ w.ingress ∷ []) h)
 
 rows_end : (rs : List RawRow) (a b : ℕ) → RowsWithin a rs b → a ≤ b
 unfolding RowsWithin
 rows_end [] a b h = h
-rows_end (row ∷ rows) a b h = omega (arith, h.1, terms_end row.terms (row.at + 1) h.0 h.2, rows_end rows h.0 b h.3)
+rows_end (row ∷ rows) a b h = omega (arith, h.1, terms_end (row.at + 1) h.0 row.terms h.2, rows_end rows h.0 b h.3)
 
 item_fewer : (x : RawItem) (a b : ℕ) → ItemWithin a x b → a + item_binders x ≤ b
 item_fewer (item.Relation x) a b h = omega (arith, h.0, rows_end x.rows (x.name.at + 1) b h.1)

@@ -1,6 +1,7 @@
 -- The names in the value of whatever the grammar derives are names, the numerals are those of ports, and no `static`
 -- relation has rows.
 use Rattle.std.proofs.Common.{◌≡◌, ℕ, List, [], ◌∷◌, ◌++◌, Option, Some, None, inl, inr, subst, refl, sym, true≢false}
+use Rattle.std.proofs.ByRecursion.{All-append}
 use Rattle.std.specs.List.{AllByRecursion as ByRecursion}
 use Rattle.csdn_core.specs.declared.terms.Sort.{Sort}
 use Rattle.csdn_core.specs.Names.{IsName}
@@ -31,10 +32,6 @@ use Rattle.csdn_text.specs.Derives.Derives.{nothing, one, by_rule}
 use Rattle.text_facts.proofs.Tokens.{IsFine, AreFine}
 use Rattle.text_facts.proofs.Placed.{before, before-append}
 
-append : {X : Type 0} (P : X → Type 0) (xs ys : List X) → ByRecursion P xs → ByRecursion P ys → ByRecursion P (xs ++ ys)
-append P [] ys h k = k
-append P (x ∷ xs) ys h k = (h.0, append P xs ys h.1 k)
-
 -- numerals of ports
 abbrev pub Ports : List ℕ → Type 0
 Ports ns = ByRecursion IsNumeral ns
@@ -43,7 +40,7 @@ abbrev pub Names : List (List ℕ) → Type 0
 Names xs = ByRecursion IsName xs
 
 two : (ms ns : List ℕ) → Ports ms → Ports ns → Ports (ms ++ ns)
-two = append IsNumeral
+two = All-append IsNumeral
 
 three : (s t i : RawTerm) → Ports (term_numerals s) → Ports (term_numerals t) → Ports (term_numerals i) → Ports (term_numerals s ++ (term_numerals t ++ term_numerals i))
 three s t i h j k = two (term_numerals s) (term_numerals t ++ term_numerals i) h (two (term_numerals t) (term_numerals i) j k)
@@ -221,9 +218,9 @@ Keeps n r = (us : Values r.parts) → Row r.parts us → Fine n (made r.parts r.
 
 keeps : (n : Nonterminal) (r : Rule n) → IsRule n r → Keeps n r
 unfolding formula_numerals command_numerals
-keeps program r (inl e) = subst (Keeps program) e (λ us g. (append IsName (item_names us.0) (items_names us.1.0) g.0.0 g.1.0.0, two (item_numerals us.0) (items_numerals us.1.0) g.0.1 g.1.0.1, (g.0.2, g.1.0.2)))
+keeps program r (inl e) = subst (Keeps program) e (λ us g. (All-append IsName (item_names us.0) (items_names us.1.0) g.0.0 g.1.0.0, two (item_numerals us.0) (items_numerals us.1.0) g.0.1 g.1.0.1, (g.0.2, g.1.0.2)))
 keeps program r (inr (a)) = absurd a
-keeps items r (inl e) = subst (Keeps items) e (λ us g. (append IsName (item_names us.0) (items_names us.1.0) g.0.0 g.1.0.0, two (item_numerals us.0) (items_numerals us.1.0) g.0.1 g.1.0.1, (g.0.2, g.1.0.2)))
+keeps items r (inl e) = subst (Keeps items) e (λ us g. (All-append IsName (item_names us.0) (items_names us.1.0) g.0.0 g.1.0.0, two (item_numerals us.0) (items_numerals us.1.0) g.0.1 g.1.0.1, (g.0.2, g.1.0.2)))
 keeps items r (inr (inl e)) = subst (Keeps items) e (λ us g. (tt, tt, tt))
 keeps items r (inr (inr (a))) = absurd a
 keeps item r (inl e) = subst (Keeps item) e (λ us g. g.0)

@@ -1,5 +1,6 @@
 -- The places in the value of whatever the grammar derives rise in the order of its tokens.
 use Rattle.std.proofs.Common.{◌≡◌, ℕ, ◌+◌, ◌<◌, ◌≤◌, List, [], ◌∷◌, ◌++◌, Option, Some, None, inl, inr, refl, subst, ap, arith}
+use Rattle.std.proofs.Math.Nat.{le_refl}
 use Rattle.csdn_core.specs.declared.terms.Sort.{Sort}
 use Rattle.csdn_tokens.specs.declared.Token.{Token}
 use Rattle.csdn_tree.specs.declared.names.RawName.{RawName}
@@ -25,9 +26,6 @@ use Rattle.csdn_text.specs.Derives.{Mark, IsRule, Derives}
 use Rattle.csdn_text.specs.Derives.Derives.{nothing, one, by_rule}
 use Rattle.text_facts.proofs.Tokens.{Rise}
 use Rattle.text_facts.proofs.Widen.{widen_terms, widen_formula, widen_command, widen_rows, widen_item, widen_items}
-
-same : (n : ℕ) → n ≤ n
-same n = omega arith
 
 abbrev flow_list : FlowTerms → List RawTerm
 flow_list ts = ts.source ∷ ts.target ∷ ts.ingress ∷ ts.egress ∷ []
@@ -137,19 +135,19 @@ unfolding Within
 within_iff p q a m b h k = rw Iff-is (m, h, k)
 
 joined_and : (p : RawFormula) (tail : Option RawFormula) (a m b : ℕ) → Within a p m → WithinIf m tail b → Within a (joined f.And p tail) b
-joined_and p None a m b h k = widen_formula p a m a b (same a) k h
+joined_and p None a m b h k = widen_formula p a m a b (le_refl a) k h
 joined_and p (Some q) a m b h k = within_and p q a m b h k
 
 joined_or : (p : RawFormula) (tail : Option RawFormula) (a m b : ℕ) → Within a p m → WithinIf m tail b → Within a (joined f.Or p tail) b
-joined_or p None a m b h k = widen_formula p a m a b (same a) k h
+joined_or p None a m b h k = widen_formula p a m a b (le_refl a) k h
 joined_or p (Some q) a m b h k = within_or p q a m b h k
 
 joined_implies : (p : RawFormula) (tail : Option RawFormula) (a m b : ℕ) → Within a p m → WithinIf m tail b → Within a (joined f.Implies p tail) b
-joined_implies p None a m b h k = widen_formula p a m a b (same a) k h
+joined_implies p None a m b h k = widen_formula p a m a b (le_refl a) k h
 joined_implies p (Some q) a m b h k = within_implies p q a m b h k
 
 joined_iff : (p : RawFormula) (tail : Option RawFormula) (a m b : ℕ) → Within a p m → WithinIf m tail b → Within a (joined f.Iff p tail) b
-joined_iff p None a m b h k = widen_formula p a m a b (same a) k h
+joined_iff p None a m b h k = widen_formula p a m a b (le_refl a) k h
 joined_iff p (Some q) a m b h k = within_iff p q a m b h k
 
 widen_if : (p : Option RawFormula) (a b c d : ℕ) → c ≤ a → b ≤ d → WithinIf a p b → WithinIf c p d
@@ -164,15 +162,15 @@ quantified_within q.Some x s p a b h k = rw Exists-is (h, k)
 widen_rest : (x : AtomRest) (a b c d : ℕ) → c ≤ a → b ≤ d → RestWithin a x b → RestWithin c x d
 widen_rest (r.Row ts) a b c d l r h = widen_terms ts a b c d l r h
 widen_rest (r.Same u) a b c d l r h = widen_terms (u ∷ []) a b c d l r h
-widen_rest (r.Flow at word ts) a b c d l r h = (omega (arith, l, h.0), widen_terms (flow_list ts) (at + 1) b (at + 1) d (same (at + 1)) r h.1)
-widen_rest (r.RcvThis at ts) a b c d l r h = (omega (arith, l, h.0), widen_terms (packet_list ts) (at + 1) b (at + 1) d (same (at + 1)) r h.1)
+widen_rest (r.Flow at word ts) a b c d l r h = (omega (arith, l, h.0), widen_terms (flow_list ts) (at + 1) b (at + 1) d (le_refl (at + 1)) r h.1)
+widen_rest (r.RcvThis at ts) a b c d l r h = (omega (arith, l, h.0), widen_terms (packet_list ts) (at + 1) b (at + 1) d (le_refl (at + 1)) r h.1)
 
 atom_within : (x : RawName) (rest : AtomRest) (a m n b : ℕ) → a ≤ x.at → x.at < m → n ≤ b → RestWithin m rest n → Within a (atom_of x rest) b
 unfolding Within TermsWithin
 atom_within x (r.Row ts) a m n b h k e w = (h, widen_terms ts m n (x.at + 1) b (omega (arith, k)) e w)
 atom_within x (r.Same u) a m n b h k e w = (h, (omega (arith, k, w.0), omega (arith, w.1, e)))
-atom_within x (r.Flow at word ts) a m n b h k e w = (h, omega (arith, k, w.0), widen_terms (flow_list ts) (at + 1) n (at + 1) b (same (at + 1)) e w.1)
-atom_within x (r.RcvThis at ts) a m n b h k e w = (h, omega (arith, k, w.0), widen_terms (packet_list ts) (at + 1) n (at + 1) b (same (at + 1)) e w.1)
+atom_within x (r.Flow at word ts) a m n b h k e w = (h, omega (arith, k, w.0), widen_terms (flow_list ts) (at + 1) n (at + 1) b (le_refl (at + 1)) e w.1)
+atom_within x (r.RcvThis at ts) a m n b h k e w = (h, omega (arith, k, w.0), widen_terms (packet_list ts) (at + 1) n (at + 1) b (le_refl (at + 1)) e w.1)
 
 command_within : (x : RawName) (act : Action) (a m n b : ℕ) → a ≤ x.at → x.at < m → n ≤ b → ActionWithin m act n → CommandWithin a (command_of x act) b
 unfolding CommandWithin TermsWithin
@@ -187,7 +185,7 @@ unfolding CommandWithin
 within_seq x y a m b h k = rw Seq-is (m, h, k)
 
 joined_seq : (x : RawCommand) (tail : Option RawCommand) (a m b : ℕ) → CommandWithin a x m → CommandWithinIf m tail b → CommandWithin a (joined c.Seq x tail) b
-joined_seq x None a m b h k = widen_command x a m a b (same a) k h
+joined_seq x None a m b h k = widen_command x a m a b (le_refl a) k h
 joined_seq x (Some y) a m b h k = within_seq x y a m b h k
 
 widen_command_if : (x : Option RawCommand) (a b c d : ℕ) → c ≤ a → b ≤ d → CommandWithinIf a x b → CommandWithinIf c x d
@@ -282,22 +280,22 @@ keeps (binds which) r (inr (a)) = absurd a
 keeps (more_binds which) r (inl e) = subst (Keeps (more_binds which)) e (λ us from to g. widen_formula us.1.0 (us.0.at + 1) (g.1.0) from to (omega (arith, g.0, g.1.2)) (omega (arith, g.0, g.1.2)) g.1.1)
 keeps (more_binds which) r (inr (inl e)) = subst (Keeps (more_binds which)) e (λ us from to g. widen_formula us.1.0 (us.0.at + 1) (g.1.0) from to (omega (arith, g.0, g.1.2)) (omega (arith, g.0, g.1.2)) g.1.1)
 keeps (more_binds which) r (inr (inr (a))) = absurd a
-keeps iff r (inl e) = subst (Keeps iff) e (λ us from to g. joined_iff us.0 us.1.0 from (g.0) to g.1 (widen_if us.1.0 (g.0) (g.2.0) (g.0) to (same (g.0)) (omega (arith, g.2.2)) g.2.1))
+keeps iff r (inl e) = subst (Keeps iff) e (λ us from to g. joined_iff us.0 us.1.0 from (g.0) to g.1 (widen_if us.1.0 (g.0) (g.2.0) (g.0) to (le_refl (g.0)) (omega (arith, g.2.2)) g.2.1))
 keeps iff r (inr (a)) = absurd a
 keeps iff_tail r (inl e) = subst (Keeps iff_tail) e (λ us from to g. widen_formula us.1.0 (us.0.at + 1) (g.1.0) from to (omega (arith, g.0, g.1.2)) (omega (arith, g.0, g.1.2)) g.1.1)
 keeps iff_tail r (inr (inl e)) = subst (Keeps iff_tail) e (λ us from to g. g)
 keeps iff_tail r (inr (inr (a))) = absurd a
-keeps implies r (inl e) = subst (Keeps implies) e (λ us from to g. joined_implies us.0 us.1.0 from (g.0) to g.1 (widen_if us.1.0 (g.0) (g.2.0) (g.0) to (same (g.0)) (omega (arith, g.2.2)) g.2.1))
+keeps implies r (inl e) = subst (Keeps implies) e (λ us from to g. joined_implies us.0 us.1.0 from (g.0) to g.1 (widen_if us.1.0 (g.0) (g.2.0) (g.0) to (le_refl (g.0)) (omega (arith, g.2.2)) g.2.1))
 keeps implies r (inr (a)) = absurd a
 keeps implies_tail r (inl e) = subst (Keeps implies_tail) e (λ us from to g. widen_formula us.1.0 (us.0.at + 1) (g.1.0) from to (omega (arith, g.0, g.1.2)) (omega (arith, g.0, g.1.2)) g.1.1)
 keeps implies_tail r (inr (inl e)) = subst (Keeps implies_tail) e (λ us from to g. g)
 keeps implies_tail r (inr (inr (a))) = absurd a
-keeps either r (inl e) = subst (Keeps either) e (λ us from to g. joined_or us.0 us.1.0 from (g.0) to g.1 (widen_if us.1.0 (g.0) (g.2.0) (g.0) to (same (g.0)) (omega (arith, g.2.2)) g.2.1))
+keeps either r (inl e) = subst (Keeps either) e (λ us from to g. joined_or us.0 us.1.0 from (g.0) to g.1 (widen_if us.1.0 (g.0) (g.2.0) (g.0) to (le_refl (g.0)) (omega (arith, g.2.2)) g.2.1))
 keeps either r (inr (a)) = absurd a
 keeps either_tail r (inl e) = subst (Keeps either_tail) e (λ us from to g. widen_formula us.1.0 (us.0.at + 1) (g.1.0) from to (omega (arith, g.0, g.1.2)) (omega (arith, g.0, g.1.2)) g.1.1)
 keeps either_tail r (inr (inl e)) = subst (Keeps either_tail) e (λ us from to g. g)
 keeps either_tail r (inr (inr (a))) = absurd a
-keeps both r (inl e) = subst (Keeps both) e (λ us from to g. joined_and us.0 us.1.0 from (g.0) to g.1 (widen_if us.1.0 (g.0) (g.2.0) (g.0) to (same (g.0)) (omega (arith, g.2.2)) g.2.1))
+keeps both r (inl e) = subst (Keeps both) e (λ us from to g. joined_and us.0 us.1.0 from (g.0) to g.1 (widen_if us.1.0 (g.0) (g.2.0) (g.0) to (le_refl (g.0)) (omega (arith, g.2.2)) g.2.1))
 keeps both r (inr (a)) = absurd a
 keeps both_tail r (inl e) = subst (Keeps both_tail) e (λ us from to g. widen_formula us.1.0 (us.0.at + 1) (g.1.0) from to (omega (arith, g.0, g.1.2)) (omega (arith, g.0, g.1.2)) g.1.1)
 keeps both_tail r (inr (inl e)) = subst (Keeps both_tail) e (λ us from to g. g)
@@ -325,7 +323,7 @@ keeps packet r (inl e) = subst (Keeps packet) e (λ us from to g. ((omega (arith
 keeps packet r (inr (a)) = absurd a
 keeps block r (inl e) = subst (Keeps block) e (λ us from to g. widen_command us.1.0 (us.0.at + 1) (g.1.0) from to (omega (arith, g.0, g.1.2.0, g.1.2.1)) (omega (arith, g.0, g.1.2.0, g.1.2.1)) g.1.1)
 keeps block r (inr (a)) = absurd a
-keeps commands r (inl e) = subst (Keeps commands) e (λ us from to g. joined_seq us.0 us.1.0 from (g.0) to g.1 (widen_command_if us.1.0 (g.0) (g.2.0) (g.0) to (same (g.0)) (omega (arith, g.2.2)) g.2.1))
+keeps commands r (inl e) = subst (Keeps commands) e (λ us from to g. joined_seq us.0 us.1.0 from (g.0) to g.1 (widen_command_if us.1.0 (g.0) (g.2.0) (g.0) to (le_refl (g.0)) (omega (arith, g.2.2)) g.2.1))
 keeps commands r (inr (a)) = absurd a
 keeps more_commands r (inl e) = subst (Keeps more_commands) e (λ us from to g. widen_command us.0 from (g.0) from to (omega (arith, g.2)) (omega (arith, g.2)) g.1)
 keeps more_commands r (inr (inl e)) = subst (Keeps more_commands) e (λ us from to g. g)
@@ -335,9 +333,9 @@ keeps command r (inr (inl e)) = subst (Keeps command) e (λ us from to g. widen_
 keeps command r (inr (inr (inl e))) = subst (Keeps command) e (λ us from to g. widen_command us.0 from (g.0) from to (omega (arith, g.2)) (omega (arith, g.2)) g.1)
 keeps command r (inr (inr (inr (inl e)))) = subst (Keeps command) e (λ us from to g. command_within us.0 us.1.1.0 from (us.1.0.at + 1) (g.2.1.0) to g.1.0 (omega (arith, g.1.1, g.2.0)) (omega (arith, g.1.0, g.1.1, g.2.0, g.2.1.2.0, g.2.1.2.1)) g.2.1.1)
 keeps command r (inr (inr (inr (inr (a))))) = absurd a
-keeps branch r (inl e) = subst (Keeps branch) e (λ us from to g. if_within us.1.0 us.1.1.0 us.1.1.1.0 from (g.1.0) (g.1.2.0) to (widen_formula us.1.0 (us.0.at + 1) (g.1.0) from (g.1.0) (omega (arith, g.0, g.1.2.2.2)) (same (g.1.0)) g.1.1) g.1.2.1 (widen_command us.1.1.1.0 (g.1.2.0) (g.1.2.2.0) (g.1.2.0) to (same (g.1.2.0)) (omega (arith, g.0, g.1.2.2.2)) g.1.2.2.1))
+keeps branch r (inl e) = subst (Keeps branch) e (λ us from to g. if_within us.1.0 us.1.1.0 us.1.1.1.0 from (g.1.0) (g.1.2.0) to (widen_formula us.1.0 (us.0.at + 1) (g.1.0) from (g.1.0) (omega (arith, g.0, g.1.2.2.2)) (le_refl (g.1.0)) g.1.1) g.1.2.1 (widen_command us.1.1.1.0 (g.1.2.0) (g.1.2.2.0) (g.1.2.0) to (le_refl (g.1.2.0)) (omega (arith, g.0, g.1.2.2.2)) g.1.2.2.1))
 keeps branch r (inr (a)) = absurd a
-keeps choice r (inl e) = subst (Keeps choice) e (λ us from to g. pick_within us.1.0 us.1.1.1.0 us.1.1.1.1.1.0 us.1.1.1.1.1.1.0 us.1.1.1.1.1.1.1.0 from (g.1.2.1.2.1.0) (g.1.2.1.2.1.2.0) to (omega (arith, g.0, g.1.1.0, g.1.1.1, g.1.2.0, g.1.2.1.1, g.1.2.1.2.0, g.1.2.1.2.1.2.2.2)) (widen_formula us.1.1.1.1.1.0 (us.1.1.1.1.0.at + 1) (g.1.2.1.2.1.0) (us.1.0.at + 1) (g.1.2.1.2.1.0) (omega (arith, g.0, g.1.1.0, g.1.1.1, g.1.2.0, g.1.2.1.1, g.1.2.1.2.0, g.1.2.1.2.1.2.2.2)) (same (g.1.2.1.2.1.0)) g.1.2.1.2.1.1) g.1.2.1.2.1.2.1 (widen_command us.1.1.1.1.1.1.1.0 (g.1.2.1.2.1.2.0) (g.1.2.1.2.1.2.2.0) (g.1.2.1.2.1.2.0) to (same (g.1.2.1.2.1.2.0)) (omega (arith, g.0, g.1.1.0, g.1.1.1, g.1.2.0, g.1.2.1.1, g.1.2.1.2.0, g.1.2.1.2.1.2.2.2)) g.1.2.1.2.1.2.2.1))
+keeps choice r (inl e) = subst (Keeps choice) e (λ us from to g. pick_within us.1.0 us.1.1.1.0 us.1.1.1.1.1.0 us.1.1.1.1.1.1.0 us.1.1.1.1.1.1.1.0 from (g.1.2.1.2.1.0) (g.1.2.1.2.1.2.0) to (omega (arith, g.0, g.1.1.0, g.1.1.1, g.1.2.0, g.1.2.1.1, g.1.2.1.2.0, g.1.2.1.2.1.2.2.2)) (widen_formula us.1.1.1.1.1.0 (us.1.1.1.1.0.at + 1) (g.1.2.1.2.1.0) (us.1.0.at + 1) (g.1.2.1.2.1.0) (omega (arith, g.0, g.1.1.0, g.1.1.1, g.1.2.0, g.1.2.1.1, g.1.2.1.2.0, g.1.2.1.2.1.2.2.2)) (le_refl (g.1.2.1.2.1.0)) g.1.2.1.2.1.1) g.1.2.1.2.1.2.1 (widen_command us.1.1.1.1.1.1.1.0 (g.1.2.1.2.1.2.0) (g.1.2.1.2.1.2.2.0) (g.1.2.1.2.1.2.0) to (le_refl (g.1.2.1.2.1.2.0)) (omega (arith, g.0, g.1.1.0, g.1.1.1, g.1.2.0, g.1.2.1.1, g.1.2.1.2.0, g.1.2.1.2.1.2.2.2)) g.1.2.1.2.1.2.2.1))
 keeps choice r (inr (a)) = absurd a
 keeps otherwise r (inl e) = subst (Keeps otherwise) e (λ us from to g. widen_command us.1.0 (us.0.at + 1) (g.1.0) from to (omega (arith, g.0, g.1.2)) (omega (arith, g.0, g.1.2)) g.1.1)
 keeps otherwise r (inr (inl e)) = subst (Keeps otherwise) e (λ us from to g. g)
@@ -366,7 +364,7 @@ Stood limit ss vs from rest = (to : ℕ) × Row ss vs from to × Rise limit to r
 
 pub stood : (limit : ℕ) {d : ℕ} {ss : List Symbol} {ms : List Mark} {vs : Values ss} → Derives d ss ms vs → (from : ℕ) (rest : List Token) → from ≤ limit + 1 → Rise limit from (before ms rest)
     → Stood limit ss vs from rest
-stood limit nothing from rest l h = (from, same from, h, l)
+stood limit nothing from rest l h = (from, le_refl from, h, l)
 stood limit (one {t = t} is later) from rest l h = let s = stood limit later (t.at + 1) rest (omega (arith, h.1)) h.2 in (s.0, (h.0, s.1), s.2, s.3)
 stood limit (by_rule {n = n} {ms = ms} {ms' = ms'} r is {us} inner later) from rest l h =
     let s = stood limit inner from (before ms' rest) l (subst (Rise limit from) (before-append ms ms' rest) h) in

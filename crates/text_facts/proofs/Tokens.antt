@@ -1,13 +1,14 @@
 -- What holds of the tokens that a text falls into.
 use Rattle.std.proofs.Common.{◌≡◌, ℕ, suc, ◌+◌, ◌-◌, ◌*◌, ◌≤◌, Bool, true, false, not, ◌&&◌, ◌||◌, cond, eqb, ltb, List, [], ◌∷◌, length, length-take, map, take, drop, refl, subst, ◌∙◌, ◌⊎◌, inl, inr, arith}
 use Rattle.std.proofs.lemmas.Bool.{ltb-false}
+use Rattle.std.proofs.lemmas.Cmp.{nat_list_eq_equiv}
 use Rattle.std.proofs.lemmas.Str.{digit_value_digit}
 use Rattle.std.proofs.lemmas.List.Sums.{prefix_len-le-length}
 use Rattle.std.proofs.Common.{length-drop}
 use Rattle.std.specs.Prelude.{slice_index, ◌==◌}
 use Rattle.std.specs.Int.{IsInRange}
 use Rattle.std.specs.Str.{bytes_eq}
-use Rattle.std.specs.Str.Parse.{digits_value, digits_value_after}
+use Rattle.std.specs.Str.Parse.{digits_value}
 use Rattle.std.specs.Char.{digit_value, is_ascii_digit, is_ascii_alphabetic}
 use Rattle.std.specs.List.{list_all, list_any, prefix_len}
 use Rattle.csdn_core.specs.Names.{IsName, is_word, is_word_byte, is_reserved}
@@ -18,7 +19,8 @@ use Rattle.csdn_tokens.specs.declared.Token.{Token}
 use Rattle.csdn_tokens.specs.declared.Piece.{Piece}
 use Rattle.csdn_tokens.specs.declared.Piece.TheVariants as p
 use Rattle.csdn_tokens.specs.declared.TheConstants.{RESERVED}
-use Rattle.csdn_tokens.specs.Lex.{same_text, lookup, word_kind, word, number, symbol, piece, kept_text, token_at, Lexes}
+use Rattle.csdn_tokens.specs.Lex.{lookup, word_kind, word, number, symbol, piece, kept_text, token_at, Lexes}
+use Rattle.csdn_tokens.proofs.Digits.{grows}
 use Rattle.csdn_tokens.specs.Lex.Lexes.{end, fault, blank, one}
 
 -- a name is one, and a number is that of a port
@@ -74,20 +76,6 @@ taken_pass P (x ∷ xs) = by (P x) refl (taken_pass P xs)
     by true is h = let e : 1 + prefix_len P xs ≡ suc (prefix_len P xs) = omega arith in rw (e, is, h) refl
     by false is h = refl
 
-either_false : (a b c : Bool) → b ≡ false → (a && b) ≡ false
-either_false true b c h = h
-either_false false b c h = refl
-
-same_symmetric : (xs ys : List ℕ) → same_text ys xs ≡ false → bytes_eq xs ys ≡ false
-same_symmetric [] [] h = absurd cc
-same_symmetric [] (y ∷ ys) h = refl
-same_symmetric (x ∷ xs) [] h = refl
-same_symmetric (x ∷ xs) (y ∷ ys) h = by (eqb y x) refl h (same_symmetric xs ys)
-  where
-    by : (b : Bool) → eqb y x ≡ b → (b && same_text ys xs) ≡ false → (same_text ys xs ≡ false → bytes_eq xs ys ≡ false) → bytes_eq (x ∷ xs) (y ∷ ys) ≡ false
-    by true is e rest = either_false (eqb x y) (bytes_eq xs ys) true (rest e)
-    by false is e rest = let f : eqb x y ≡ false = grind (arith, is) in rw f refl
-
 -- the kind of a word is no `Name` where the table has it, and never `Number`
 abbrev HasNone : Kind → List (List ℕ × Kind) → Type 0
 HasNone kind [] = Unit {0}
@@ -95,26 +83,22 @@ HasNone kind (x ∷ xs) = (x.1 ≡ kind → ⊥) × HasNone kind xs
 
 not_in : (table : List (List ℕ × Kind)) (w : List ℕ) → HasNone k.Name table → lookup table w ≡ k.Name → list_any (bytes_eq w) (map (λ x. x.0) table) ≡ false
 not_in [] w none h = refl
-not_in (x ∷ xs) w none h = by (same_text x.0 w) refl h (not_in xs w none.1)
+not_in (x ∷ xs) w none h = by (bytes_eq x.0 w) refl h (not_in xs w none.1)
   where
-    by : (b : Bool) → same_text x.0 w ≡ b → cond b x.1 (lookup xs w) ≡ k.Name → (lookup xs w ≡ k.Name → list_any (bytes_eq w) (map (λ x. x.0) xs) ≡ false)
+    by : (b : Bool) → bytes_eq x.0 w ≡ b → cond b x.1 (lookup xs w) ≡ k.Name → (lookup xs w ≡ k.Name → list_any (bytes_eq w) (map (λ x. x.0) xs) ≡ false)
         → list_any (bytes_eq w) (map (λ x. x.0) (x ∷ xs)) ≡ false
     by true is e rest = absurd (none.0 e)
-    by false is e rest = rw (same_symmetric w x.0 is, rest e) refl
+    by false is e rest = rw (nat_list_eq_equiv.symm w x.0 ∙ is, rest e) refl
 
 not_number : (table : List (List ℕ × Kind)) (w : List ℕ) → HasNone k.Number table → lookup table w ≡ k.Number → ⊥
 not_number [] w none h = cc
-not_number (x ∷ xs) w none h = by (same_text x.0 w) h (not_number xs w none.1)
+not_number (x ∷ xs) w none h = by (bytes_eq x.0 w) h (not_number xs w none.1)
   where
     by : (b : Bool) → cond b x.1 (lookup xs w) ≡ k.Number → (lookup xs w ≡ k.Number → ⊥) → ⊥
     by true e rest = none.0 e
     by false e rest = rest e
 
 -- ---- numbers
-
-after_more : (n : ℕ) (cs : List ℕ) → n ≤ digits_value_after 10 n cs
-after_more n [] = omega arith
-after_more n (c ∷ cs) = omega (arith, after_more (n * 10 + digit_value c) cs)
 
 digit_some : (c : ℕ) → is_ascii_digit c ≡ true → eqb c 48 ≡ false → 1 ≤ digit_value c
 digit_some c digit other =
@@ -127,7 +111,7 @@ value_some : (b : ℕ) (text : List ℕ) → is_ascii_digit b ≡ true → eqb b
 value_some b text digit other =
     let n = prefix_len is_ascii_digit text in
     let e : 1 + n ≡ suc n = omega arith in
-    rw (digit, e) (omega (arith, digit_some b digit other, after_more (0 * 10 + digit_value b) (take n text)))
+    rw (digit, e) (omega (arith, digit_some b digit other, grows (0 * 10 + digit_value b) (take n text)))
 
 number_by : (a c : Bool) (w m : ℕ) (kind : Kind) (v l : ℕ) → cond (a || c) (p.Bad k.BadNumber) (p.Token k.Number w m) ≡ p.Token kind v l → (a ≡ false) × (c ≡ false) × (w ≡ v) × (k.Number ≡ kind)
 number_by true c w m kind v l h = absurd cc

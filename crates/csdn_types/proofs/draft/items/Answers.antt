@@ -1,5 +1,4 @@
-use Rattle.std.proofs.Common.{◌≡◌, ◌≤◌, ◌+◌, ◌<◌, [], ◌∷◌, ◌++◌, length, drop, get_or, ◌∙◌, arith, sym, ap, subst}
-use Rattle.csdn_types.specs.Programs.{Draft, items_faults, with_items}
+use Rattle.std.proofs.Common.{◌≤◌, ◌+◌, ◌<◌, length, drop, ◌∙◌, arith, sym}
 use Rattle.csdn_tree.specs.Binders.{items_binders, item_binders}
 use Rattle.csdn_core.specs.Sorted.{most_numbers}
 use Rattle.csdn_types.proofs.First.{exit_passes, first_here}
