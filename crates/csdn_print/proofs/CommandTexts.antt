@@ -1,5 +1,5 @@
 -- Each command that prints is read again from its text.
-use Rattle.std.proofs.Common.{◌≡◌, ℕ, suc, ◌+◌, ◌≤◌, Bool, true, false, ◌&&◌, List, [], ◌∷◌, ◌++◌, length, inl, inr, refl, subst, ap, ◌∙◌, append-nil, arith}
+use Rattle.std.proofs.Common.{◌≡◌, ℕ, suc, ◌+◌, ◌≤◌, Bool, true, false, ◌&&◌, List, [], ◌∷◌, ◌++◌, length, inl, inr, refl, subst, ap, ap₂, ◌∙◌, append-nil, arith}
 use Rattle.std.specs.Prelude.{codes}
 use Rattle.std.specs.List.{list_all}
 use Rattle.csdn_core.specs.declared.terms.Sort.{Sort}
@@ -21,7 +21,7 @@ use Rattle.csdn_print.specs.Commands.{inner, is_skip, block_text, otherwise_text
 use Rattle.csdn_print.specs.Placeless.{bare_name, bare_command}
 use Rattle.csdn_print.specs.Steps.{bare_command-Seq, bare_command-If, bare_command-Pick}
 use Rattle.csdn_print.proofs.Prints.{Prints, is_single, CommandPrints}
-use Rattle.csdn_print.proofs.Lexing.{opens, is_blank, IsWord, reserved, begin_is, end_is, colon_is, dot_is, semicolon_is}
+use Rattle.csdn_print.proofs.Lexing.{opens, opens-append, is_blank, IsWord, reserved, begin_is, end_is, colon_is, dot_is, semicolon_is}
 use Rattle.csdn_print.proofs.Lines.{Line, nil, gap, symbol, word, along, by, before, final}
 use Rattle.csdn_print.proofs.WordLines.{Again, name_line, row_again, sort_line}
 use Rattle.csdn_print.proofs.FormulaLines.{SameAs, to_level, flow_again, packet_again}
@@ -248,11 +248,7 @@ pick_reads x s p a b ra rb = single (raw_pick x s p a b) (λ i blanks most d h a
 opens_command : (i : List ℕ) (x : RawCommand) → opens (command_text (32 ∷ i) x) ≡ true
 unfolding command_text
 opens_command i c.Skip = refl
-opens_command i (raw_seq a b) = go (command_text (32 ∷ i) a) (command_text (32 ∷ i) b) (opens_command i a) (opens_command i b)
-  where
-    go : (xs ys : List ℕ) → opens xs ≡ true → opens ys ≡ true → opens (xs ++ ys) ≡ true
-    go [] ys h h' = h'
-    go (x ∷ xs) ys h h' = h
+opens_command i (raw_seq a b) = opens-append (command_text (32 ∷ i) a) (command_text (32 ∷ i) b) (opens_command i a) (opens_command i b)
 opens_command i (raw_if p a b) = refl
 opens_command i (raw_pick x s p a b) = refl
 opens_command i (c.Insert x us) = refl
@@ -260,9 +256,6 @@ opens_command i (c.Remove x us) = refl
 opens_command i (c.Install ts) = refl
 opens_command i (c.Forward ts) = refl
 opens_command i (c.Flood ts) = refl
-
-two : {A B C : Type 0} (op : A → B → C) {a a' : A} {b b' : B} → a ≡ a' → b ≡ b' → op a b ≡ op a' b'
-two op e e' = cc
 
 seq_reads : (a b : RawCommand) → CommandReads a → CommandReads b → CommandReads (raw_seq a b)
 unfolding command_text CommandPrints bare_command is_single
@@ -274,7 +267,7 @@ seq_reads a b ra rb = record {
       record {
         value = c.Seq x.value y.value;
         line = by _ (inl refl) (before x.line (opens_command i b) (final (by _ (inl refl) (final y.line))));
-        same = bare_command-Seq x.value y.value ∙ two c.Seq x.same y.same;
+        same = bare_command-Seq x.value y.value ∙ ap₂ c.Seq x.same y.same;
       };
 }
 

@@ -28,7 +28,7 @@ use Rattle.csdn_text.proofs.Theory.{Within-front, Within-back}
 use Rattle.text_facts.proofs.Tokens.{IsFine, AreFine}
 use Rattle.csdn_print.specs.Formulas.{level}
 use Rattle.csdn_print.specs.Commands.{is_skip}
-use Rattle.csdn_print.proofs.Prints.{NamePrints, TermPrints, TermsPrint, inside, Prints, is_single, CommandPrints, RowsPrint, PatternPrints, ItemPrints, ItemsPrint}
+use Rattle.csdn_print.proofs.Prints.{NamePrints, TermPrints, TermsPrint, inside, inside_least, Prints, is_single, CommandPrints, RowsPrint, PatternPrints, ItemPrints, ItemsPrint}
 
 -- ---- less deep
 
@@ -45,13 +45,6 @@ inside_most : (n own d : ℕ) → inside n own d ≤ d + 1
 inside_most n own d = go (ltb own n)
   where
     go : (x : Bool) → cond x (d + 1) d ≤ d + 1
-    go true = omega arith
-    go false = omega arith
-
-inside_least : (n own d : ℕ) → d ≤ inside n own d
-inside_least n own d = go (ltb own n)
-  where
-    go : (x : Bool) → d ≤ cond x (d + 1) d
     go true = omega arith
     go false = omega arith
 

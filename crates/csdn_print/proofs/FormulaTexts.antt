@@ -1,5 +1,5 @@
 -- Each formula that prints is read again from its text.
-use Rattle.std.proofs.Common.{◌≡◌, ℕ, ◌+◌, ◌≤◌, Bool, true, false, cond, ltb, List, [], ◌∷◌, ◌++◌, length, inl, inr, refl, ap, ◌∙◌, arith}
+use Rattle.std.proofs.Common.{◌≡◌, ℕ, ◌+◌, ◌≤◌, true, false, List, [], ◌∷◌, ◌++◌, length, inl, inr, refl, ap, ap₂, ◌∙◌, arith}
 use Rattle.std.specs.Prelude.{codes}
 use Rattle.csdn_core.specs.declared.terms.Sort.{Sort}
 use Rattle.csdn_tree.specs.declared.names.RawName.{RawName}
@@ -23,7 +23,7 @@ use Rattle.csdn_print.specs.Words.{sort_text, term_text, terms_text, flow_text, 
 use Rattle.csdn_print.specs.Formulas.{level, operand, flow_word, formula_text}
 use Rattle.csdn_print.specs.Placeless.{bare_name, bare_formula}
 use Rattle.csdn_print.specs.Steps.{bare_formula-Not, bare_formula-And, bare_formula-Or, bare_formula-Implies, bare_formula-Iff, bare_formula-Forall, bare_formula-Exists}
-use Rattle.csdn_print.proofs.Prints.{NamePrints, TermPrints, TermsPrint, FlowPrints, PacketPrints, inside, Prints}
+use Rattle.csdn_print.proofs.Prints.{NamePrints, TermPrints, TermsPrint, FlowPrints, PacketPrints, inside, inside_least, Prints}
 use Rattle.csdn_print.proofs.Lexing.{opens, comma_is, colon_is, dot_is, equals_is}
 use Rattle.csdn_print.proofs.Lines.{Line, nil, gap, symbol, arrow, double_arrow, word, by, before, final}
 use Rattle.csdn_print.proofs.WordLines.{Again, name_line, port_line, term_again, row_again, sort_line}
@@ -126,15 +126,8 @@ packet_own place ts room is = record {
 
 -- ---- connectives
 
-inside_le : (needed own d : ℕ) → d ≤ inside needed own d
-inside_le needed own d = go (ltb own needed)
-  where
-    go : (b : Bool) → d ≤ cond b (d + 1) d
-    go true = omega arith
-    go false = omega arith
-
 outer_room : {most : ℕ} (needed own d : ℕ) → inside needed own d ≤ most → d ≤ most
-outer_room needed own d h = let e = inside_le needed own d in omega (arith, e, h)
+outer_room needed own d h = let e = inside_least needed own d in omega (arith, e, h)
 
 not_own : {most own : ℕ} {bytes : List ℕ} {p : RawFormula} (d : ℕ) → Own most (inside 5 own (d + 1)) own bytes p → Own most d 5 (codes "not " ++ operand 5 own bytes) (raw_not p)
 unfolding bare_formula
@@ -153,9 +146,6 @@ not_own {most} {own} {bytes} {p} d h =
           };
     }
 
-two : {A B C : Type 0} (op : A → B → C) {a a' : A} {b b' : B} → a ≡ a' → b ≡ b' → op a b ≡ op a' b'
-two op e e' = cc
-
 and_own : {most o o' : ℕ} {bytes bytes' : List ℕ} {p r : RawFormula} (d : ℕ) → Own most (inside 5 o d) o bytes p → Own most (inside 4 o' (d + 1)) o' bytes' r
     → Own most d 4 (operand 5 o bytes ++ (codes " and " ++ operand 4 o' bytes')) (raw_and p r)
 unfolding bare_formula
@@ -170,7 +160,7 @@ and_own {most} {o} {o'} {bytes} {bytes'} {p} {r} d h h' =
             again = record {
               value = f.And a.again.value b.again.value;
               line = by _ (inl refl) (before a.again.line refl (final (by _ (inl refl) (gap 32 refl (word (codes "and") and_is room refl (gap 32 refl (final b.again.line)))))));
-              same = bare_formula-And a.again.value b.again.value ∙ two f.And a.again.same b.again.same;
+              same = bare_formula-And a.again.value b.again.value ∙ ap₂ f.And a.again.same b.again.same;
             };
           };
     }
@@ -189,7 +179,7 @@ or_own {most} {o} {o'} {bytes} {bytes'} {p} {r} d h h' =
             again = record {
               value = f.Or a.again.value b.again.value;
               line = by _ (inl refl) (before a.again.line refl (final (by _ (inl refl) (gap 32 refl (word (codes "or") or_is room refl (gap 32 refl (final b.again.line)))))));
-              same = bare_formula-Or a.again.value b.again.value ∙ two f.Or a.again.same b.again.same;
+              same = bare_formula-Or a.again.value b.again.value ∙ ap₂ f.Or a.again.same b.again.same;
             };
           };
     }
@@ -208,7 +198,7 @@ implies_own {most} {o} {o'} {bytes} {bytes'} {p} {r} d h h' =
             again = record {
               value = f.Implies a.again.value b.again.value;
               line = by _ (inl refl) (before a.again.line refl (final (by _ (inl refl) (gap 32 refl (arrow room (gap 32 refl (final b.again.line)))))));
-              same = bare_formula-Implies a.again.value b.again.value ∙ two f.Implies a.again.same b.again.same;
+              same = bare_formula-Implies a.again.value b.again.value ∙ ap₂ f.Implies a.again.same b.again.same;
             };
           };
     }
@@ -227,7 +217,7 @@ iff_own {most} {o} {o'} {bytes} {bytes'} {p} {r} d h h' =
             again = record {
               value = f.Iff a.again.value b.again.value;
               line = by _ (inl refl) (before a.again.line refl (final (by _ (inl refl) (gap 32 refl (double_arrow room (gap 32 refl (final b.again.line)))))));
-              same = bare_formula-Iff a.again.value b.again.value ∙ two f.Iff a.again.same b.again.same;
+              same = bare_formula-Iff a.again.value b.again.value ∙ ap₂ f.Iff a.again.same b.again.same;
             };
           };
     }
@@ -281,7 +271,7 @@ room_of d (f.Atom x us) h = h.0
 room_of d (f.Same u v) h = h.0
 room_of d (f.Flow at kind ts) h = h.0
 room_of d (f.RcvThis at ts) h = h.0
-room_of d (raw_not p) h = let e = inside_le 5 (level p) (d + 1) in let e' = room_of (inside 5 (level p) (d + 1)) p h in omega (arith, e, e')
+room_of d (raw_not p) h = let e = inside_least 5 (level p) (d + 1) in let e' = room_of (inside 5 (level p) (d + 1)) p h in omega (arith, e, e')
 room_of d (raw_and p r) h = outer_room 5 (level p) d (room_of (inside 5 (level p) d) p h.0)
 room_of d (raw_or p r) h = outer_room 4 (level p) d (room_of (inside 4 (level p) d) p h.0)
 room_of d (raw_implies p r) h = outer_room 3 (level p) d (room_of (inside 3 (level p) d) p h.0)

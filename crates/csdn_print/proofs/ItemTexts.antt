@@ -1,5 +1,5 @@
 -- Each program that prints is read again from its text.
-use Rattle.std.proofs.Common.{◌≡◌, ℕ, ◌+◌, ◌≤◌, Bool, true, false, cond, List, [], ◌∷◌, ◌++◌, length, map, inl, inr, refl, sym, subst, ap, ◌∙◌, append-nil, arith}
+use Rattle.std.proofs.Common.{◌≡◌, ℕ, ◌+◌, ◌≤◌, Bool, true, false, cond, List, [], ◌∷◌, ◌++◌, length, map, inl, inr, refl, sym, subst, ap, ap₂, ◌∙◌, append-nil, arith}
 use Rattle.std.specs.Prelude.{codes}
 use Rattle.csdn_core.specs.declared.terms.Sort.{Sort}
 use Rattle.csdn_tokens.specs.declared.Kind.TheVariants as k
@@ -172,15 +172,12 @@ item_again (item.Constant x s) room is at = const_again x s room is at
 item_again (item.Invariant kind x p) room is at = invariant_again kind x p is.1 is.0 at
 item_again (item.Handler h) room is at = handler_again h is at
 
-two : {A B C : Type 0} (op : A → B → C) {a a' : A} {b b' : B} → a ≡ a' → b ≡ b' → op a b ≡ op a' b'
-two op e e' = cc
-
 items_again : {most d : ℕ} (xs : List RawItem) → d ≤ most → ItemsPrint most d xs → (at : ℕ) → Again most d at items (items_text xs) (λ vs. map bare_item vs ≡ map bare_item xs)
 items_again [] room are at = record { value = []; line = by _ (inr (inl refl)) nil; same = refl }
 items_again (x ∷ xs) room are at =
     let a = item_again x room are.0 at in
     let b = items_again xs room are.1 (at + length (item_text x) + 1) in
-    record { value = a.value ∷ b.value; line = by _ (inl refl) (before a.line refl (gap 10 refl (final b.line))); same = two (λ v vs. v ∷ vs) a.same b.same }
+    record { value = a.value ∷ b.value; line = by _ (inl refl) (before a.line refl (gap 10 refl (final b.line))); same = ap₂ (λ v vs. v ∷ vs) a.same b.same }
 
 -- a program of one item or more
 program_again : {most d : ℕ} (x : RawItem) (xs : List RawItem) → d ≤ most → ItemsPrint most d (x ∷ xs) → (at : ℕ)
@@ -188,7 +185,7 @@ program_again : {most d : ℕ} (x : RawItem) (xs : List RawItem) → d ≤ most 
 program_again x xs room are at =
     let a = item_again x room are.0 at in
     let b = items_again xs room are.1 (at + length (item_text x) + 1) in
-    record { value = record { items = a.value ∷ b.value }; line = by _ (inl refl) (before a.line refl (gap 10 refl (final b.line))); same = two (λ v vs. record { items = v ∷ vs }) a.same b.same }
+    record { value = record { items = a.value ∷ b.value }; line = by _ (inl refl) (before a.line refl (gap 10 refl (final b.line))); same = ap₂ (λ v vs. record { items = v ∷ vs }) a.same b.same }
 
 -- ---- the text of a program
 

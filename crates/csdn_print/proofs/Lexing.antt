@@ -6,7 +6,8 @@ use Rattle.std.specs.List.{list_all, list_any, prefix_len}
 use Rattle.std.specs.Str.{bytes_eq}
 use Rattle.std.specs.Str.Parse.{digits_value, AllDigits}
 use Rattle.std.proofs.Math.Seq.{take-append_seam, drop-append_seam}
-use Rattle.std.proofs.lemmas.Bool.{le-ltb}
+use Rattle.std.proofs.lemmas.Bool.{le-ltb, and_parts}
+use Rattle.std.proofs.lemmas.Cmp.{nat_list_eq_equiv}
 use Rattle.std.proofs.lemmas.Fmt.{decimal_is_IsNumeral, first_decimal}
 use Rattle.csdn_core.specs.Names.{IsName, is_word, is_word_byte}
 use Rattle.csdn_core.specs.WellSorted.{IsNumeral}
@@ -16,7 +17,7 @@ use Rattle.csdn_tokens.specs.declared.Token.{Token}
 use Rattle.csdn_tokens.specs.declared.Piece.{Piece}
 use Rattle.csdn_tokens.specs.declared.Piece.TheVariants as p
 use Rattle.csdn_tokens.specs.declared.TheConstants.{RESERVED}
-use Rattle.csdn_tokens.specs.Lex.{same_text, lookup, word_kind, word, number, symbol, piece, token_at, Lexes}
+use Rattle.csdn_tokens.specs.Lex.{lookup, word_kind, word, number, symbol, piece, token_at, Lexes}
 use Rattle.csdn_tokens.specs.Lex.Lexes.{fault, blank, one}
 
 -- whether no word goes on here: the text ends, or begins with no letter, digit or underscore
@@ -185,16 +186,6 @@ after_word {at} {rest} {ts} (b ∷ w) kind is stop h = by (is_ascii_alphabetic b
         subst (λ xs. Lexes at (b ∷ (w ++ rest)) (token_at kind at 0 xs ∷ ts)) (take-append_seam (b ∷ w) rest) (one e h')
 
 -- a name that is no reserved word is of the kind of names
-differ : (xs ys : List ℕ) → bytes_eq ys xs ≡ false → same_text xs ys ≡ false
-differ [] [] h = absurd cc
-differ [] (y ∷ ys) h = refl
-differ (x ∷ xs) [] h = refl
-differ (x ∷ xs) (y ∷ ys) h = by (eqb x y) refl (differ xs ys)
-  where
-    by : (v : Bool) → eqb x y ≡ v → (bytes_eq ys xs ≡ false → same_text xs ys ≡ false) → (v && same_text xs ys) ≡ false
-    by true is more = let e : eqb y x ≡ true = grind (arith, is) in more (subst (λ v. (v && bytes_eq ys xs) ≡ false) e h)
-    by false is more = refl
-
 not_found : (table : List (List ℕ × Kind)) (w : List ℕ) → list_any (bytes_eq w) (map (λ x. x.0) table) ≡ false → lookup table w ≡ k.Name
 not_found [] w h = refl
 not_found (x ∷ xs) w h = by (bytes_eq w x.0) refl h (not_found xs w)
@@ -202,7 +193,7 @@ not_found (x ∷ xs) w h = by (bytes_eq w x.0) refl h (not_found xs w)
     by : (v : Bool) → bytes_eq w x.0 ≡ v → (v || list_any (bytes_eq w) (map (λ x. x.0) xs)) ≡ false → (list_any (bytes_eq w) (map (λ x. x.0) xs) ≡ false → lookup xs w ≡ k.Name)
         → lookup (x ∷ xs) w ≡ k.Name
     by true is e more = absurd cc
-    by false is e more = rw (differ x.0 w is) (more e)
+    by false is e more = rw (nat_list_eq_equiv.symm x.0 w ∙ is) (more e)
 
 pub name_is : (w : List ℕ) → IsName w → IsWord w k.Name
 unfolding word_kind
@@ -250,10 +241,6 @@ no_digit_opens (b ∷ bs) h = by (is_ascii_digit b) refl
     by true is = let e : is_word_byte b ≡ true = grind (arith, is) in let f : true ≡ false = cc in absurd cc
     by false is = refl
 
-and_left : (a b : Bool) → (a && b) ≡ true → a ≡ true
-and_left true b h = refl
-and_left false b h = absurd cc
-
 pub after_number : {at : ℕ} {rest : List ℕ} {ts : List Token} (n : ℕ) → IsNumeral n → opens rest ≡ true → Lexes (at + length (decimal n)) rest ts
     → Lexes at (decimal n ++ rest) (token_at k.Number at n (decimal n) ∷ ts)
 after_number {at} {rest} {ts} n is stop h =
@@ -263,7 +250,7 @@ after_number {at} {rest} {ts} n is stop h =
     by : (ds : List ℕ) → 0 < length ds → list_all is_ascii_digit ds ≡ true → digits_value 10 ds ≡ n → 48 < get_or ds 0 0 → Lexes (at + length ds) rest ts → Lexes at (ds ++ rest) (token_at k.Number at n ds ∷ ts)
     by [] some all value first h = absurd (omega (arith, some))
     by (b ∷ w) some all value first h =
-        let digit : is_ascii_digit b ≡ true = and_left (is_ascii_digit b) (list_all is_ascii_digit w) all in
+        let digit : is_ascii_digit b ≡ true = (and_parts (is_ascii_digit b) (list_all is_ascii_digit w) all).0 in
         let e = number_piece b w rest all digit (grind (arith, first)) (omega (arith, value, is.1)) (no_digit_opens rest stop) ∙ ap (λ v. p.Token k.Number v (length (b ∷ w))) value in
         let h' : Lexes (at + length (b ∷ w)) (drop (length (b ∷ w)) ((b ∷ w) ++ rest)) ts = subst (λ xs. Lexes (at + length (b ∷ w)) xs ts) (sym (drop-append_seam (b ∷ w) rest)) h in
         subst (λ xs. Lexes at (b ∷ (w ++ rest)) (token_at k.Number at n xs ∷ ts)) (take-append_seam (b ∷ w) rest) (one e h')

@@ -1,6 +1,6 @@
 -- Trees that print at a depth with no token deeper than most: their names are names, their numerals those of ports, and they
 -- have the shapes that a text gives.
-use Rattle.std.specs.Prelude.{◌≡◌, ℕ, ◌+◌, ◌≤◌, Bool, true, false, nat_lt, if◌then◌else◌, List, [], ◌∷◌}
+use Rattle.std.proofs.Common.{◌≡◌, ℕ, ◌+◌, ◌≤◌, Bool, true, false, nat_lt, if◌then◌else◌, List, [], ◌∷◌, arith}
 use Rattle.csdn_core.specs.Names.{IsName}
 use Rattle.csdn_core.specs.WellSorted.{IsNumeral}
 use Rattle.csdn_tree.specs.declared.names.RawName.{RawName}
@@ -42,6 +42,13 @@ PacketPrints w = NamePrints w.switch × (TermPrints w.source × (TermPrints w.ta
 -- the depth of an operand of a level where another is needed
 abbrev pub inside : (needed own d : ℕ) → ℕ
 inside needed own d = if nat_lt own needed then d + 1 else d
+
+pub inside_least : (needed own d : ℕ) → d ≤ inside needed own d
+inside_least needed own d = go (nat_lt own needed)
+  where
+    go : (b : Bool) → d ≤ (if b then d + 1 else d)
+    go true = omega arith
+    go false = omega arith
 
 unfoldable pub Prints : (most d : ℕ) → RawFormula → Type 0
 Prints most d f.True = d ≤ most
