@@ -5,8 +5,7 @@
 use csdn_core::event::{Event, Match, Out, Packet, Tally};
 use csdn_core::program::Program;
 use csdn_step::{StepRefusal, fire, fire_quiet, initial};
-use csdn_text::parse;
-use csdn_types::resolve::resolve;
+use csdn_types_tests::resolved;
 use net_structs::case::Case;
 use net_structs::network::Network;
 use net_structs::state::State;
@@ -15,18 +14,15 @@ use std::alloc::{AllocError, Global};
 
 /// A program, one of its networks, and a state.
 #[derive(Drop)]
-pub struct Scene {
+struct Scene {
     program: Program,
     network: Network,
     state: State,
 }
 
 /// The scene of two texts; none where one of them is refused.
-pub fn scene_of(alloc: Global, program: &[u8], network: &[u8]) -> Option<Scene> {
-    let Ok(raw) = parse(alloc, program) else {
-        return None;
-    };
-    let Ok(program) = resolve(alloc, &raw) else {
+fn scene_of(alloc: Global, program: &[u8], network: &[u8]) -> Option<Scene> {
+    let Ok(Ok(program)) = resolved(alloc, program) else {
         return None;
     };
     let Ok(case) = read_net(alloc, &program, network) else {
