@@ -1,12 +1,17 @@
 //! A program over one switch, two hosts and two ports.
+ghost use Rattle.std.specs.Prelude.{◌≡◌, IfOk};
+ghost use Rattle.csdn_core.specs.Network.{structure};
+ghost use Rattle.csdn_core.specs.Run.{no_values};
+ghost use Rattle.csdn_core.specs.Truth.{truth as truth_of};
+ghost use Rattle.net_structs.specs.Rows.{held};
+
 use crate::depth::binds_at_most;
 use crate::trouble::Trouble;
 use csdn_core::event::{Event, Packet};
 use csdn_core::program::Program;
 use csdn_core::syntax::Formula;
 use csdn_step::{StepRefusal, fire};
-use csdn_text::parse;
-use csdn_types::resolve::resolve;
+use csdn_types_tests::resolved;
 use net_structs::env::Env;
 use net_structs::network::Network;
 use net_structs::state::State;
@@ -30,8 +35,7 @@ pub struct World {
 impl World {
     /// The program of a text, over the network of these trials.
     pub fn read(alloc: Global, text: &[u8]) -> Result<World, Trouble> {
-        let raw = parse(alloc, text)?;
-        let program = resolve(alloc, &raw)?;
+        let program = resolved(alloc, text)??;
         let case = read_net(alloc, &program, NETWORK)?;
         Ok(World {
             program,
@@ -46,7 +50,9 @@ impl World {
         state: &State,
         packet: &Packet,
         formula: &Formula,
-    ) -> Result<bool, Trouble> {
+    ) -> Result<bool, Trouble>
+        ensures { IfOk result (λ is_true. is_true ≡ truth_of (structure self.now.program self.now.network (held state.now) packet.now) formula.now no_values) }
+    {
         if !binds_at_most(formula, ROOM) {
             return Err(Trouble::Deep);
         }

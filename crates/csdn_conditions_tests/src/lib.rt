@@ -17,13 +17,13 @@ use std::alloc::{AllocError, Global};
 
 /// A condition's kind and class.
 #[derive(Clone, Copy, Debug, PartialEq, Eq)]
-pub struct Listed {
-    pub kind: CondKind,
-    pub class: Class,
+struct Listed {
+    kind: CondKind,
+    class: Class,
 }
 
 /// The conditions of a level in their order; none of a text that is no program.
-pub fn conditions_of(alloc: Global, text: &[u8], level: u8) -> Result<Vec<Listed>, AllocError>
+fn conditions_of(alloc: Global, text: &[u8], level: u8) -> Result<Vec<Listed>, AllocError>
     requires { level ≤ 9 }
 {
     let mut found = Vec::new(alloc);
@@ -38,7 +38,7 @@ pub fn conditions_of(alloc: Global, text: &[u8], level: u8) -> Result<Vec<Listed
 }
 
 /// The class of one condition of level 0; none where there is no such condition, or the text is no program.
-pub fn class_at(alloc: Global, text: &[u8], index: u32) -> Result<Option<Class>, AllocError> {
+fn class_at(alloc: Global, text: &[u8], index: u32) -> Result<Option<Class>, AllocError> {
     let Ok(Ok(program)) = resolved(alloc, text) else {
         return Ok(None);
     };
@@ -50,11 +50,11 @@ pub fn class_at(alloc: Global, text: &[u8], index: u32) -> Result<Option<Class>,
 
 /// The counts of a sentence.
 #[derive(Clone, Copy, Debug, PartialEq, Eq)]
-pub struct Counted {
-    pub nodes: u64,
+struct Counted {
+    nodes: u64,
     /// The constants of the sorts SW, HO and PR: those that the program names, and those that the normal form needs.
-    pub constants: [u64; 3],
-    pub instances: u64,
+    constants: [u64; 3],
+    instances: u64,
 }
 
 /// How many constants of a sort there are: so many copies does one more `forall` of that sort have.
@@ -86,7 +86,7 @@ fn counts_of(alloc: Global, program: &Program, sentence: &Formula) -> Result<Cou
 }
 
 /// The counts of one condition of level 0; none where there is no such condition, it is too large, or the text is no program.
-pub fn counts_at(alloc: Global, text: &[u8], index: u32) -> Result<Option<Counted>, AllocError> {
+fn counts_at(alloc: Global, text: &[u8], index: u32) -> Result<Option<Counted>, AllocError> {
     let Ok(Ok(program)) = resolved(alloc, text) else {
         return Ok(None);
     };
@@ -172,10 +172,9 @@ mod tests {
         }
     }
 
-    #[test]
-    fn lists_the_conditions_of_a_firewall(rt: HostRuntime) -> Result<(), Fail> {
-        let found = conditions_of(rt.alloc(), FIREWALL, 0)?;
-        let wanted = [
+    /// The conditions of level 0 of a program with one safety invariant.
+    fn of_one_invariant() -> [Listed; 4] {
+        [
             inside(CondKind::Network),
             inside(CondKind::Init { k: 0, v: 0 }),
             inside(CondKind::Step {
@@ -186,8 +185,13 @@ mod tests {
                 v: 0,
                 event: EventKind::PktFlow,
             }),
-        ];
-        assert_eq!(rt; found.as_slice(), wanted.as_slice());
+        ]
+    }
+
+    #[test]
+    fn lists_the_conditions_of_a_firewall(rt: HostRuntime) -> Result<(), Fail> {
+        let found = conditions_of(rt.alloc(), FIREWALL, 0)?;
+        assert_eq!(rt; found.as_slice(), of_one_invariant().as_slice());
         Ok(())
     }
 
@@ -217,19 +221,7 @@ mod tests {
     fn lists_the_conditions_of_a_program_without_arguments(rt: HostRuntime) -> Result<(), Fail> {
         let text = b"rel armed(); safety A: not armed(); pktIn(s, src->dst, i) { skip; }";
         let found = conditions_of(rt.alloc(), text, 0)?;
-        let wanted = [
-            inside(CondKind::Network),
-            inside(CondKind::Init { k: 0, v: 0 }),
-            inside(CondKind::Step {
-                v: 0,
-                event: EventKind::PktIn,
-            }),
-            inside(CondKind::Step {
-                v: 0,
-                event: EventKind::PktFlow,
-            }),
-        ];
-        assert_eq!(rt; found.as_slice(), wanted.as_slice());
+        assert_eq!(rt; found.as_slice(), of_one_invariant().as_slice());
         Ok(())
     }
 

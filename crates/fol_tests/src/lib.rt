@@ -11,7 +11,7 @@ use fol_forms::refusal::FormRefusal;
 use std::alloc::Global;
 
 /// The formula of a program's first safety invariant, or where it has none of its first transition invariant.
-pub fn first_formula(program: &Program) -> Option<&Formula> {
+fn first_formula(program: &Program) -> Option<&Formula> {
     let parts = program.parts();
     match parts.safety.get(0) {
         Some(invariant) => Some(&invariant.formula),
@@ -24,14 +24,14 @@ pub fn first_formula(program: &Program) -> Option<&Formula> {
 
 /// Whether the normal form of the program's first formula is in the fragment, the nodes of the formula, and the instances of
 /// its normal form.
-pub fn counts(program: &Program) -> Option<(bool, u64, u64)> {
+fn counts(program: &Program) -> Option<(bool, u64, u64)> {
     let formula = first_formula(program)?;
     let instances = instance_count(program, formula);
     Some((in_fragment(formula), node_count(formula), instances))
 }
 
 /// The nodes of the normal form of the program's first formula, and of that of its negation; 0 where it is too large.
-pub fn normal_nodes(alloc: Global, program: &Program) -> Result<Option<(u64, u64)>, FormRefusal> {
+fn normal_nodes(alloc: Global, program: &Program) -> Result<Option<(u64, u64)>, FormRefusal> {
     let Some(formula) = first_formula(program) else {
         return Ok(None);
     };
@@ -41,7 +41,7 @@ pub fn normal_nodes(alloc: Global, program: &Program) -> Result<Option<(u64, u64
 }
 
 /// The nodes of a form; 0 where it is too large.
-pub fn made_nodes(form: Result<Formula, FormRefusal>) -> Result<u64, FormRefusal> {
+fn made_nodes(form: Result<Formula, FormRefusal>) -> Result<u64, FormRefusal> {
     match form {
         Ok(form) => Ok(node_count(&form)),
         Err(FormRefusal::Large) => Ok(0),
