@@ -97,7 +97,6 @@ const CHECKS: &[Call] = &[
         b"counterexample level 0 condition 5 step B pktIn\nvericon-net 1\nsw 1\nho 1\npr 1\nstate\nt p\nend\n",
         1,
     ),
-    (&["check", "p"], &[b""], b"p refused at 0: Unexpected\n", 3),
     (
         &["check", "p"],
         &[b"rel r(HO); safety A: forall X:SW. r(X);"],
@@ -236,46 +235,68 @@ fn eval_prints_which_invariants_are_true(rt: HostRuntime) -> Result<(), Fail> {
     prints(&rt, rt.alloc(), EVALUATED)
 }
 
-const OTHER_WORDS: &[Call] = &[
-    (&[], &[ARMED], b"usage\n", 6),
-    (&["check", "--log"], &[ARMED], b"usage\n", 6),
-    (&["check", "q"], &[ARMED], b"missing q\n", 5),
+/// A call on a text that blanks fill up to a length: the words, the text and the length of the file `p`, whether the first
+/// write fails after three bytes, what is printed, and the status.
+type Odd = (
+    &'static [&'static str],
+    &'static [u8],
+    usize,
+    bool,
+    &'static [u8],
+    u8,
+);
+
+const ODD_INPUT: &[Odd] = &[
+    (
+        &["check", "p"],
+        b"",
+        0,
+        false,
+        b"p refused at 0: Unexpected\n",
+        3,
+    ),
+    (&["check", "p"], ARMED, 65_536, false, b"yes level 0\n", 0),
+    (
+        &["check", "p"],
+        ARMED,
+        65_537,
+        false,
+        b"p refused at 65536: TooLong\n",
+        3,
+    ),
+    (&["check", "q"], ARMED, 0, false, b"missing q\n", 5),
+    (&[], ARMED, 0, false, b"usage\n", 6),
+    (&["check", "--log"], ARMED, 0, false, b"usage\n", 6),
+    (&["check", "p"], ARMED, 0, true, b"yes", 8),
 ];
 
-#[test]
-fn other_words_are_usage_and_a_file_may_be_missing(rt: HostRuntime) -> Result<(), Fail> {
-    prints(&rt, rt.alloc(), OTHER_WORDS)
-}
-
-#[test]
-fn the_longest_program_is_read_and_a_longer_one_is_not(rt: HostRuntime) -> Result<(), Fail> {
-    let alloc = rt.alloc();
-    let mut program = ARMED.to_vec(alloc)?;
-    for _ in program.len()..65_536 {
-        program.push(b' ')?;
+// A text, and blanks up to a length.
+fn filled_up(alloc: Global, text: &[u8], length: usize) -> Result<Vec<u8>, AllocError> {
+    let mut filled = text.to_vec(alloc)?;
+    for _ in text.len()..length {
+        filled.push(b' ')?;
     }
-    let (text, status) = answer(alloc, &["check", "p"], &[&program])?;
-    assert_eq!(rt; text.as_slice(), b"yes level 0\n".as_slice());
-    assert_eq!(rt; status, 0);
+    Ok(filled)
+}
 
-    program.push(b' ')?;
-    let (text, status) = answer(alloc, &["check", "p"], &[&program])?;
-    assert_eq!(rt;
-        text.as_slice(),
-        b"p refused at 65536: TooLong\n".as_slice()
-    );
-    assert_eq!(rt; status, 3);
-    Ok(())
+// A sink in memory, of which the first write may fail after three bytes.
+fn sink(alloc: Global, fails: bool) -> Result<MemSink, AllocError> {
+    if fails {
+        Ok(MemSink::new(alloc, 3, FaultPlan::new(vec![in alloc; 1]?)))
+    } else {
+        Ok(MemSink::new(alloc, 4096, FaultPlan::none(alloc)))
+    }
 }
 
 #[test]
-fn a_fault_of_the_sink_cuts_the_line_off(rt: HostRuntime) -> Result<(), Fail> {
+fn odd_input_is_answered_by_these_lines_and_statuses(rt: HostRuntime) -> Result<(), Fail> {
     let alloc = rt.alloc();
-    let words = words_of(alloc, &["check", "p"])?;
-    let mut files = files_with(alloc, &[ARMED])?;
-    let plan = FaultPlan::new(vec![in alloc; 1]?);
-    let mut out = MemSink::new(alloc, 3, plan);
-    assert_eq!(rt; check_call(alloc, &words, &mut files, &mut out), 8);
-    assert_eq!(rt; out.bytes(), b"yes".as_slice());
+    for (words, text, length, fails, printed, number) in ODD_INPUT {
+        let words = words_of(alloc, words)?;
+        let mut files = files_with(alloc, &[&filled_up(alloc, text, *length)?])?;
+        let mut out = sink(alloc, *fails)?;
+        assert_eq!(rt; check_call(alloc, &words, &mut files, &mut out), *number);
+        assert_eq!(rt; out.bytes(), *printed);
+    }
     Ok(())
 }
