@@ -20,7 +20,12 @@ pub enum Event {
         o: u64,
     },
     /// The flow rules of one match end, after a time without packets.
-    Expire { s: u64, a: u64, b: u64, i: u64 },
+    Expire {
+        s: u64,
+        a: u64,
+        b: u64,
+        i: u64,
+    },
 }
 
 /// The packet of which formulas may speak: its switch, source, destination and ingress port.
