@@ -6,27 +6,18 @@ use Rattle.csdn_core.specs.declared.terms.Pred.TheVariants.{Sent, RcvThis}
 use Rattle.csdn_core.specs.declared.syntax.Formula.{Formula}
 use Rattle.csdn_core.specs.declared.syntax.Formula.TheVariants as f
 use Rattle.csdn_core.specs.declared.syntax.Command.{Command}
-use Rattle.csdn_core.specs.declared.syntax.Command.TheVariants.{Skip, Insert, Remove, Install, Forward, Flood}
+use Rattle.csdn_core.specs.declared.syntax.Command.TheVariants.{Skip, Insert, Remove, Install, Uninstall, Forward, Flood}
 use Rattle.csdn_core.specs.Tree.{negation, conjunction, disjunction, implication, equivalence, universal, existential, sequence, conditional, choice}
 use Rattle.csdn_core.specs.Truth.{with_var}
 use Rattle.csdn_core.specs.Network.{same_pred}
 use Rattle.csdn_core.specs.Variables.{Variables, BindsOutside}
 use Rattle.csdn_core.specs.Sorted.{bound_in}
 use Rattle.csdn_core.specs.WellSorted.{command_bound_in}
-use Rattle.decision_laws.specs.Vocabulary.{IsIn}
-use Rattle.decision_laws.specs.Clauses.{AreDistinct}
-use Rattle.decision_laws.proofs.Lists.{in_left, in_right, in_both}
 use Rattle.fol_forms.specs.Replace.{replace, same, or_row, not_row, or_flood, is_row, floods}
 use Rattle.fol_forms.specs.Renumber.{binders, renumbered}
 use Rattle.csdn_wp.specs.Preconditions.{wp}
-
--- numbers that are distinct
-
--- no number is in both
-pub distinct_both : (xs ys : List ℕ) (n : ℕ) → AreDistinct (xs ++ ys) → IsIn n xs → IsIn n ys → ⊥
-distinct_both [] ys n d here later = elim here [ ]
-distinct_both (x ∷ xs) ys n d (inl is) later = d.0 (subst (λ m. IsIn m (xs ++ ys)) is (in_right xs ys n later))
-distinct_both (x ∷ xs) ys n d (inr there) later = distinct_both xs ys n d.1 there later
+use Rattle.csdn_core.specs.Members.{IsIn}
+use Rattle.csdn_core.proofs.Members.{in_left, in_right, in_both}
 
 -- a formula that binds nothing of a set
 
@@ -151,5 +142,6 @@ bound_in-wp (choice v s p a b) q n (inr i) = elim (in_both (bound_in p ++ bound_
 bound_in-wp (Insert r ts) q n i = inr (subst (λ xs. IsIn n xs) (bound_in-replace (or_row _ ts) (bound_in-or_row _ ts) q) i)
 bound_in-wp (Remove r ts) q n i = inr (subst (λ xs. IsIn n xs) (bound_in-replace (not_row _ ts) (bound_in-not_row _ ts) q) i)
 bound_in-wp (Install ts) q n i = inr (subst (λ xs. IsIn n xs) (bound_in-replace (or_row _ ts) (bound_in-or_row _ ts) q) i)
+bound_in-wp (Uninstall ts) q n i = inr (subst (λ xs. IsIn n xs) (bound_in-replace (not_row _ ts) (bound_in-not_row _ ts) q) i)
 bound_in-wp (Forward ts) q n i = inr (subst (λ xs. IsIn n xs) (bound_in-replace (or_row _ ts) (bound_in-or_row _ ts) q) i)
 bound_in-wp (Flood ts) q n i = inr (subst (λ xs. IsIn n xs) (bound_in-replace (or_flood ts) (bound_in-or_flood ts) q) i)

@@ -5,7 +5,7 @@ use Rattle.csdn_core.specs.declared.terms.Pred.{Pred}
 use Rattle.csdn_core.specs.declared.syntax.Formula.{Formula}
 use Rattle.csdn_core.specs.declared.syntax.Formula.TheVariants as f
 use Rattle.csdn_core.specs.declared.syntax.Command.{Command}
-use Rattle.csdn_core.specs.declared.syntax.Command.TheVariants.{Skip, Insert, Remove, Install, Forward, Flood}
+use Rattle.csdn_core.specs.declared.syntax.Command.TheVariants.{Skip, Insert, Remove, Install, Uninstall, Forward, Flood}
 use Rattle.csdn_core.specs.Tree.{negation, conjunction, disjunction, implication, equivalence, universal, existential, sequence, conditional, choice}
 use Rattle.csdn_core.specs.Nodes.{nodes}
 use Rattle.fol_forms.specs.declared.close.Bind.{Bind}
@@ -56,6 +56,7 @@ wp_grows (choice v s p a b) q = omega (arith, wp_grows a q)
 wp_grows (Insert r ts) q = replace_grows _ q
 wp_grows (Remove r ts) q = replace_grows _ q
 wp_grows (Install ts) q = replace_grows _ q
+wp_grows (Uninstall ts) q = replace_grows _ q
 wp_grows (Forward ts) q = replace_grows _ q
 wp_grows (Flood ts) q = replace_grows _ q
 

@@ -1,3 +1,4 @@
+pub mod CommandSteps
 pub mod Truths
 pub mod Bounds
 pub mod Sorting

@@ -16,8 +16,7 @@ use Rattle.csdn_core.specs.Network.{same_pred}
 use Rattle.csdn_core.specs.Variables.{is_var, vars_of, BindsOutside}
 use Rattle.csdn_core.specs.Sorted.{Signature, sorts_of, flow_sorts, packet_sorts}
 use Rattle.fol_forms.specs.Replace.{replace, same, or_row, not_row, or_flood, is_row, floods, add_row, drop_row, add_flood, fix_packet}
-use Rattle.fol_forms.specs.Substitution.{Scope, with_sort}
-use Rattle.csdn_wp.specs.SortedIn.{Relations, no_packet, HasSortIn, HaveSortsIn, IsAtomIn, IsSortedIn}
+use Rattle.csdn_core.specs.SortedIn.{Scope, with_sort, Relations, no_rcv_this, HasSortIn, HaveSortsIn, IsAtomIn, IsSortedIn}
 
 module _ (S : Signature) where
   -- a term keeps its sort under a binder of another variable
@@ -112,8 +111,8 @@ module _ (S : Signature) where
         (λ is. ((atom, named), IsSortedIn-floods Γ us have (atom_sorts Γ Sent q flow_sorts us is refl atom))) (λ isnt. (atom, named)))
 
     -- and no atom is of the packet any more
-    pub IsSortedIn-fix_packet : (Γ : Scope) (p : Formula) → HaveSortsIn S Γ packet_sorts ts → BindsOutside (vars_of ts) p → IsSortedIn S R Γ p → IsSortedIn S no_packet Γ (fix_packet p ts)
+    pub IsSortedIn-fix_packet : (Γ : Scope) (p : Formula) → HaveSortsIn S Γ packet_sorts ts → BindsOutside (vars_of ts) p → IsSortedIn S R Γ p → IsSortedIn S no_rcv_this Γ (fix_packet p ts)
     unfolding IsSortedIn
-    IsSortedIn-fix_packet = IsSortedIn-replace R no_packet packet_sorts ts (is_row ts) (λ Γ q us have atom named.
-        either_way (IsSortedIn S no_packet Γ) (same_pred q RcvThis) (same us ts) (f.Atom q us)
-        (λ is. IsSortedIn-same no_packet Γ packet_sorts us ts (atom_sorts Γ RcvThis q packet_sorts us is refl atom) have) (λ isnt. (atom, isnt)))
+    IsSortedIn-fix_packet = IsSortedIn-replace R no_rcv_this packet_sorts ts (is_row ts) (λ Γ q us have atom named.
+        either_way (IsSortedIn S no_rcv_this Γ) (same_pred q RcvThis) (same us ts) (f.Atom q us)
+        (λ is. IsSortedIn-same no_rcv_this Γ packet_sorts us ts (atom_sorts Γ RcvThis q packet_sorts us is refl atom) have) (λ isnt. (atom, isnt)))
