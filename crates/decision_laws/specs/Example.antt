@@ -60,6 +60,7 @@ program = record {
   trans = [];
   handlers = record { port = None; s = variable 2; a = variable 3; b = variable 4; i = variable 5; body = Insert (record { 0 = 0 }) (Var (variable 3) ∷ []) } ∷ [];
   numerals = [];
+  timeout = None;
 }
 
 -- By hand. There are no names. The `exists` of the negated goal need one switch, four hosts (src is 0, dst 1, X 2, Y 3) and
