@@ -42,6 +42,7 @@ fn program(alloc: Global) -> Result<Parts, AllocError> {
         trans: Items::new(alloc),
         handlers: Items::new(alloc),
         numerals: Items::new(alloc),
+        timeout: None,
     })
 }
 

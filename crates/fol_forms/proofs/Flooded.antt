@@ -15,8 +15,9 @@ use Rattle.csdn_core.specs.Truth.{Structure, Assignment, truth, value, values}
 use Rattle.csdn_core.specs.Network.{same_pred, same_cells}
 use Rattle.csdn_core.specs.Execution.{is_flood}
 use Rattle.csdn_core.specs.Variables.{vars_of, BindsOutside}
+use Rattle.csdn_core.specs.SortedIn.{Scope}
 use Rattle.fol_forms.specs.Replace.{floods, or_flood, add_flood}
-use Rattle.fol_forms.specs.Substitution.{Agrees, Scope, KeepsSorts, IsPort, HasEgress, SendsToPorts, with_flood}
+use Rattle.fol_forms.specs.Substitution.{Agrees, KeepsSorts, IsPort, HasEgress, SendsToPorts, with_flood}
 use Rattle.fol_forms.proofs.Replaced.{values-Agrees, AllAtoms-map, IsRight, truth-replace}
 
 module _ (u v w j o s a b i : ℕ) where

@@ -6,6 +6,8 @@ pub mod Equations
 pub mod AtomNodes
 pub mod Replaced
 pub mod Flooded
+pub mod Expired
+mod ExamplesExpire
 pub mod WrittenTruth
 pub mod RenumberTruth
 pub mod Numbered
