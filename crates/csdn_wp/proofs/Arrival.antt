@@ -33,7 +33,7 @@ use Rattle.csdn_wp.specs.declared.vars.PacketVars.{PacketVars}
 use Rattle.csdn_wp.specs.Preconditions.{wp}
 use Rattle.csdn_wp.specs.EventPreconditions.{terms_of, handler_vars, first_vars, is_port, and_also, guard, guarded, member, members, and_later}
 use Rattle.csdn_wp.proofs.Truths.{failing, not_implied, false_side, implied}
-use Rattle.csdn_wp.proofs.Bounds.{binds_outside, bound_in-replace, bound_in-is_row, bound_in-renumbered}
+use Rattle.csdn_wp.proofs.Bounds.{bound_in-replace, bound_in-is_row, bound_in-renumbered}
 use Rattle.csdn_wp.proofs.Coincidence.{truth_alike}
 use Rattle.csdn_wp.proofs.Sorting.{Extends-none, IsSortedIn-more, IsSortedIn-renumber, HaveSortsIn-length, not_free, terms_not}
 use Rattle.csdn_wp.proofs.Sorted.{IsSortedIn-fix_packet}
@@ -43,6 +43,7 @@ use Rattle.csdn_core.specs.Members.{IsIn, AreDistinct}
 use Rattle.csdn_core.proofs.Members.{in_contains}
 use Rattle.csdn_core.specs.SortedIn.{Scope, no_scope, with_sort, any_relation, no_rcv_this, HaveSortsIn, IsSortedIn, scope_of}
 use Rattle.csdn_core.proofs.Scopes.{AreNew, still_none, bind, AreInScope, AreInScope-none, AreInScope-binds, AreNew-binds, AreNew-none}
+use Rattle.fol_forms.proofs.Expired.{binds_outside}
 
 -- whether a packet's port is none of these
 abbrev pub not_among : List ℕ → ℕ → Bool

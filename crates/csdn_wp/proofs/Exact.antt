@@ -92,7 +92,7 @@ module _ (P : Parts) (N : Network) where
     fewer_at Sent ds = refl
     fewer_at RcvThis ds = refl
 
-    fewer_is : with_relations (in_state x) (λ q ds. holds_in P N x Nothing q ds && not (same_pred q r && in_tuple ds)) ≡ in_state (λ q ds. x q ds && not (same_pred q r && in_tuple ds))
+    pub fewer_is : with_relations (in_state x) (λ q ds. holds_in P N x Nothing q ds && not (same_pred q r && in_tuple ds)) ≡ in_state (λ q ds. x q ds && not (same_pred q r && in_tuple ds))
     fewer_is = ap (with_relations (in_state x)) (fun_ext (λ q. fun_ext (λ ds. fewer_at q ds)))
 
   -- the atoms of a relation have as many terms as a tuple of its sorts

@@ -8,8 +8,6 @@ use Rattle.csdn_core.specs.declared.event.Event.TheVariants.{PktFlow}
 use Rattle.csdn_core.specs.declared.event.Packet.TheVariants.{Nothing, At}
 use Rattle.csdn_core.specs.declared.program.Parts.{Parts}
 use Rattle.csdn_core.specs.declared.syntax.Formula.{Formula}
-use Rattle.csdn_core.specs.declared.syntax.Formula.TheVariants.{Atom}
-use Rattle.csdn_core.specs.Tree.{implication}
 use Rattle.csdn_core.specs.Truth.{Assignment, truth, with_var}
 use Rattle.csdn_core.specs.Network.{Network, State, structure}
 use Rattle.csdn_core.specs.Execution.{put}
@@ -17,12 +15,11 @@ use Rattle.csdn_core.specs.Run.{Step, no_values}
 use Rattle.csdn_core.specs.Variables.{vars_of, BindsOutside}
 use Rattle.csdn_core.specs.Sorted.{flow_sorts, packet_sorts}
 use Rattle.csdn_core.specs.WellSorted.{signature}
-use Rattle.fol_forms.specs.Closed.{closed}
 use Rattle.fol_forms.specs.Replace.{add_row, fix_packet, is_row}
 use Rattle.fol_forms.specs.Renumber.{renumber}
-use Rattle.csdn_wp.specs.EventPreconditions.{numbered, terms_of, first_vars, flow_terms, flow_binds, wp_flow}
+use Rattle.csdn_wp.specs.EventPreconditions.{numbered, terms_of, first_vars, flow_terms, for_rules, wp_flow}
 use Rattle.csdn_wp.proofs.Truths.{failing, not_implied, implied}
-use Rattle.csdn_wp.proofs.Bounds.{binds_outside, bound_in-replace, bound_in-is_row, bound_in-renumbered}
+use Rattle.csdn_wp.proofs.Bounds.{bound_in-replace, bound_in-is_row, bound_in-renumbered}
 use Rattle.csdn_wp.proofs.Sorting.{Extends-none, IsSortedIn-more, IsSortedIn-renumber, terms_not}
 use Rattle.csdn_wp.proofs.Sorted.{IsSortedIn-fix_packet, IsSortedIn-add_row}
 use Rattle.csdn_wp.proofs.Exact.{after_put, can_write_sent}
@@ -30,15 +27,16 @@ use Rattle.csdn_wp.proofs.Arrival.{after, fixed_is}
 use Rattle.csdn_core.specs.Members.{IsIn}
 use Rattle.csdn_core.specs.SortedIn.{Scope, no_scope, with_sort, any_relation, no_rcv_this, HaveSortsIn, IsSortedIn}
 use Rattle.csdn_core.proofs.Scopes.{still_none}
+use Rattle.fol_forms.proofs.Expired.{binds_outside}
 
 -- the variables 0 to 4
-abbrev four_scope : Scope
+abbrev pub four_scope : Scope
 four_scope = with_sort (with_sort (with_sort (with_sort no_scope (numbered 0) Sw) (numbered 1) Ho) (numbered 2) Ho) (numbered 3) Pr
 
-abbrev flow_scope : Scope
+abbrev pub flow_scope : Scope
 flow_scope = with_sort four_scope (numbered 4) Pr
 
-far_none : (n : ℕ) → 5 ≤ n → flow_scope n ≡ None
+pub far_none : (n : ℕ) → 5 ≤ n → flow_scope n ≡ None
 far_none n far =
     still_none four_scope (numbered 4) Pr n (λ is. omega (arith, is, far))
     (still_none (with_sort (with_sort (with_sort no_scope (numbered 0) Sw) (numbered 1) Ho) (numbered 2) Ho) (numbered 3) Pr n (λ is. omega (arith, is, far))
@@ -46,35 +44,35 @@ far_none n far =
     (still_none (with_sort no_scope (numbered 0) Sw) (numbered 1) Ho n (λ is. omega (arith, is, far)) (still_none no_scope (numbered 0) Sw n (λ is. omega (arith, is, far)) refl))))
 
 module _ (P : Parts) where
-  have_flow : HaveSortsIn (signature P) flow_scope flow_sorts flow_terms
+  pub have_flow : HaveSortsIn (signature P) flow_scope flow_sorts flow_terms
   unfolding HaveSortsIn
   have_flow = (refl, (refl, (refl, (refl, (refl, tt)))))
 
-  have_packet : HaveSortsIn (signature P) flow_scope packet_sorts (terms_of first_vars)
+  pub have_packet : HaveSortsIn (signature P) flow_scope packet_sorts (terms_of first_vars)
   unfolding HaveSortsIn
   have_packet = (refl, (refl, (refl, (refl, tt))))
 
-  -- what is said of each tuple of `ft`, in terms of the five variables
+  -- what is said of each tuple of `ft`
 
   module _ (N : Network) (x : State) where
     -- the variables stand for the tuple
-    abbrev for_flow : ℕ → ℕ → ℕ → ℕ → ℕ → Assignment
+    abbrev pub for_flow : ℕ → ℕ → ℕ → ℕ → ℕ → Assignment
     for_flow s a b i o = with_var (with_var (with_var (with_var (with_var no_values (numbered 0) s) (numbered 1) a) (numbered 2) b) (numbered 3) i) (numbered 4) o
 
     module _ (p : Formula) where
-      abbrev is_for : ℕ → ℕ → ℕ → ℕ → ℕ → Bool
+      abbrev pub is_for : ℕ → ℕ → ℕ → ℕ → ℕ → Bool
       is_for s a b i o = truth (structure P N x Nothing) p (for_flow s a b i o)
 
-      abbrev is_for_all : Bool
-      is_for_all = truth (structure P N x Nothing) (closed flow_binds (implication (Atom Ft flow_terms) p)) no_values
+      abbrev pub is_for_all : Bool
+      is_for_all = truth (structure P N x Nothing) (for_rules p) no_values
 
-      each_flow : IsTrue is_for_all → (s a b i o : ℕ) → Contains N.switches s → Contains N.hosts a → Contains N.hosts b → Contains N.ports i → Contains N.ports o → IsTrue (x Ft (s ∷ a ∷ b ∷ i ∷ o ∷ [])) → IsTrue (is_for s a b i o)
-      unfolding truth
+      pub each_flow : IsTrue is_for_all → (s a b i o : ℕ) → Contains N.switches s → Contains N.hosts a → Contains N.hosts b → Contains N.ports i → Contains N.ports o → IsTrue (x Ft (s ∷ a ∷ b ∷ i ∷ o ∷ [])) → IsTrue (is_for s a b i o)
+      unfolding truth for_rules
       each_flow h s a b i o in_s in_a in_b in_i in_o there =
           implied (x Ft (s ∷ a ∷ b ∷ i ∷ o ∷ [])) _ (all_at _ N.ports o in_o (all_at _ N.ports i in_i (all_at _ N.hosts b in_b (all_at _ N.hosts a in_a (all_at _ N.switches s in_s h))))) there
 
-      some_flow : IsFalse is_for_all → (s : ℕ) × (a : ℕ) × (b : ℕ) × (i : ℕ) × (o : ℕ) × Contains N.switches s × Contains N.hosts a × Contains N.hosts b × Contains N.ports i × Contains N.ports o × IsTrue (x Ft (s ∷ a ∷ b ∷ i ∷ o ∷ [])) × IsFalse (is_for s a b i o)
-      unfolding truth
+      pub some_flow : IsFalse is_for_all → (s : ℕ) × (a : ℕ) × (b : ℕ) × (i : ℕ) × (o : ℕ) × Contains N.switches s × Contains N.hosts a × Contains N.hosts b × Contains N.ports i × Contains N.ports o × IsTrue (x Ft (s ∷ a ∷ b ∷ i ∷ o ∷ [])) × IsFalse (is_for s a b i o)
+      unfolding truth for_rules
       some_flow h =
           let s = failing _ N.switches h in
           let a = failing _ N.hosts s.2 in
@@ -102,7 +100,7 @@ module _ (P : Parts) where
         (IsSortedIn-more (signature P) any_relation any_relation (λ r named. tt) no_scope flow_scope (Extends-none flow_scope) (renumber q 5) (IsSortedIn-renumber (signature P) any_relation q 5 sorted))
 
     pub flow_sorted : IsSortedIn (signature P) no_rcv_this no_scope (wp_flow q)
-    unfolding wp_flow IsSortedIn
+    unfolding wp_flow for_rules IsSortedIn
     flow_sorted = (
       (record { sorts = flow_sorts; declared = refl; terms = have_flow }, refl),
       IsSortedIn-add_row (signature P) no_rcv_this Sent flow_sorts flow_terms refl flow_scope fixed have_flow fixed_out fixed_sorted,

@@ -17,13 +17,14 @@ use Rattle.csdn_core.specs.Sorted.{bound_in, flow_sorts, packet_sorts}
 use Rattle.csdn_core.specs.WellSorted.{signature, command_bound_in}
 use Rattle.csdn_wp.specs.After.{stands_in}
 use Rattle.csdn_wp.specs.Preconditions.{wp}
-use Rattle.csdn_wp.proofs.Bounds.{binds_outside, bound_in-wp}
+use Rattle.csdn_wp.proofs.Bounds.{bound_in-wp}
 use Rattle.csdn_wp.proofs.Sorting.{IsSortedIn-more, Extends-new, terms_not, not_free}
 use Rattle.csdn_wp.proofs.Sorted.{IsSortedIn-add_row, IsSortedIn-drop_row, IsSortedIn-add_flood}
 use Rattle.csdn_core.proofs.Members.{in_left, in_right, distinct_both}
 use Rattle.csdn_core.specs.Members.{IsIn}
 use Rattle.csdn_core.specs.SortedIn.{Scope, with_sort, Relations, no_rcv_this, HaveSortsIn, IsAtomIn, IsSortedIn}
 use Rattle.csdn_core.proofs.Scopes.{AreNew, AreNew-left, AreNew-right, AreNew-under, AreNew-tail, still_none}
+use Rattle.fol_forms.proofs.Expired.{binds_outside}
 
 module _ (P : Parts) where
   -- a command whose terms have the sorts that their places ask for, and which writes no static relation

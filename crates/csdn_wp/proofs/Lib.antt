@@ -15,6 +15,7 @@ pub mod Eventing
 pub mod Preceding
 pub mod Arrival
 pub mod Flow
+pub mod Expiry
 pub mod Programs
 pub mod Sentences
 pub mod Fitting

@@ -1,10 +1,10 @@
 //! What weakest preconditions are true of.
-ghost use Rattle.std.specs.Prelude.{◌≡◌, ◌≢◌, ℕ, ◌↔◌, List, [], AllPairs, IsTrue, IsFalse};
+ghost use Rattle.std.specs.Prelude.{◌≡◌, ◌≢◌, ℕ, ◌↔◌, List, [], AllPairs, IsTrue, IsFalse, is_some};
 ghost use Rattle.csdn_core.specs.declared.terms.Place.{Place as AnyPlace};
 ghost use Rattle.csdn_core.specs.declared.terms.Place.TheVariants.{Trans};
 ghost use Rattle.csdn_core.specs.declared.event.Packet.{Packet as AnyPacket};
 ghost use Rattle.csdn_core.specs.Variables.{free_in};
-ghost use Rattle.csdn_core.specs.declared.event.Event.TheVariants.{PktIn, PktFlow};
+ghost use Rattle.csdn_core.specs.declared.event.Event.TheVariants.{PktIn, PktFlow, Expire};
 ghost use Rattle.csdn_core.specs.declared.event.Packet.TheVariants.{Nothing, At};
 ghost use Rattle.csdn_core.specs.declared.program.Parts.{Parts as AnyParts};
 ghost use Rattle.csdn_core.specs.declared.syntax.Formula.{Formula as AnyFormula};
@@ -17,7 +17,7 @@ ghost use Rattle.csdn_core.specs.WellSorted.{IsWellSorted, signature};
 ghost use Rattle.decision_laws.specs.Laws.{form_of, words};
 ghost use Rattle.decision_laws.specs.Vocabulary.{fits};
 ghost use Rattle.csdn_wp.specs.Preconditions.{wp};
-ghost use Rattle.csdn_wp.specs.EventPreconditions.{wp_in, wp_flow};
+ghost use Rattle.csdn_wp.specs.EventPreconditions.{wp_in, wp_flow, wp_expire};
 ghost use Rattle.csdn_wp.specs.After.{MayPrecede, IsPrecondition, BreaksBefore};
 ghost use Rattle.csdn_core.specs.SortedIn.{no_scope, any_relation, no_rcv_this, IsSortedIn};
 
@@ -31,7 +31,8 @@ pub fn wp_is_exact()
 {}
 
 /// The precondition of packets that come in is true in a state exactly where the formula is true after each of them, with the
-/// event's packet. It is a well-sorted sentence again, and doesn't speak of the packet.
+/// event's packet; where it is false, some packet ends where the formula is false. It is a well-sorted sentence again, and
+/// doesn't speak of the packet.
 pub fn wp_in_is_exact()
     ensures exact { (P : AnyParts) → IsWellSorted P → (N : Network) → IsNetwork P N → (q : AnyFormula) → IsSortedIn (signature P) any_relation no_scope q → (x : State) → IsTrue (truth (structure P N x Nothing) (wp_in P q) no_values) ↔ ((s a b i : ℕ) (y : State) → Step P N x (PktIn s a b i) y → IsTrue (truth (structure P N y (At s a b i)) q no_values)) }
     ensures breaks { (P : AnyParts) → IsWellSorted P → (N : Network) → IsNetwork P N → (q : AnyFormula) → IsSortedIn (signature P) any_relation no_scope q → (x : State) → IsFalse (truth (structure P N x Nothing) (wp_in P q) no_values) → (s : ℕ) × (a : ℕ) × (b : ℕ) × (i : ℕ) × (y : State) × Step P N x (PktIn s a b i) y × IsFalse (truth (structure P N y (At s a b i)) q no_values) }
@@ -39,11 +40,21 @@ pub fn wp_in_is_exact()
 {}
 
 /// The precondition of packets that a flow table sends is true in a state exactly where the formula is true after each of
-/// them, with the event's packet. It is a well-sorted sentence again, and doesn't speak of the packet.
+/// them, with the event's packet; where it is false, some such packet ends where the formula is false. It is a well-sorted
+/// sentence again, and doesn't speak of the packet.
 pub fn wp_flow_is_exact()
     ensures exact { (P : AnyParts) (N : Network) (q : AnyFormula) → IsSortedIn (signature P) any_relation no_scope q → (x : State) → IsTrue (truth (structure P N x Nothing) (wp_flow q) no_values) ↔ ((s a b i o : ℕ) (y : State) → Step P N x (PktFlow s a b i o) y → IsTrue (truth (structure P N y (At s a b i)) q no_values)) }
     ensures breaks { (P : AnyParts) (N : Network) (q : AnyFormula) → IsSortedIn (signature P) any_relation no_scope q → (x : State) → IsFalse (truth (structure P N x Nothing) (wp_flow q) no_values) → (s : ℕ) × (a : ℕ) × (b : ℕ) × (i : ℕ) × (o : ℕ) × (y : State) × Step P N x (PktFlow s a b i o) y × IsFalse (truth (structure P N y (At s a b i)) q no_values) }
     ensures sentence { (P : AnyParts) (q : AnyFormula) → IsSortedIn (signature P) any_relation no_scope q → IsSortedIn (signature P) no_rcv_this no_scope (wp_flow q) }
+{}
+
+/// Where the program has a timeout, the precondition of expiries is true in a state exactly where the formula is true, without
+/// a packet, after the rules of any match have ended; where it is false, some expiry ends where the formula is false. It is a
+/// well-sorted sentence again, and doesn't speak of the packet.
+pub fn wp_expire_is_exact()
+    ensures exact { (P : AnyParts) (N : Network) (q : AnyFormula) → IsSortedIn (signature P) any_relation no_scope q → IsTrue (is_some P.timeout) → (x : State) → IsTrue (truth (structure P N x Nothing) (wp_expire q) no_values) ↔ ((s a b i : ℕ) (y : State) → Step P N x (Expire s a b i) y → IsTrue (truth (structure P N y Nothing) q no_values)) }
+    ensures breaks { (P : AnyParts) (N : Network) (q : AnyFormula) → IsSortedIn (signature P) any_relation no_scope q → IsTrue (is_some P.timeout) → (x : State) → IsFalse (truth (structure P N x Nothing) (wp_expire q) no_values) → (s : ℕ) × (a : ℕ) × (b : ℕ) × (i : ℕ) × (y : State) × Step P N x (Expire s a b i) y × IsFalse (truth (structure P N y Nothing) q no_values) }
+    ensures sentence { (P : AnyParts) (q : AnyFormula) → IsSortedIn (signature P) any_relation no_scope q → IsSortedIn (signature P) no_rcv_this no_scope (wp_expire q) }
 {}
 
 /// A well-sorted formula of a program, whose bound variables have numbers of their own, is a well-sorted sentence; outside of
