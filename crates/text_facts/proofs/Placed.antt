@@ -20,7 +20,7 @@ use Rattle.csdn_text.specs.declared.parts.FlowTerms.{FlowTerms}
 use Rattle.csdn_text.specs.declared.parts.PacketTerms.{PacketTerms}
 use Rattle.csdn_text.specs.declared.parts.Quantifier.{Quantifier}
 use Rattle.csdn_text.specs.declared.parts.Quantifier.TheVariants as q
-use Rattle.csdn_text.specs.Symbols.{Nonterminal, program, items, item, static_item, const_item, rel_item, invariant_item, invariant_kind, handler_item, handler_port, sorts, sort_list, more_sorts, sort, initial, rows, more_rows, row, terms, more_terms, name, term, port, formula, binds, more_binds, iff, iff_tail, implies, implies_tail, either, either_tail, both, both_tail, unary, atom, atom_rest, fact, flow, packet, block, commands, more_commands, command, branch, choice, otherwise, action, Symbol, token, part, Value, Values, made, Rule}
+use Rattle.csdn_text.specs.Symbols.{Nonterminal, program, items, item, static_item, const_item, rel_item, invariant_item, invariant_kind, handler_item, handler_port, timeout_item, sorts, sort_list, more_sorts, sort, initial, rows, more_rows, row, terms, more_terms, name, term, port, formula, binds, more_binds, iff, iff_tail, implies, implies_tail, either, either_tail, both, both_tail, unary, atom, atom_rest, fact, flow, packet, block, commands, more_commands, command, branch, choice, otherwise, action, Symbol, token, part, Value, Values, made, Rule}
 use Rattle.csdn_text.specs.Grammar.{joined, quantified, atom_of, command_of}
 use Rattle.csdn_text.specs.Derives.{Mark, IsRule, Derives}
 use Rattle.csdn_text.specs.Derives.Derives.{nothing, one, by_rule}
