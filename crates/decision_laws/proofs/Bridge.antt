@@ -1,5 +1,5 @@
 -- The clauses of a program's sentence.
-use Rattle.std.proofs.Common.{Bool, List, [], arith, ℕ, ◌↔◌}
+use Rattle.std.proofs.Common.{Bool, List, [], arith, refl, ℕ, ◌↔◌}
 use Rattle.csdn_core.specs.declared.program.Parts.{Parts}
 use Rattle.csdn_core.specs.declared.syntax.Formula.{Formula}
 use Rattle.decision_laws.proofs.Basics.{all_at, all_from}
@@ -8,11 +8,12 @@ use Rattle.decision_laws.proofs.Facts.{naming}
 use Rattle.decision_laws.proofs.Made.{copies_simple}
 use Rattle.decision_laws.proofs.Networks.{law_network}
 use Rattle.decision_laws.proofs.Read.{AllTrue, fair_read, left_true, right_true, whole_read}
+use Rattle.decision_laws.proofs.Tied.{tied_true}
 use Rattle.decision_laws.proofs.Words.{is_closed, law_up}
 use Rattle.decision_laws.specs.Classes.{network_of, state_of}
 use Rattle.decision_laws.specs.Clauses.{IsModel, Lit, clause_true, equality_clauses, whole_clauses}
 use Rattle.decision_laws.specs.Copies.{Fact, judge, known}
-use Rattle.decision_laws.specs.Laws.{HasModel, HasNetwork, IsJudgement, IsSentence, IsTiedTo, NamesFacts, clause_names, complete_clauses, counts, form_of, sentence_copies, words}
+use Rattle.decision_laws.specs.Laws.{AreTied, HasModel, HasNetwork, IsJudgement, IsSentence, IsTiedTo, NamesFacts, clause_names, complete_clauses, counts, form_of, sentence_copies, words}
 use Rattle.decision_laws.specs.Numbers.{fact_count, fact_number, numbered_fact}
 use Rattle.decision_laws.specs.Sublists.{ArePart}
 use Rattle.decision_laws.specs.Vocabulary.{IsIn}
@@ -61,3 +62,9 @@ module _ (P : Parts) (F : Formula) (first : ℕ) (num : Fact → ℕ) (fact_at :
 
 pub numbers_named : (P : Parts) (F : Formula) → NamesFacts P F (fact_count (counts P F) (words P F)) (fact_number (counts P F) (words P F)) (numbered_fact (counts P F) (words P F))
 numbers_named P F = naming (counts P F) (words P F)
+
+pub tied_models : (P : Parts) (F : Formula) (cs : List (List Lit)) → IsSentence P F → AreTied P F cs → HasNetwork P F → HasModel cs
+tied_models P F cs is (name, tied) (N, x, net, h) =
+    let w = law_up P F is N x net h in
+    let v : ℕ → Bool = λ y. judge w.0 (name y) in
+    (v, all_from (clause_true v) cs (λ c i. tied_true (words P F) (counts P F) w.0 w.1.fair (sentence_copies P F) w.1.agrees name v (λ y. refl) c (tied c i)))

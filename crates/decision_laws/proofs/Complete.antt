@@ -1,5 +1,6 @@
 -- Each clause of a sentence is tied to it.
-use Rattle.std.proofs.Common.{Bool, List, [], ap, append_assoc, ap₂, arith, cond, eqb-true, false, flat_map, get_or, get_or-append-add, inl, inr, le-ltb, length, length-append, lt-ltb, ltb-true, nat_eq, nat_lt, refl, subst, suc, sym, true, zero, ℕ, ◌++◌, ◌+◌, ◌-◌, ◌<◌, ◌∙◌, ◌∷◌, ◌≡◌, ◌≤◌}
+use Rattle.std.proofs.lemmas.Bool.{false≢true}
+use Rattle.std.proofs.Common.{Bool, List, [], eq-eqb, ap, append_assoc, ap₂, arith, cond, eqb-true, false, flat_map, get_or, get_or-append-add, inl, inr, le-ltb, length, length-append, lt-ltb, ltb-true, nat_eq, nat_lt, refl, subst, suc, sym, true, zero, ℕ, ◌++◌, ◌+◌, ◌-◌, ◌<◌, ◌∙◌, ◌∷◌, ◌≡◌, ◌≤◌}
 use Rattle.std.proofs.Math.ListN.{get_or-append}
 use Rattle.csdn_core.specs.declared.terms.Sort.{Sort}
 use Rattle.csdn_core.specs.declared.terms.Sort.TheVariants.{Ho, Pr, Sw}
@@ -140,9 +141,9 @@ cond_in : {X : Type 0} (b : Bool) (x y : X) → IsIn x (cond b (y ∷ []) []) �
 cond_in true x y h = (refl, one_in x y h)
 cond_in false x y h = elim h [ ]
 
-cond_in_not : {X : Type 0} (b : Bool) (x y : X) → IsIn x (cond b [] (y ∷ [])) → x ≡ y
+cond_in_not : {X : Type 0} (b : Bool) (x y : X) → IsIn x (cond b [] (y ∷ [])) → (b ≡ false) × (x ≡ y)
 cond_in_not true x y h = elim h [ ]
-cond_in_not false x y h = one_in x y h
+cond_in_not false x y h = (refl, one_in x y h)
 
 same_tied : (n : Sort → ℕ) (voc : Vocabulary) (whole : Copy) (name : ℕ → Copy) (num : Fact → ℕ) → IsReady n voc name num → (s : Sort) (c : List Lit) → IsIn c (same_clauses num n s) → IsTied n voc whole name c
 same_tied n voc whole name num r s c h =
@@ -169,11 +170,11 @@ no_differences n voc whole name [] (x ∷ xs) h = elim h [ ]
 no_differences n voc whole name (s ∷ ss) [] h = elim h [ ]
 no_differences n voc whole name (s ∷ ss) (x ∷ xs) h = inl (refl, h.0, no_differences n voc whole name ss xs h.1)
 
-one_difference : (n : Sort → ℕ) (voc : Vocabulary) (whole : Copy) (name : ℕ → Copy) (s : Sort) (a b : ℕ) (l : Lit) → IsLitOf n voc whole name (Literal true (Equation s a b)) l → (post : List Sort) (back : List ℕ) → AreBelow n post back → (pre : List Sort) (front : List ℕ) → AreBelow n pre front → AreDifferences n voc whole name (pre ++ s ∷ post) (front ++ a ∷ back) (front ++ b ∷ back) (negated l ∷ [])
-one_difference n voc whole name s a b l o post back k [] [] h = inr (l, [], refl, o, no_differences n voc whole name post back k)
-one_difference n voc whole name s a b l o post back k [] (x ∷ front) h = elim h [ ]
-one_difference n voc whole name s a b l o post back k (t ∷ pre) [] h = elim h [ ]
-one_difference n voc whole name s a b l o post back k (t ∷ pre) (x ∷ front) h = inl (refl, h.0, one_difference n voc whole name s a b l o post back k pre front h.1)
+one_difference : (n : Sort → ℕ) (voc : Vocabulary) (whole : Copy) (name : ℕ → Copy) (s : Sort) (a b : ℕ) → (a ≡ b → ⊥) → (l : Lit) → IsLitOf n voc whole name (Literal true (Equation s a b)) l → (post : List Sort) (back : List ℕ) → AreBelow n post back → (pre : List Sort) (front : List ℕ) → AreBelow n pre front → AreDifferences n voc whole name (pre ++ s ∷ post) (front ++ a ∷ back) (front ++ b ∷ back) (negated l ∷ [])
+one_difference n voc whole name s a b d l o post back k [] [] h = inr (d, l, [], refl, o, no_differences n voc whole name post back k)
+one_difference n voc whole name s a b d l o post back k [] (x ∷ front) h = elim h [ ]
+one_difference n voc whole name s a b d l o post back k (t ∷ pre) [] h = elim h [ ]
+one_difference n voc whole name s a b d l o post back k (t ∷ pre) (x ∷ front) h = inl (refl, h.0, one_difference n voc whole name s a b d l o post back k pre front h.1)
 
 replace_tied : (n : Sort → ℕ) (voc : Vocabulary) (whole : Copy) (name : ℕ → Copy) (num : Fact → ℕ) → IsReady n voc name num → (rel : Pred) → IsIn rel voc.relations → (pre : List Sort) (front : List ℕ) → AreBelow n pre front → (ss : List Sort) (xs : List ℕ) → voc.columns rel ≡ pre ++ ss → AreBelow n ss xs → (c : List Lit) → IsIn c (replace_from num n rel front ss xs) → IsTied n voc whole name c
 replace_tied n voc whole name num r rel i pre front f [] xs q b c h = elim h [ ]
@@ -187,9 +188,9 @@ replace_tied n voc whole name num r rel i pre front f (s ∷ ss) (a ∷ back) q 
           let e = cond_in_not (nat_eq a w.0) c (replace_clause num rel s front back a w.0) w.2 in
           let eq = fact_is n voc whole name num r (Equation s a w.0) (b.0, l) in
           let over : (d : ℕ) → d < n s → IsOver n voc (Tuple rel (front ++ d ∷ back)) = λ d k. (i, subst (λ z. AreBelow n z (front ++ d ∷ back)) (sym q) (below_append n pre (s ∷ ss) front (d ∷ back) f (k, b.1))) in
-          exact n voc whole name c (replace_clause num rel s front back a w.0) e
+          exact n voc whole name c (replace_clause num rel s front back a w.0) e.1
           (replaced rel (front ++ a ∷ back) (front ++ w.0 ∷ back) (no (num (Equation s a w.0)) ∷ []) (yes (num (Tuple rel (front ++ a ∷ back)))) (yes (num (Tuple rel (front ++ w.0 ∷ back))))
-          (subst (λ z. AreDifferences n voc whole name z (front ++ a ∷ back) (front ++ w.0 ∷ back) (no (num (Equation s a w.0)) ∷ [])) (sym q) (one_difference n voc whole name s a w.0 (yes (num (Equation s a w.0))) eq ss back b.1 pre front f))
+          (subst (λ z. AreDifferences n voc whole name z (front ++ a ∷ back) (front ++ w.0 ∷ back) (no (num (Equation s a w.0)) ∷ [])) (sym q) (one_difference n voc whole name s a w.0 (λ z. false≢true (sym e.0 ∙ eq-eqb a w.0 z)) (yes (num (Equation s a w.0))) eq ss back b.1 pre front f))
           (fact_is n voc whole name num r (Tuple rel (front ++ a ∷ back)) (over a b.0))
           (fact_is n voc whole name num r (Tuple rel (front ++ w.0 ∷ back)) (over w.0 l))))
       | inr u ↦ replace_tied n voc whole name num r rel i (pre ++ s ∷ []) (front ++ a ∷ []) (below_append n pre (s ∷ []) front (a ∷ []) f (b.0, tt)) ss back (q ∙ sym (append_assoc pre (s ∷ []) ss)) b.1 c u
@@ -240,7 +241,7 @@ flat_length : (f : ℕ → List Copy) (g : ℕ → ℕ) → ((i : ℕ) → lengt
 flat_length f g h i zero = refl
 flat_length f g h i (suc m) = length-append (f i) (flat_map f (places_from (suc i) m)) ∙ ap₂ (λ x y. x + y) (h i) (flat_length f g h (suc i) m)
 
-node_length : (p : Copy) → length (nodes p) ≡ size p
+pub node_length : (p : Copy) → length (nodes p) ≡ size p
 node_length (Known b) = refl
 node_length (Literal sign f) = refl
 node_length (Both p q) = ap suc (length-append (nodes p) (nodes q) ∙ ap₂ (λ x y. x + y) (node_length p) (node_length q))

@@ -1,7 +1,8 @@
 -- The numbers of facts lead back to them.
-use Rattle.std.proofs.Common.{Bool, List, [], ap, ap₂, arith, cond, false, inl, inr, le-ltb, lt-ltb, map, max, min, mul-le-mul_right, nat_lt, refl, subst, suc, suc-mul, sym, true, ℕ, ◌*◌, ◌+◌, ◌-◌, ◌<◌, ◌∙◌, ◌∷◌, ◌≡◌, ◌≤◌, ◌⊎◌}
+use Rattle.std.proofs.Common.{Bool, List, [], ap, ap₂, arith, cond, false, inl, inr, le-ltb, lt-ltb, map, max, min, mul-le-mul_right, nat_lt, refl, subst, suc, suc-mul, sym, true, ℕ, zero, ◌*◌, ◌+◌, ◌-◌, ◌/◌, ◌<◌, ◌∙◌, ◌∷◌, ◌≡◌, ◌≤◌, ◌⊎◌}
 use Rattle.std.proofs.lemmas.Bool.{cases_lt, false≢true}
 use Rattle.std.proofs.lemmas.Nat.{div-mul-add, mod-mul-add}
+use Rattle.std.proofs.Math.Nat.{mod-lt, mul-zero, div-lt_iff_lt-mul}
 use Rattle.csdn_core.specs.Same.{same_sort}
 use Rattle.csdn_core.proofs.Same.{same_sort-is, same_pred-is, same_pred-refl}
 use Rattle.csdn_core.specs.declared.terms.Sort.{Sort}
@@ -115,3 +116,15 @@ naming n voc = record {
   below = λ f o. number_below n voc (blocks_of voc) f o (has_block n voc f o);
   back = λ f o. number_back n voc (blocks_of voc) f o (has_block n voc f o);
 }
+
+-- the tuple of a number is a tuple of constants
+
+some_left : (c m k : ℕ) → k < c * m → 0 < m
+some_left c zero k h = absurd (omega (arith, h, mul-zero c))
+some_left c (suc m) k h = omega arith
+
+pub tuple_of-below : (n : Sort → ℕ) (ss : List Sort) (k : ℕ) → k < tuple_count n ss → AreBelow n ss (tuple_of n ss k)
+tuple_of-below n [] k h = tt
+tuple_of-below n (s ∷ ss) k h =
+    let some = some_left (tuple_count n ss) (n s) k h in
+    (mod-lt k some, tuple_of-below n ss (k / n s) ((div-lt_iff_lt-mul some).1 h))

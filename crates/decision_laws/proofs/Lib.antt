@@ -23,3 +23,5 @@ pub mod NamesLemmas
 pub mod Steps
 pub mod SortedForms
 pub mod Differing
+pub mod Weights
+pub mod Within

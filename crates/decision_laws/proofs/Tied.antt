@@ -61,8 +61,8 @@ differences_true voc n j fair whole name v h c (s ∷ ss) (x ∷ xs) [] ls d f =
 differences_true voc n j fair whole name v h c (s ∷ ss) (x ∷ xs) (y ∷ ys) ls d f =
     elim d [
       | inl e ↦ differences_true voc n j fair whole name v h c ss xs ys ls e.2 (λ k. f (e.1, subst (λ z. z < n s) e.0 e.1, subst (λ z. j (Equation s x z) ≡ true) e.0 (fair.same s x e.1), k))
-      | inr e ↦ subst (λ z. clause_true v (z ++ c) ≡ true) (sym e.2)
-          (premise v e.0 (e.1 ++ c) (λ t. differences_true voc n j fair whole name v h c ss xs ys e.1 e.4 (λ k. f (e.3.1.0.0, e.3.1.0.1, sym (lit_judged voc n j fair whole name v h (Literal true (Equation s x y)) e.0 e.3) ∙ t, k))))
+      | inr e ↦ subst (λ z. clause_true v (z ++ c) ≡ true) (sym e.3)
+          (premise v e.1 (e.2 ++ c) (λ t. differences_true voc n j fair whole name v h c ss xs ys e.2 e.5 (λ k. f (e.4.1.0.0, e.4.1.0.1, sym (lit_judged voc n j fair whole name v h (Literal true (Equation s x y)) e.1 e.4) ∙ t, k))))
     ]
 
 pub form_true : (voc : Vocabulary) (n : Sort → ℕ) (j : Fact → Bool) → IsFair voc n j → (whole : Copy) → judge j whole ≡ true → (name : ℕ → Copy) (v : ℕ → Bool) → ((x : ℕ) → v x ≡ judge j (name x)) → (c : List Lit) → IsForm n voc whole name c → clause_true v c ≡ true

@@ -9,7 +9,7 @@ use Rattle.csdn_core.specs.Truth.{value, truth}
 use Rattle.csdn_core.specs.Network.{Network, State, structure, IsNetwork}
 use Rattle.csdn_core.specs.Run.{no_values}
 use Rattle.decision_laws.specs.Forms.{Form, normal_form, in_fragment}
-use Rattle.decision_laws.specs.Vocabulary.{Vocabulary, vocabulary, fits, has_term}
+use Rattle.decision_laws.specs.Vocabulary.{Vocabulary, IsIn, vocabulary, fits, has_term}
 use Rattle.decision_laws.specs.Copies.{Fact, Equation, Copy, index_of, copies_of, judge, IsFair}
 use Rattle.decision_laws.specs.Classes.{sizes}
 use Rattle.decision_laws.specs.Clauses.{Lit, IsModel, all_clauses, IsNaming}
@@ -73,6 +73,10 @@ module _ (P : Parts) (F : Formula) where
   -- a clause is tied to the sentence by these names
   abbrev pub IsTiedTo : ℕ → (ℕ → Fact) → List Lit → Type 0
   IsTiedTo first fact_at c = IsTied counts words sentence_copies (clause_names first fact_at) c
+
+  -- some names of the atoms tie each of the clauses to the sentence
+  abbrev pub AreTied : List (List Lit) → Type 0
+  AreTied cs = (name : ℕ → Copy) × ((c : List Lit) → IsIn c cs → IsTied counts words sentence_copies name c)
 
 -- some valuation makes each of the clauses true
 abbrev pub HasModel : List (List Lit) → Type 0

@@ -35,7 +35,7 @@ abbrev pub AreDifferences : (Sort → ℕ) → Vocabulary → Copy → (ℕ → 
 AreDifferences n voc whole name [] [] [] ls = ls ≡ []
 AreDifferences n voc whole name (s ∷ ss) (x ∷ xs) (y ∷ ys) ls =
     ((x ≡ y) × (x < n s) × AreDifferences n voc whole name ss xs ys ls)
-    ⊎ ((l : Lit) × (rest : List Lit) × (ls ≡ negated l ∷ rest) × IsLitOf n voc whole name (Literal true (Equation s x y)) l × AreDifferences n voc whole name ss xs ys rest)
+    ⊎ ((x ≢ y) × (l : Lit) × (rest : List Lit) × (ls ≡ negated l ∷ rest) × IsLitOf n voc whole name (Literal true (Equation s x y)) l × AreDifferences n voc whole name ss xs ys rest)
 AreDifferences n voc whole name ss xs ys ls = ⊥
 
 -- The forms that clauses may have: the whole copies, or nothing where they are `false`; a conjunction and a member of it; a

@@ -1,5 +1,5 @@
 //! Laws as contracts of functions that do nothing.
-ghost use Rattle.std.specs.Prelude.{◌≡◌, ◌≢◌, ◌↔◌, ℕ, ◌+◌, ◌==◌, Bool, true, List, [], ◌∷◌, ◌++◌, length, AllPairs, IsTrue};
+ghost use Rattle.std.specs.Prelude.{◌≡◌, ◌≢◌, ◌↔◌, ℕ, ◌+◌, ◌<◌, ◌==◌, Bool, true, List, [], ◌∷◌, ◌++◌, length, AllPairs, IsTrue};
 ghost use Rattle.csdn_core.specs.declared.terms.Sort.{Sort as AnySort};
 ghost use Rattle.csdn_core.specs.declared.terms.Sort.TheVariants.{Pr};
 ghost use Rattle.csdn_core.specs.declared.terms.Place.{Place as AnyPlace};
@@ -10,15 +10,16 @@ ghost use Rattle.csdn_core.specs.Truth.{Structure, Assignment, truth};
 ghost use Rattle.csdn_core.specs.Network.{Network, State, IsNetwork, elements};
 ghost use Rattle.csdn_core.specs.Sorted.{IsSorted, bound_in};
 ghost use Rattle.csdn_core.specs.WellSorted.{signature};
-ghost use Rattle.decision_laws.specs.Forms.{form_truth};
-ghost use Rattle.decision_laws.specs.Vocabulary.{IsIn, fits, places_from};
-ghost use Rattle.decision_laws.specs.Copies.{Fact, judge};
+ghost use Rattle.decision_laws.specs.Forms.{Form, form_truth, simplified};
+ghost use Rattle.decision_laws.specs.Vocabulary.{Vocabulary, IsIn, fits, places_from};
+ghost use Rattle.decision_laws.specs.Copies.{AreBelow, Fact, Scope, copies, judge};
 ghost use Rattle.decision_laws.specs.Classes.{Meaning, AreOfJudgement, number, network_of, state_of};
-ghost use Rattle.decision_laws.specs.Clauses.{Lit, AtomsDiffer, clause_true, IsModel};
-ghost use Rattle.decision_laws.specs.Numbers.{fact_count, fact_number, numbered_fact};
+ghost use Rattle.decision_laws.specs.Clauses.{Lit, size, AtomsDiffer, clause_true, IsModel};
+ghost use Rattle.decision_laws.specs.Numbers.{tuple_count, tuple_of, fact_count, fact_number, numbered_fact};
+ghost use Rattle.decision_laws.specs.Weights.{weight};
 ghost use Rattle.decision_laws.specs.Sublists.{ArePart, AreBroken, left_of};
 ghost use Rattle.decision_laws.specs.Example.{program, sentence, r, example_counts, example_copies, example_first, example_node_clauses, example_equality_clauses, example_judgement, example_network};
-ghost use Rattle.decision_laws.specs.Laws.{form_of, words, counts, sentence_copies, IsSentence, IsTrueIn, HasNetwork, IsJudgement, AgreesOnNames, complete_clauses, NamesFacts, clause_names, IsTiedTo, HasModel};
+ghost use Rattle.decision_laws.specs.Laws.{form_of, words, counts, sentence_copies, IsSentence, IsTrueIn, HasNetwork, IsJudgement, AgreesOnNames, complete_clauses, NamesFacts, clause_names, IsTiedTo, AreTied, HasModel};
 
 /// A normal form is true where its formula is.
 pub fn normal_forms_keep_truth()
@@ -52,12 +53,28 @@ pub fn clauses_have_models()
     ensures judged { (P : AnyParts) (F : AnyFormula) (first : ℕ) (num : Fact → ℕ) (fact_at : ℕ → Fact) → IsSentence P F → NamesFacts P F first num fact_at → (j : Fact → Bool) → IsJudgement P F j → IsModel (λ x. judge j (clause_names P F first fact_at x)) (complete_clauses P F num first) }
     ensures tied { (P : AnyParts) (F : AnyFormula) (first : ℕ) (num : Fact → ℕ) (fact_at : ℕ → Fact) → IsSentence P F → NamesFacts P F first num fact_at → (c : List Lit) → IsIn c (complete_clauses P F num first) → IsTiedTo P F first fact_at c }
     ensures apart { (P : AnyParts) (F : AnyFormula) (first : ℕ) (num : Fact → ℕ) (fact_at : ℕ → Fact) → IsSentence P F → NamesFacts P F first num fact_at → (c : List Lit) → IsIn c (complete_clauses P F num first) → AtomsDiffer c }
+    ensures within { (P : AnyParts) (F : AnyFormula) (first : ℕ) (num : Fact → ℕ) (fact_at : ℕ → Fact) → IsSentence P F → NamesFacts P F first num fact_at → (c : List Lit) → IsIn c (complete_clauses P F num first) → (l : Lit) → IsIn l c → l.1 < first + size (sentence_copies P F) }
     ensures network { (P : AnyParts) (F : AnyFormula) (first : ℕ) (num : Fact → ℕ) (fact_at : ℕ → Fact) → IsSentence P F → NamesFacts P F first num fact_at → HasModel (complete_clauses P F num first) ↔ HasNetwork P F }
+{}
+
+/// Clauses that are tied to a sentence, by any names, have a model where the sentence has a network.
+pub fn tied_clauses_have_models()
+    ensures { (P : AnyParts) (F : AnyFormula) (cs : List (List Lit)) → IsSentence P F → AreTied P F cs → HasNetwork P F → HasModel cs }
+{}
+
+/// The copies of a form have as many nodes wherever they are made.
+pub fn copies_have_weights()
+    ensures { (voc : Vocabulary) (n : AnySort → ℕ) (f : Form) (env : Scope) (base : AnySort → ℕ) → size (copies voc n f env base) ≡ weight n f }
 {}
 
 /// The numbers that need no table name each fact over the constants.
 pub fn numbers_name_facts()
     ensures { (P : AnyParts) (F : AnyFormula) → NamesFacts P F (fact_count (counts P F) (words P F)) (fact_number (counts P F) (words P F)) (numbered_fact (counts P F) (words P F)) }
+{}
+
+/// The tuple of a number below the count is a tuple of constants.
+pub fn numbers_name_tuples()
+    ensures { (n : AnySort → ℕ) (ss : List AnySort) (k : ℕ) → k < tuple_count n ss → AreBelow n ss (tuple_of n ss k) }
 {}
 
 /// Some of the clauses, each once, are tied and have a model where the sentence has a network. Clauses that a model of them
@@ -76,6 +93,7 @@ pub fn some_clauses_suffice()
 pub fn uniqueness_example()
     ensures counts { (s : AnySort) → counts program sentence s ≡ example_counts s }
     ensures copies { sentence_copies program sentence ≡ example_copies }
+    ensures weight { weight (counts program sentence) (simplified (form_of sentence)) ≡ 42 }
     ensures sentence { IsSentence program sentence }
     ensures first { fact_count (counts program sentence) (words program sentence) ≡ example_first }
     ensures clauses { complete_clauses program sentence (fact_number (counts program sentence) (words program sentence)) example_first ≡ example_node_clauses ++ example_equality_clauses }

@@ -20,6 +20,10 @@ pub returns-clause-copies : goal.returns-clause-copies
 unfolding normal_form
 returns-clause-copies c = refl
 
+pub returns-clause-weight : goal.returns-clause-weight
+unfolding normal_form
+returns-clause-weight c = refl
+
 pub returns-clause-sentence : goal.returns-clause-sentence
 unfolding normal_form
 returns-clause-sentence c = record { closed = refl; inside = refl }
