@@ -1,5 +1,5 @@
 -- The copies of a form have as many nodes wherever they are made.
-use Rattle.std.proofs.Common.{◌≡◌, ℕ, zero, suc, ◌+◌, ◌*◌, ◌∷◌, refl, ap, ap₂, ◌∙◌, sym, suc-mul, zero-mul, arith}
+use Rattle.std.proofs.Common.{◌≡◌, ℕ, zero, suc, ◌+◌, ◌*◌, ◌∷◌, refl, ap, ap₂, sym, suc-mul, zero-mul, arith}
 use Rattle.csdn_core.specs.declared.terms.Sort.{Sort}
 use Rattle.decision_laws.specs.Vocabulary.{Vocabulary}
 use Rattle.decision_laws.specs.Forms.{Form, Fixed, Atom, Same, And, Or, ForAll, ForSome, need, one_if}

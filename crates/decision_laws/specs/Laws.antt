@@ -49,9 +49,6 @@ module _ (P : Parts) (F : Formula) where
     pub fair : IsFair words counts j
     pub agrees : IsTrue (judge j sentence_copies)
 
-  abbrev pub HasJudgement : Type 0
-  HasJudgement = (j : Fact → Bool) × IsJudgement j
-
   -- it judges equations of declared constants and numerals as the network does
   abbrev pub AgreesOnNames : Network → State → (Fact → Bool) → Type 0
   AgreesOnNames N x j =

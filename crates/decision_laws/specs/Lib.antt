@@ -9,6 +9,3 @@ pub mod Sublists
 pub mod Weights
 pub mod Laws
 pub mod Example
-pub mod Trees
-pub mod Leaves
-pub mod Walk

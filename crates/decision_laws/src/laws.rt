@@ -1,17 +1,13 @@
 //! Laws as contracts of functions that do nothing.
-ghost use Rattle.std.specs.Prelude.{◌≡◌, ◌≢◌, ◌↔◌, ℕ, ◌+◌, ◌<◌, ◌==◌, Bool, true, List, [], ◌∷◌, ◌++◌, length, AllPairs, IsTrue};
+ghost use Rattle.std.specs.Prelude.{◌≡◌, ◌≢◌, ◌↔◌, ℕ, ◌+◌, ◌<◌, ◌==◌, Bool, true, List, [], ◌∷◌, ◌++◌, length, IsTrue};
 ghost use Rattle.csdn_core.specs.declared.terms.Sort.{Sort as AnySort};
 ghost use Rattle.csdn_core.specs.declared.terms.Sort.TheVariants.{Pr};
-ghost use Rattle.csdn_core.specs.declared.terms.Place.{Place as AnyPlace};
-ghost use Rattle.csdn_core.specs.declared.terms.Place.TheVariants.{Trans};
 ghost use Rattle.csdn_core.specs.declared.program.Parts.{Parts as AnyParts};
 ghost use Rattle.csdn_core.specs.declared.syntax.Formula.{Formula as AnyFormula};
 ghost use Rattle.csdn_core.specs.Truth.{Structure, Assignment, truth};
 ghost use Rattle.csdn_core.specs.Network.{Network, State, IsNetwork, elements};
-ghost use Rattle.csdn_core.specs.Sorted.{IsSorted, bound_in};
-ghost use Rattle.csdn_core.specs.WellSorted.{signature};
 ghost use Rattle.decision_laws.specs.Forms.{Form, form_truth, simplified};
-ghost use Rattle.decision_laws.specs.Vocabulary.{Vocabulary, IsIn, fits, places_from};
+ghost use Rattle.decision_laws.specs.Vocabulary.{Vocabulary, IsIn, places_from};
 ghost use Rattle.decision_laws.specs.Copies.{AreBelow, Fact, Scope, copies, judge};
 ghost use Rattle.decision_laws.specs.Classes.{Meaning, AreOfJudgement, number, network_of, state_of};
 ghost use Rattle.decision_laws.specs.Clauses.{Lit, size, AtomsDiffer, clause_true, IsModel};
@@ -24,12 +20,6 @@ ghost use Rattle.decision_laws.specs.Laws.{form_of, words, counts, sentence_copi
 /// A normal form is true where its formula is.
 pub fn normal_forms_keep_truth()
     ensures { (M : Structure) (F : AnyFormula) (e : Assignment) → form_truth M (form_of F) e ≡ truth M F e }
-{}
-
-/// A formula that is well-sorted by the rules of programs, in a place where `rcv_this` may not stand, and whose bound variables
-/// have numbers of their own, is well-sorted in the vocabulary of its sentence.
-pub fn sorted_formulas_fit()
-    ensures { (P : AnyParts) (F : AnyFormula) (place : AnyPlace) → place ≢ Trans → IsSorted (signature P) place [] F → AllPairs (λ m n. m ≢ n) (bound_in F) → IsTrue (fits (words P F) [] (form_of F)) }
 {}
 
 /// A sentence that is true in a network and state has a fair judgement of its copies.
