@@ -11,7 +11,8 @@ use Rattle.decision_laws.proofs.Read.{AllTrue, fair_read, left_true, right_true,
 use Rattle.decision_laws.proofs.Tied.{tied_true}
 use Rattle.decision_laws.proofs.Words.{is_closed, law_up}
 use Rattle.decision_laws.specs.Classes.{network_of, state_of}
-use Rattle.decision_laws.specs.Clauses.{IsModel, Lit, clause_true, equality_clauses, whole_clauses}
+use Rattle.decision_laws.specs.Clauses.{equality_clauses, whole_clauses}
+use Rattle.clause_log.specs.Literals.{IsModel, Literal, clause_true}
 use Rattle.decision_laws.specs.Copies.{Fact, judge, known}
 use Rattle.decision_laws.specs.Laws.{AreTied, HasModel, HasNetwork, IsJudgement, IsSentence, IsTiedTo, NamesFacts, clause_names, complete_clauses, counts, form_of, sentence_copies, words}
 use Rattle.decision_laws.specs.Numbers.{fact_count, fact_number, numbered_fact}
@@ -35,7 +36,7 @@ module _ (P : Parts) (F : Formula) (first : ℕ) (num : Fact → ℕ) (fact_at :
       all_from (clause_true (λ x. judge j (clause_names P F first fact_at x))) (complete_clauses P F num first)
       (judged_model (words P F) (form_of F) first num fact_at (is_closed P F is) o j h.fair h.agrees)
 
-  pub clauses_tied : (c : List Lit) → IsIn c (complete_clauses P F num first) → IsTiedTo P F first fact_at c
+  pub clauses_tied : (c : List Literal) → IsIn c (complete_clauses P F num first) → IsTiedTo P F first fact_at c
   clauses_tied = sentence_tied (words P F) (form_of F) first num fact_at (is_closed P F is) o
 
   network_models : HasNetwork P F → HasModel (complete_clauses P F num first)
@@ -52,10 +53,10 @@ module _ (P : Parts) (F : Formula) (first : ℕ) (num : Fact → ℕ) (fact_at :
   pub models_networks : HasModel (complete_clauses P F num first) ↔ HasNetwork P F
   models_networks = (model_network, network_models)
 
-  pub part_tied : (cs : List (List Lit)) → ArePart (complete_clauses P F num first) cs → (c : List Lit) → IsIn c cs → IsTiedTo P F first fact_at c
+  pub part_tied : (cs : List (List Literal)) → ArePart (complete_clauses P F num first) cs → (c : List Literal) → IsIn c cs → IsTiedTo P F first fact_at c
   part_tied cs p c i = clauses_tied c (p.within c i)
 
-  pub part_models : (cs : List (List Lit)) → ArePart (complete_clauses P F num first) cs → HasNetwork P F → HasModel cs
+  pub part_models : (cs : List (List Literal)) → ArePart (complete_clauses P F num first) cs → HasNetwork P F → HasModel cs
   part_models cs p h =
       let w = network_models h in
       (w.0, all_from (clause_true w.0) cs (λ c i. all_at (clause_true w.0) (complete_clauses P F num first) c (p.within c i) w.1))
@@ -63,7 +64,7 @@ module _ (P : Parts) (F : Formula) (first : ℕ) (num : Fact → ℕ) (fact_at :
 pub numbers_named : (P : Parts) (F : Formula) → NamesFacts P F (fact_count (counts P F) (words P F)) (fact_number (counts P F) (words P F)) (numbered_fact (counts P F) (words P F))
 numbers_named P F = naming (counts P F) (words P F)
 
-pub tied_models : (P : Parts) (F : Formula) (cs : List (List Lit)) → IsSentence P F → AreTied P F cs → HasNetwork P F → HasModel cs
+pub tied_models : (P : Parts) (F : Formula) (cs : List (List Literal)) → IsSentence P F → AreTied P F cs → HasNetwork P F → HasModel cs
 tied_models P F cs is (name, tied) (N, x, net, h) =
     let w = law_up P F is N x net h in
     let v : ℕ → Bool = λ y. judge w.0 (name y) in

@@ -13,16 +13,19 @@ use Rattle.decision_laws.proofs.Read.{IsPlain, IsSimple, below_append}
 use Rattle.decision_laws.proofs.Simplify.{fits-simplified, inside-simplified, need-simplified}
 use Rattle.decision_laws.proofs.Tied.{tied_true}
 use Rattle.decision_laws.specs.Classes.{all_tuples}
-use Rattle.decision_laws.specs.Clauses.{IsNaming, IsOver, Lit, all_clauses, chain_clause, chain_clauses, clause_true, either_clauses, equality_clauses, is_chain, member_clause, no, node_clauses, nodes, numeral_clauses, replace_clause, replace_clauses, replace_from, same_clauses, size, sum_from, top, whole_clauses, yes}
-use Rattle.decision_laws.specs.Copies.{AreBelow, Both, Copy, Each, Either, Equation, Fact, IsFair, Known, Literal, Tuple, constants, copies_of, judge, known, numeral_place}
+use Rattle.decision_laws.specs.Clauses.{IsNaming, IsOver, all_clauses, chain_clause, chain_clauses, either_clauses, equality_clauses, is_chain, member_clause, no, node_clauses, nodes, numeral_clauses, replace_clause, replace_clauses, replace_from, same_clauses, size, sum_from, top, whole_clauses, yes}
+use Rattle.csdn_core.specs.Truth.{same_truth}
+use Rattle.decision_laws.proofs.NormalTruth.{same_truth-is}
+use Rattle.clause_log.specs.Literals.{Literal, clause_true, negated}
+use Rattle.decision_laws.specs.Copies.{AreBelow, Both, Copy, Each, Either, Equation, Fact, IsFair, Known, Leaf, Tuple, constants, copies_of, judge, known, numeral_place}
 use Rattle.decision_laws.specs.Forms.{Form, simplified}
-use Rattle.decision_laws.specs.Tied.{AreDifferences, IsForm, IsLitOf, IsTied, Names, apart, chain, choice, member, name_of, negated, replaced, same, whole_false, whole_true}
+use Rattle.decision_laws.specs.Tied.{AreDifferences, IsForm, IsLiteralOf, IsTied, Names, apart, chain, choice, member, name_of, replaced, same, whole_false, whole_true}
 use Rattle.decision_laws.specs.Vocabulary.{IsIn, Vocabulary, places_from, vocabulary}
 
 -- the names of the nodes, numbered from k on
 abbrev pub AreNodes : (ℕ → Copy) → ℕ → Copy → Type 0
 AreNodes name k (Known b) = Unit {0}
-AreNodes name k (Literal sign f) = Unit {0}
+AreNodes name k (Leaf sign f) = Unit {0}
 AreNodes name k (Both p q) = (name k ≡ Both p q) × AreNodes name (suc k) p × AreNodes name (suc k + size p) q
 AreNodes name k (Either p q) = (name k ≡ Either p q) × AreNodes name (suc k) p × AreNodes name (suc k + size p) q
 AreNodes name k (Each n c) = (name k ≡ Each n c) × ((i : ℕ) → i < n → AreNodes name (suc k + sum_from (λ h. size (c h)) 0 i) (c i))
@@ -33,22 +36,22 @@ pub record IsReady (n : Sort → ℕ) (voc : Vocabulary) (name : ℕ → Copy) (
   pub few : (s : Sort) → known voc s ≤ n s
   pub vocabulary : IsVocabulary voc
 
-exact : (n : Sort → ℕ) (voc : Vocabulary) (whole : Copy) (name : ℕ → Copy) (c form : List Lit) → c ≡ form → IsForm n voc whole name form → IsTied n voc whole name c
+exact : (n : Sort → ℕ) (voc : Vocabulary) (whole : Copy) (name : ℕ → Copy) (c form : List Literal) → c ≡ form → IsForm n voc whole name form → IsTied n voc whole name c
 exact n voc whole name c form e h = record { form = form; has_form = h; all = λ l i. subst (λ z. IsIn l z) (sym e) i; only = λ l i. subst (λ z. IsIn l z) e i }
 
 -- the nodes of p are nodes of the whole
 abbrev AreWithin : Copy → Copy → Type 0
 AreWithin p whole = (x : Copy) → IsIn x (nodes p) → IsIn x (nodes whole)
 
-top_is : (n : Sort → ℕ) (voc : Vocabulary) (whole : Copy) (name : ℕ → Copy) (num : Fact → ℕ) → IsReady n voc name num → (k : ℕ) (p : Copy) → IsPlain p → AllOver n voc p → AreNodes name k p → AreWithin p whole → IsLitOf n voc whole name p (top num k p)
+top_is : (n : Sort → ℕ) (voc : Vocabulary) (whole : Copy) (name : ℕ → Copy) (num : Fact → ℕ) → IsReady n voc name num → (k : ℕ) (p : Copy) → IsPlain p → AllOver n voc p → AreNodes name k p → AreWithin p whole → IsLiteralOf n voc whole name p (top num k p)
 top_is n voc whole name num r k (Known b) i o a w = elim i [ ]
-top_is n voc whole name num r k (Literal sign f) i o a w = (refl, r.facts f o)
+top_is n voc whole name num r k (Leaf sign f) i o a w = (refl, r.facts f o)
 top_is n voc whole name num r k (Both p q) i o a w = (refl, a.0, w (Both p q) (inl refl))
 top_is n voc whole name num r k (Either p q) i o a w = (refl, a.0, w (Either p q) (inl refl))
 top_is n voc whole name num r k (Each m c) i o a w = (refl, a.0, w (Each m c) (inl refl))
 
 -- a disjunction of one literal twice
-twice : (n : Sort → ℕ) (voc : Vocabulary) (whole : Copy) (name : ℕ → Copy) (p q : Copy) (x a b : Lit) → a ≡ b → IsLitOf n voc whole name (Either p q) x → IsLitOf n voc whole name p a → IsLitOf n voc whole name q b → IsTied n voc whole name (negated x ∷ a ∷ [])
+twice : (n : Sort → ℕ) (voc : Vocabulary) (whole : Copy) (name : ℕ → Copy) (p q : Copy) (x a b : Literal) → a ≡ b → IsLiteralOf n voc whole name (Either p q) x → IsLiteralOf n voc whole name p a → IsLiteralOf n voc whole name q b → IsTied n voc whole name (negated x ∷ a ∷ [])
 twice n voc whole name p q x a b e o k l = record {
   form = negated x ∷ a ∷ b ∷ [];
   has_form = choice p q x a b o k l;
@@ -56,26 +59,22 @@ twice n voc whole name p q x a b e o k l = record {
   only = λ z i. elim i [ inl u ↦ inl u | inr u ↦ inr (inl (one_in z a u)) ];
 }
 
-either_same : (n : Sort → ℕ) (voc : Vocabulary) (whole : Copy) (name : ℕ → Copy) (p q : Copy) (sign : Bool) (x a b : ℕ) (t : Bool) → nat_eq a b ≡ t → IsLitOf n voc whole name (Either p q) (yes x) → IsLitOf n voc whole name p (sign, a) → IsLitOf n voc whole name q (sign, b) → (c : List Lit) → IsIn c (cond t ((no x ∷ (sign, a) ∷ []) ∷ []) ((no x ∷ (sign, a) ∷ (sign, b) ∷ []) ∷ [])) → IsTied n voc whole name c
-either_same n voc whole name p q sign x a b true e o k l c i =
-    subst (λ z. IsTied n voc whole name z) (sym (one_in c (no x ∷ (sign, a) ∷ []) i)) (twice n voc whole name p q (yes x) (sign, a) (sign, b) (ap (λ z. (sign, z)) (eqb-true a b e)) o k l)
-either_same n voc whole name p q sign x a b false e o k l c i =
-    exact n voc whole name c (no x ∷ (sign, a) ∷ (sign, b) ∷ []) (one_in c (no x ∷ (sign, a) ∷ (sign, b) ∷ []) i) (choice p q (yes x) (sign, a) (sign, b) o k l)
+same_literal : (a b : Literal) → a.atom ≡ b.atom → a.positive ≡ b.positive → a ≡ b
+same_literal a b e f = ap₂ (λ s x. let l : Literal = record { positive = s; atom = x } in l) f e
 
-either_other : (n : Sort → ℕ) (voc : Vocabulary) (whole : Copy) (name : ℕ → Copy) (p q : Copy) (one two : Bool) (x a b : ℕ) (t : Bool) → IsLitOf n voc whole name (Either p q) (yes x) → IsLitOf n voc whole name p (one, a) → IsLitOf n voc whole name q (two, b) → (c : List Lit) → IsIn c (cond t [] ((no x ∷ (one, a) ∷ (two, b) ∷ []) ∷ [])) → IsTied n voc whole name c
-either_other n voc whole name p q one two x a b true o k l c i = elim i [ ]
-either_other n voc whole name p q one two x a b false o k l c i =
-    exact n voc whole name c (no x ∷ (one, a) ∷ (two, b) ∷ []) (one_in c (no x ∷ (one, a) ∷ (two, b) ∷ []) i) (choice p q (yes x) (one, a) (two, b) o k l)
+either_by : (n : Sort → ℕ) (voc : Vocabulary) (whole : Copy) (name : ℕ → Copy) (p q : Copy) (x : ℕ) (a b : Literal) (t s : Bool) → nat_eq a.atom b.atom ≡ t → same_truth a.positive b.positive ≡ s → IsLiteralOf n voc whole name (Either p q) (yes x) → IsLiteralOf n voc whole name p a → IsLiteralOf n voc whole name q b → (c : List Literal) → IsIn c (cond t (cond s ((no x ∷ a ∷ []) ∷ []) []) ((no x ∷ a ∷ b ∷ []) ∷ [])) → IsTied n voc whole name c
+either_by n voc whole name p q x a b true true e f o k l c i =
+    subst (λ z. IsTied n voc whole name z) (sym (one_in c (no x ∷ a ∷ []) i)) (twice n voc whole name p q (yes x) a b (same_literal a b (eqb-true a.atom b.atom e) (same_truth-is a.positive b.positive f)) o k l)
+either_by n voc whole name p q x a b true false e f o k l c i = elim i [ ]
+either_by n voc whole name p q x a b false s e f o k l c i =
+    exact n voc whole name c (no x ∷ a ∷ b ∷ []) (one_in c (no x ∷ a ∷ b ∷ []) i) (choice p q (yes x) a b o k l)
 
-either_tied : (n : Sort → ℕ) (voc : Vocabulary) (whole : Copy) (name : ℕ → Copy) (p q : Copy) (x : ℕ) (a b : Lit) → IsLitOf n voc whole name (Either p q) (yes x) → IsLitOf n voc whole name p a → IsLitOf n voc whole name q b → (c : List Lit) → IsIn c (either_clauses x a b) → IsTied n voc whole name c
-either_tied n voc whole name p q x (true, a) (true, b) o k l c i = either_same n voc whole name p q true x a b (nat_eq a b) refl o k l c i
-either_tied n voc whole name p q x (true, a) (false, b) o k l c i = either_other n voc whole name p q true false x a b (nat_eq a b) o k l c i
-either_tied n voc whole name p q x (false, a) (true, b) o k l c i = either_other n voc whole name p q false true x a b (nat_eq a b) o k l c i
-either_tied n voc whole name p q x (false, a) (false, b) o k l c i = either_same n voc whole name p q false x a b (nat_eq a b) refl o k l c i
+either_tied : (n : Sort → ℕ) (voc : Vocabulary) (whole : Copy) (name : ℕ → Copy) (p q : Copy) (x : ℕ) (a b : Literal) → IsLiteralOf n voc whole name (Either p q) (yes x) → IsLiteralOf n voc whole name p a → IsLiteralOf n voc whole name q b → (c : List Literal) → IsIn c (either_clauses x a b) → IsTied n voc whole name c
+either_tied n voc whole name p q x a b = either_by n voc whole name p q x a b (nat_eq a.atom b.atom) (same_truth a.positive b.positive) refl refl
 
-node_tied : (n : Sort → ℕ) (voc : Vocabulary) (whole : Copy) (name : ℕ → Copy) (num : Fact → ℕ) → IsReady n voc name num → (k : ℕ) (p : Copy) → IsPlain p → AllOver n voc p → AreNodes name k p → AreWithin p whole → (c : List Lit) → IsIn c (node_clauses num k p) → IsTied n voc whole name c
+node_tied : (n : Sort → ℕ) (voc : Vocabulary) (whole : Copy) (name : ℕ → Copy) (num : Fact → ℕ) → IsReady n voc name num → (k : ℕ) (p : Copy) → IsPlain p → AllOver n voc p → AreNodes name k p → AreWithin p whole → (c : List Literal) → IsIn c (node_clauses num k p) → IsTied n voc whole name c
 node_tied n voc whole name num r k (Known b) i o a w c h = elim h [ ]
-node_tied n voc whole name num r k (Literal sign f) i o a w c h = elim h [ ]
+node_tied n voc whole name num r k (Leaf sign f) i o a w c h = elim h [ ]
 node_tied n voc whole name num r k (Both p q) i o a w c h =
     let wp : AreWithin p whole = λ y z. w y (inr (in_left (nodes p) (nodes q) y z)) in
     let wq : AreWithin q whole = λ y z. w y (inr (in_right (nodes p) (nodes q) y z)) in
@@ -117,24 +116,24 @@ node_tied n voc whole name num r k (Each m d) i o a w c h =
       | inr z ↦ exact n voc whole name c (member_clause k t) (one_in c (member_clause k t) z) (member (Each m d) (d x) (yes k) t (x, l, refl) (top_is n voc whole name num r k (Each m d) i o a w) (top_is n voc whole name num r (at x) (d x) (i x l) (o x l) (a.1 x l) within))
     ]
 
-plain_tied : (n : Sort → ℕ) (voc : Vocabulary) (whole : Copy) (name : ℕ → Copy) (num : Fact → ℕ) → IsReady n voc name num → (k : ℕ) → IsPlain whole → AllOver n voc whole → AreNodes name k whole → (c : List Lit) → IsIn c (node_clauses num k whole ++ (top num k whole ∷ []) ∷ []) → IsTied n voc whole name c
+plain_tied : (n : Sort → ℕ) (voc : Vocabulary) (whole : Copy) (name : ℕ → Copy) (num : Fact → ℕ) → IsReady n voc name num → (k : ℕ) → IsPlain whole → AllOver n voc whole → AreNodes name k whole → (c : List Literal) → IsIn c (node_clauses num k whole ++ (top num k whole ∷ []) ∷ []) → IsTied n voc whole name c
 plain_tied n voc whole name num r k i o a c h =
     elim (in_both (node_clauses num k whole) ((top num k whole ∷ []) ∷ []) c h) [
       | inl u ↦ node_tied n voc whole name num r k whole i o a (λ x y. y) c u
       | inr u ↦ exact n voc whole name c (top num k whole ∷ []) (one_in c (top num k whole ∷ []) u) (whole_true (top num k whole) (top_is n voc whole name num r k whole i o a (λ x y. y)))
     ]
 
-whole_tied : (n : Sort → ℕ) (voc : Vocabulary) (whole : Copy) (name : ℕ → Copy) (num : Fact → ℕ) → IsReady n voc name num → (k : ℕ) → IsSimple whole → AllOver n voc whole → AreNodes name k whole → (c : List Lit) → IsIn c (whole_clauses num k whole) → IsTied n voc whole name c
+whole_tied : (n : Sort → ℕ) (voc : Vocabulary) (whole : Copy) (name : ℕ → Copy) (num : Fact → ℕ) → IsReady n voc name num → (k : ℕ) → IsSimple whole → AllOver n voc whole → AreNodes name k whole → (c : List Literal) → IsIn c (whole_clauses num k whole) → IsTied n voc whole name c
 whole_tied n voc (Known true) name num r k i o a c h = elim h [ ]
 whole_tied n voc (Known false) name num r k i o a c h = exact n voc (Known false) name c [] (one_in c [] h) (whole_false refl)
-whole_tied n voc (Literal sign f) name num r k i o a c h = plain_tied n voc (Literal sign f) name num r k i o a c h
+whole_tied n voc (Leaf sign f) name num r k i o a c h = plain_tied n voc (Leaf sign f) name num r k i o a c h
 whole_tied n voc (Both p q) name num r k i o a c h = plain_tied n voc (Both p q) name num r k i o a c h
 whole_tied n voc (Either p q) name num r k i o a c h = plain_tied n voc (Either p q) name num r k i o a c h
 whole_tied n voc (Each m d) name num r k i o a c h = plain_tied n voc (Each m d) name num r k i o a c h
 
 -- Equality.
 
-fact_is : (n : Sort → ℕ) (voc : Vocabulary) (whole : Copy) (name : ℕ → Copy) (num : Fact → ℕ) → IsReady n voc name num → (f : Fact) → IsOver n voc f → IsLitOf n voc whole name (Literal true f) (yes (num f))
+fact_is : (n : Sort → ℕ) (voc : Vocabulary) (whole : Copy) (name : ℕ → Copy) (num : Fact → ℕ) → IsReady n voc name num → (f : Fact) → IsOver n voc f → IsLiteralOf n voc whole name (Leaf true f) (yes (num f))
 fact_is n voc whole name num r f o = (refl, r.facts f o)
 
 cond_in : {X : Type 0} (b : Bool) (x y : X) → IsIn x (cond b (y ∷ []) []) → (b ≡ true) × (x ≡ y)
@@ -145,13 +144,13 @@ cond_in_not : {X : Type 0} (b : Bool) (x y : X) → IsIn x (cond b [] (y ∷ [])
 cond_in_not true x y h = elim h [ ]
 cond_in_not false x y h = (refl, one_in x y h)
 
-same_tied : (n : Sort → ℕ) (voc : Vocabulary) (whole : Copy) (name : ℕ → Copy) (num : Fact → ℕ) → IsReady n voc name num → (s : Sort) (c : List Lit) → IsIn c (same_clauses num n s) → IsTied n voc whole name c
+same_tied : (n : Sort → ℕ) (voc : Vocabulary) (whole : Copy) (name : ℕ → Copy) (num : Fact → ℕ) → IsReady n voc name num → (s : Sort) (c : List Literal) → IsIn c (same_clauses num n s) → IsTied n voc whole name c
 same_tied n voc whole name num r s c h =
     let w = map_in (λ a. yes (num (Equation s a a)) ∷ []) (places_from 0 (n s)) c h in
     let l : w.0 < n s = omega (arith, (in_place 0 (n s) w.0 w.1).1) in
     exact n voc whole name c (yes (num (Equation s w.0 w.0)) ∷ []) w.2 (same s w.0 (yes (num (Equation s w.0 w.0))) (fact_is n voc whole name num r (Equation s w.0 w.0) (l, l)))
 
-chain_tied : (n : Sort → ℕ) (voc : Vocabulary) (whole : Copy) (name : ℕ → Copy) (num : Fact → ℕ) → IsReady n voc name num → (s : Sort) (c : List Lit) → IsIn c (chain_clauses num n s) → IsTied n voc whole name c
+chain_tied : (n : Sort → ℕ) (voc : Vocabulary) (whole : Copy) (name : ℕ → Copy) (num : Fact → ℕ) → IsReady n voc name num → (s : Sort) (c : List Literal) → IsIn c (chain_clauses num n s) → IsTied n voc whole name c
 chain_tied n voc whole name num r s c h =
     let ps = places_from 0 (n s) in
     let x = flat_in (λ a. flat_map (λ b. flat_map (λ d. cond (is_chain a b d) (chain_clause num s a b d ∷ []) []) ps) ps) ps c h in
@@ -170,17 +169,17 @@ no_differences n voc whole name [] (x ∷ xs) h = elim h [ ]
 no_differences n voc whole name (s ∷ ss) [] h = elim h [ ]
 no_differences n voc whole name (s ∷ ss) (x ∷ xs) h = inl (refl, h.0, no_differences n voc whole name ss xs h.1)
 
-one_difference : (n : Sort → ℕ) (voc : Vocabulary) (whole : Copy) (name : ℕ → Copy) (s : Sort) (a b : ℕ) → (a ≡ b → ⊥) → (l : Lit) → IsLitOf n voc whole name (Literal true (Equation s a b)) l → (post : List Sort) (back : List ℕ) → AreBelow n post back → (pre : List Sort) (front : List ℕ) → AreBelow n pre front → AreDifferences n voc whole name (pre ++ s ∷ post) (front ++ a ∷ back) (front ++ b ∷ back) (negated l ∷ [])
+one_difference : (n : Sort → ℕ) (voc : Vocabulary) (whole : Copy) (name : ℕ → Copy) (s : Sort) (a b : ℕ) → (a ≡ b → ⊥) → (l : Literal) → IsLiteralOf n voc whole name (Leaf true (Equation s a b)) l → (post : List Sort) (back : List ℕ) → AreBelow n post back → (pre : List Sort) (front : List ℕ) → AreBelow n pre front → AreDifferences n voc whole name (pre ++ s ∷ post) (front ++ a ∷ back) (front ++ b ∷ back) (negated l ∷ [])
 one_difference n voc whole name s a b d l o post back k [] [] h = inr (d, l, [], refl, o, no_differences n voc whole name post back k)
 one_difference n voc whole name s a b d l o post back k [] (x ∷ front) h = elim h [ ]
 one_difference n voc whole name s a b d l o post back k (t ∷ pre) [] h = elim h [ ]
 one_difference n voc whole name s a b d l o post back k (t ∷ pre) (x ∷ front) h = inl (refl, h.0, one_difference n voc whole name s a b d l o post back k pre front h.1)
 
-replace_tied : (n : Sort → ℕ) (voc : Vocabulary) (whole : Copy) (name : ℕ → Copy) (num : Fact → ℕ) → IsReady n voc name num → (rel : Pred) → IsIn rel voc.relations → (pre : List Sort) (front : List ℕ) → AreBelow n pre front → (ss : List Sort) (xs : List ℕ) → voc.columns rel ≡ pre ++ ss → AreBelow n ss xs → (c : List Lit) → IsIn c (replace_from num n rel front ss xs) → IsTied n voc whole name c
+replace_tied : (n : Sort → ℕ) (voc : Vocabulary) (whole : Copy) (name : ℕ → Copy) (num : Fact → ℕ) → IsReady n voc name num → (rel : Pred) → IsIn rel voc.relations → (pre : List Sort) (front : List ℕ) → AreBelow n pre front → (ss : List Sort) (xs : List ℕ) → voc.columns rel ≡ pre ++ ss → AreBelow n ss xs → (c : List Literal) → IsIn c (replace_from num n rel front ss xs) → IsTied n voc whole name c
 replace_tied n voc whole name num r rel i pre front f [] xs q b c h = elim h [ ]
 replace_tied n voc whole name num r rel i pre front f (s ∷ ss) [] q b c h = elim h [ ]
 replace_tied n voc whole name num r rel i pre front f (s ∷ ss) (a ∷ back) q b c h =
-    let make : ℕ → List (List Lit) = λ d. cond (nat_eq a d) [] (replace_clause num rel s front back a d ∷ []) in
+    let make : ℕ → List (List Literal) = λ d. cond (nat_eq a d) [] (replace_clause num rel s front back a d ∷ []) in
     elim (in_both (flat_map make (places_from 0 (n s))) (replace_from num n rel (front ++ a ∷ []) ss back) c h) [
       | inl u ↦ (
           let w = flat_in make (places_from 0 (n s)) c u in
@@ -196,7 +195,7 @@ replace_tied n voc whole name num r rel i pre front f (s ∷ ss) (a ∷ back) q 
       | inr u ↦ replace_tied n voc whole name num r rel i (pre ++ s ∷ []) (front ++ a ∷ []) (below_append n pre (s ∷ []) front (a ∷ []) f (b.0, tt)) ss back (q ∙ sym (append_assoc pre (s ∷ []) ss)) b.1 c u
     ]
 
-apart_tied : (n : Sort → ℕ) (voc : Vocabulary) (whole : Copy) (name : ℕ → Copy) (num : Fact → ℕ) → IsReady n voc name num → (k m : ℕ) → IsIn k voc.numerals → IsIn m voc.numerals → (c : List Lit) → IsIn c (cond (nat_lt k m) ((no (num (Equation Pr (numeral_place voc k) (numeral_place voc m))) ∷ []) ∷ []) []) → IsTied n voc whole name c
+apart_tied : (n : Sort → ℕ) (voc : Vocabulary) (whole : Copy) (name : ℕ → Copy) (num : Fact → ℕ) → IsReady n voc name num → (k m : ℕ) → IsIn k voc.numerals → IsIn m voc.numerals → (c : List Literal) → IsIn c (cond (nat_lt k m) ((no (num (Equation Pr (numeral_place voc k) (numeral_place voc m))) ∷ []) ∷ []) []) → IsTied n voc whole name c
 apart_tied n voc whole name num r k m ik im c h =
     let f = Equation Pr (numeral_place voc k) (numeral_place voc m) in
     let w = cond_in (nat_lt k m) c (no (num f) ∷ []) h in
@@ -206,11 +205,11 @@ apart_tied n voc whole name num r k m ik im c h =
     let l : k < m = ltb-true k m w.0 in
     exact n voc whole name c (no (num f) ∷ []) w.1 (apart k m (yes (num f)) ik im (λ e. omega arith) (fact_is n voc whole name num r f o))
 
-equality_tied : (n : Sort → ℕ) (voc : Vocabulary) (whole : Copy) (name : ℕ → Copy) (num : Fact → ℕ) → IsReady n voc name num → (c : List Lit) → IsIn c (equality_clauses num n voc) → IsTied n voc whole name c
+equality_tied : (n : Sort → ℕ) (voc : Vocabulary) (whole : Copy) (name : ℕ → Copy) (num : Fact → ℕ) → IsReady n voc name num → (c : List Literal) → IsIn c (equality_clauses num n voc) → IsTied n voc whole name c
 equality_tied n voc whole name num r c h =
     let ss : List Sort = Sw ∷ Ho ∷ Pr ∷ [] in
-    let one : Sort → List (List Lit) = λ s. same_clauses num n s ++ chain_clauses num n s in
-    let replaces : Pred → List (List Lit) = λ rel. replace_clauses num n voc rel in
+    let one : Sort → List (List Literal) = λ s. same_clauses num n s ++ chain_clauses num n s in
+    let replaces : Pred → List (List Literal) = λ rel. replace_clauses num n voc rel in
     elim (in_both (flat_map one ss) (flat_map replaces voc.relations ++ numeral_clauses num voc) c h) [
       | inl u ↦ (
           let w = flat_in one ss c u in
@@ -221,14 +220,14 @@ equality_tied n voc whole name num r c h =
             let y = flat_in (λ xs. replace_from num n w.0 [] (voc.columns w.0) xs) (all_tuples n (voc.columns w.0)) c w.2 in
             replace_tied n voc whole name num r w.0 w.1 [] [] tt (voc.columns w.0) y.0 refl (in_tuples n (voc.columns w.0) y.0 y.1) c y.2)
         | inr x ↦ (
-            let pair : ℕ → ℕ → List (List Lit) = λ k m. cond (nat_lt k m) ((no (num (Equation Pr (numeral_place voc k) (numeral_place voc m))) ∷ []) ∷ []) [] in
+            let pair : ℕ → ℕ → List (List Literal) = λ k m. cond (nat_lt k m) ((no (num (Equation Pr (numeral_place voc k) (numeral_place voc m))) ∷ []) ∷ []) [] in
             let w = flat_in (λ k. flat_map (pair k) voc.numerals) voc.numerals c x in
             let y = flat_in (pair w.0) voc.numerals c w.2 in
             apart_tied n voc whole name num r w.0 y.0 w.1 y.1 c y.2)
       ]
     ]
 
-pub all_tied : (n : Sort → ℕ) (voc : Vocabulary) (whole : Copy) (name : ℕ → Copy) (num : Fact → ℕ) → IsReady n voc name num → (k : ℕ) → IsSimple whole → AllOver n voc whole → AreNodes name k whole → (c : List Lit) → IsIn c (all_clauses num k n voc whole) → IsTied n voc whole name c
+pub all_tied : (n : Sort → ℕ) (voc : Vocabulary) (whole : Copy) (name : ℕ → Copy) (num : Fact → ℕ) → IsReady n voc name num → (k : ℕ) → IsSimple whole → AllOver n voc whole → AreNodes name k whole → (c : List Literal) → IsIn c (all_clauses num k n voc whole) → IsTied n voc whole name c
 all_tied n voc whole name num r k i o a c h =
     elim (in_both (whole_clauses num k whole) (equality_clauses num n voc) c h) [
       | inl u ↦ whole_tied n voc whole name num r k i o a c u
@@ -243,7 +242,7 @@ flat_length f g h i (suc m) = length-append (f i) (flat_map f (places_from (suc 
 
 pub node_length : (p : Copy) → length (nodes p) ≡ size p
 node_length (Known b) = refl
-node_length (Literal sign f) = refl
+node_length (Leaf sign f) = refl
 node_length (Both p q) = ap suc (length-append (nodes p) (nodes q) ∙ ap₂ (λ x y. x + y) (node_length p) (node_length q))
 node_length (Either p q) = ap suc (length-append (nodes p) (nodes q) ∙ ap₂ (λ x y. x + y) (node_length p) (node_length q))
 node_length (Each n c) = ap suc (flat_length (λ i. nodes (c i)) (λ i. size (c i)) (λ i. node_length (c i)) 0 n)
@@ -280,7 +279,7 @@ flat_part name f g e k i (suc m) (suc x) h l =
 
 nodes_named : (name : ℕ → Copy) (k : ℕ) (p : Copy) → StandsFrom name k (nodes p) → AreNodes name k p
 nodes_named name k (Known b) h = tt
-nodes_named name k (Literal sign f) h = tt
+nodes_named name k (Leaf sign f) h = tt
 nodes_named name k (Both p q) h =
     let rest = rest_part name k (Both p q) (nodes p ++ nodes q) h in
     (head_part name k (Both p q) (nodes p ++ nodes q) h, nodes_named name (suc k) p (first_part name (suc k) (nodes p) (nodes q) rest), nodes_named name (suc k + size p) q (second_part name (suc k) (size p) (nodes p) (nodes q) (node_length p) rest))
@@ -299,8 +298,8 @@ nodes_named name k (Each n c) h =
 ready : (voc : Vocabulary) → IsVocabulary voc → (n : Sort → ℕ) (first : ℕ) (num : Fact → ℕ) (fact_at : ℕ → Fact) → IsNaming voc n first num fact_at → ((s : Sort) → known voc s ≤ n s) → (whole : Copy) → IsReady n voc (name_of fact_at first whole) num
 ready voc vocabulary n first num fact_at o few whole = record {
   facts = λ f i.
-      (let e = ap (λ b. cond b (Literal true (fact_at (num f))) (get_or (nodes whole) (num f - first) (Known true))) (lt-ltb (num f) first (o.below f i)) in
-      (i, elim (o.back f i) [ inl q ↦ inl (e ∙ ap (λ g. Literal true g) q) | inr q ↦ inr (e ∙ ap (λ g. Literal true g) q) ]));
+      (let e = ap (λ b. cond b (Leaf true (fact_at (num f))) (get_or (nodes whole) (num f - first) (Known true))) (lt-ltb (num f) first (o.below f i)) in
+      (i, elim (o.back f i) [ inl q ↦ inl (e ∙ ap (λ g. Leaf true g) q) | inr q ↦ inr (e ∙ ap (λ g. Leaf true g) q) ]));
   few = few;
   vocabulary = vocabulary;
 }
@@ -309,9 +308,9 @@ whole_named : (first : ℕ) (fact_at : ℕ → Fact) (whole : Copy) → AreNodes
 whole_named first fact_at whole =
     nodes_named (name_of fact_at first whole) first whole (λ i l.
     let back : first + i - first ≡ i = omega arith in
-    ap (λ b. cond b (Literal true (fact_at (first + i))) (get_or (nodes whole) (first + i - first) (Known true))) (le-ltb (first + i) first (omega arith)) ∙ ap (λ z. get_or (nodes whole) z (Known true)) back)
+    ap (λ b. cond b (Leaf true (fact_at (first + i))) (get_or (nodes whole) (first + i - first) (Known true))) (le-ltb (first + i) first (omega arith)) ∙ ap (λ z. get_or (nodes whole) z (Known true)) back)
 
-pub sentence_tied : (voc : Vocabulary) (f : Form) (first : ℕ) (num : Fact → ℕ) (fact_at : ℕ → Fact) → IsClosed voc f → IsNaming voc (constants voc f) first num fact_at → (c : List Lit) → IsIn c (all_clauses num first (constants voc f) voc (copies_of voc f)) → IsTied (constants voc f) voc (copies_of voc f) (name_of fact_at first (copies_of voc f)) c
+pub sentence_tied : (voc : Vocabulary) (f : Form) (first : ℕ) (num : Fact → ℕ) (fact_at : ℕ → Fact) → IsClosed voc f → IsNaming voc (constants voc f) first num fact_at → (c : List Literal) → IsIn c (all_clauses num first (constants voc f) voc (copies_of voc f)) → IsTied (constants voc f) voc (copies_of voc f) (name_of fact_at first (copies_of voc f)) c
 sentence_tied voc f first num fact_at is o =
     let n = constants voc f in
     let few : (s : Sort) → known voc s ≤ n s = λ s. omega arith in
@@ -319,7 +318,7 @@ sentence_tied voc f first num fact_at is o =
     (copies_over voc n few (simplified f) [] (known voc) tt (fits-simplified voc f [] is.closed) (inside-simplified f is.inside) (λ s. omega (arith, need-simplified f s))) (whole_named first fact_at (copies_of voc f))
 
 -- a fair judgement that makes the copies true, read by the names, is a model
-pub judged_model : (voc : Vocabulary) (f : Form) (first : ℕ) (num : Fact → ℕ) (fact_at : ℕ → Fact) → IsClosed voc f → IsNaming voc (constants voc f) first num fact_at → (j : Fact → Bool) → IsFair voc (constants voc f) j → judge j (copies_of voc f) ≡ true → (c : List Lit) → IsIn c (all_clauses num first (constants voc f) voc (copies_of voc f)) → clause_true (λ x. judge j (name_of fact_at first (copies_of voc f) x)) c ≡ true
+pub judged_model : (voc : Vocabulary) (f : Form) (first : ℕ) (num : Fact → ℕ) (fact_at : ℕ → Fact) → IsClosed voc f → IsNaming voc (constants voc f) first num fact_at → (j : Fact → Bool) → IsFair voc (constants voc f) j → judge j (copies_of voc f) ≡ true → (c : List Literal) → IsIn c (all_clauses num first (constants voc f) voc (copies_of voc f)) → clause_true (λ x. judge j (name_of fact_at first (copies_of voc f) x)) c ≡ true
 judged_model voc f first num fact_at is o j fair h c i =
     let n = constants voc f in
     let whole = copies_of voc f in

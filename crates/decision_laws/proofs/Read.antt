@@ -4,24 +4,26 @@ use Rattle.std.proofs.lemmas.Bool.{and_from, cases_eq, cases_order, false≢true
 use Rattle.csdn_core.specs.declared.terms.Sort.{Sort}
 use Rattle.csdn_core.specs.declared.terms.Sort.TheVariants.{Ho, Pr, Sw}
 use Rattle.csdn_core.specs.declared.terms.Pred.{Pred}
-use Rattle.decision_laws.proofs.Basics.{all_from, in_place, place_in}
+use Rattle.decision_laws.proofs.Basics.{all_from, signed-same, in_place, place_in}
 use Rattle.decision_laws.proofs.Lists.{in_flat, in_left, in_map, in_right, tuple_in}
 use Rattle.decision_laws.specs.Classes.{all_tuples}
-use Rattle.decision_laws.specs.Clauses.{Lit, chain_clause, chain_clauses, clause_true, either_clauses, equality_clauses, is_chain, lit_true, member_clause, no, node_clauses, numeral_clauses, replace_clause, replace_clauses, replace_from, same_clauses, size, sum_from, top, whole_clauses, yes}
-use Rattle.decision_laws.specs.Copies.{AreAlike, AreBelow, Both, Copy, Each, Either, Equation, Fact, IsFair, Known, Literal, Tuple, judge, numeral_place}
+use Rattle.decision_laws.specs.Clauses.{chain_clause, chain_clauses, either_clauses, equality_clauses, is_chain, member_clause, no, node_clauses, numeral_clauses, replace_clause, replace_clauses, replace_from, same_clauses, size, sum_from, top, whole_clauses, yes}
+use Rattle.csdn_core.specs.Truth.{same_truth}
+use Rattle.clause_log.specs.Literals.{signed, Literal, clause_true, literal_true}
+use Rattle.decision_laws.specs.Copies.{AreAlike, AreBelow, Both, Copy, Each, Either, Equation, Fact, IsFair, Known, Leaf, Tuple, judge, numeral_place}
 use Rattle.decision_laws.specs.Vocabulary.{IsIn, Vocabulary, places_from}
 
 -- no truth value in it
 abbrev pub IsPlain : Copy → Type 0
 IsPlain (Known b) = ⊥
-IsPlain (Literal sign f) = Unit {0}
+IsPlain (Leaf sign f) = Unit {0}
 IsPlain (Both p q) = IsPlain p × IsPlain q
 IsPlain (Either p q) = IsPlain p × IsPlain q
 IsPlain (Each n c) = (i : ℕ) → i < n → IsPlain (c i)
 
 -- each clause of the list is true
-abbrev pub AllTrue : (ℕ → Bool) → List (List Lit) → Type 0
-AllTrue v cs = (c : List Lit) → IsIn c cs → clause_true v c ≡ true
+abbrev pub AllTrue : (ℕ → Bool) → List (List Literal) → Type 0
+AllTrue v cs = (c : List Literal) → IsIn c cs → clause_true v c ≡ true
 
 two_step : (x a : Bool) → (not x || (a || false)) ≡ true → x ≡ true → a ≡ true
 two_step true true h e = refl
@@ -40,63 +42,47 @@ premises_step true true false h e f = absurd (false≢true h)
 premises_step true false a h e f = absurd (false≢true f)
 premises_step false y a h e f = absurd (false≢true e)
 
-either_not : (b : Bool) → (b || not b) ≡ true
-either_not true = refl
-either_not false = refl
+-- one atom with both signs
+both_signs : (s t b : Bool) → same_truth s t ≡ false → (signed s b || signed t b) ≡ true
+both_signs true true b e = absurd (false≢true (sym e))
+both_signs true false true e = refl
+both_signs true false false e = refl
+both_signs false true true e = refl
+both_signs false true false e = refl
+both_signs false false b e = absurd (false≢true (sym e))
 
-not_either : (b : Bool) → (not b || b) ≡ true
-not_either true = refl
-not_either false = refl
+either_by : (v : ℕ → Bool) (x : ℕ) (a b : Literal) (t s : Bool) → nat_eq a.atom b.atom ≡ t → same_truth a.positive b.positive ≡ s → AllTrue v (cond t (cond s ((no x ∷ a ∷ []) ∷ []) []) ((no x ∷ a ∷ b ∷ []) ∷ [])) → v x ≡ true → (literal_true v a || literal_true v b) ≡ true
+either_by v x a b true true p q h e = or_left (literal_true v a) (literal_true v b) (two_step (v x) (literal_true v a) (h (no x ∷ a ∷ []) (inl refl)) e)
+either_by v x a b true false p q h e = subst (λ z. (literal_true v a || signed b.positive (v z)) ≡ true) (eqb-true a.atom b.atom p) (both_signs a.positive b.positive (v a.atom) q)
+either_by v x a b false s p q h e = three_step (v x) (literal_true v a) (literal_true v b) (h (no x ∷ a ∷ b ∷ []) (inl refl)) e
 
-either_same : (b : Bool) → b ≡ true → (b || b) ≡ true
-either_same b e = or_left b b e
+either_read : (v : ℕ → Bool) (x : ℕ) (a b : Literal) → AllTrue v (either_clauses x a b) → v x ≡ true → (literal_true v a || literal_true v b) ≡ true
+either_read v x a b = either_by v x a b (nat_eq a.atom b.atom) (same_truth a.positive b.positive) refl refl
 
-either_tt : (v : ℕ → Bool) (x a b : ℕ) (t : Bool) → nat_eq a b ≡ t → AllTrue v (cond t ((no x ∷ yes a ∷ []) ∷ []) ((no x ∷ yes a ∷ yes b ∷ []) ∷ [])) → v x ≡ true → (v a || v b) ≡ true
-either_tt v x a b true q h e = or_left (v a) (v b) (two_step (v x) (v a) (h (no x ∷ yes a ∷ []) (inl refl)) e)
-either_tt v x a b false q h e = three_step (v x) (v a) (v b) (h (no x ∷ yes a ∷ yes b ∷ []) (inl refl)) e
-
-either_tf : (v : ℕ → Bool) (x a b : ℕ) (t : Bool) → nat_eq a b ≡ t → AllTrue v (cond t [] ((no x ∷ yes a ∷ no b ∷ []) ∷ [])) → v x ≡ true → (v a || not (v b)) ≡ true
-either_tf v x a b true q h e = subst (λ z. (v a || not (v z)) ≡ true) (eqb-true a b q) (either_not (v a))
-either_tf v x a b false q h e = three_step (v x) (v a) (not (v b)) (h (no x ∷ yes a ∷ no b ∷ []) (inl refl)) e
-
-either_ft : (v : ℕ → Bool) (x a b : ℕ) (t : Bool) → nat_eq a b ≡ t → AllTrue v (cond t [] ((no x ∷ no a ∷ yes b ∷ []) ∷ [])) → v x ≡ true → (not (v a) || v b) ≡ true
-either_ft v x a b true q h e = subst (λ z. (not (v a) || v z) ≡ true) (eqb-true a b q) (not_either (v a))
-either_ft v x a b false q h e = three_step (v x) (not (v a)) (v b) (h (no x ∷ no a ∷ yes b ∷ []) (inl refl)) e
-
-either_ff : (v : ℕ → Bool) (x a b : ℕ) (t : Bool) → nat_eq a b ≡ t → AllTrue v (cond t ((no x ∷ no a ∷ []) ∷ []) ((no x ∷ no a ∷ no b ∷ []) ∷ [])) → v x ≡ true → (not (v a) || not (v b)) ≡ true
-either_ff v x a b true q h e = or_left (not (v a)) (not (v b)) (two_step (v x) (not (v a)) (h (no x ∷ no a ∷ []) (inl refl)) e)
-either_ff v x a b false q h e = three_step (v x) (not (v a)) (not (v b)) (h (no x ∷ no a ∷ no b ∷ []) (inl refl)) e
-
-either_read : (v : ℕ → Bool) (x : ℕ) (a b : Lit) → AllTrue v (either_clauses x a b) → v x ≡ true → (lit_true v a || lit_true v b) ≡ true
-either_read v x (true, a) (true, b) h e = either_tt v x a b (nat_eq a b) refl h e
-either_read v x (true, a) (false, b) h e = either_tf v x a b (nat_eq a b) refl h e
-either_read v x (false, a) (true, b) h e = either_ft v x a b (nat_eq a b) refl h e
-either_read v x (false, a) (false, b) h e = either_ff v x a b (nat_eq a b) refl h e
-
-pub left_true : (v : ℕ → Bool) (cs ds : List (List Lit)) → AllTrue v (cs ++ ds) → AllTrue v cs
+pub left_true : (v : ℕ → Bool) (cs ds : List (List Literal)) → AllTrue v (cs ++ ds) → AllTrue v cs
 left_true v cs ds h c i = h c (in_left cs ds c i)
 
-pub right_true : (v : ℕ → Bool) (cs ds : List (List Lit)) → AllTrue v (cs ++ ds) → AllTrue v ds
+pub right_true : (v : ℕ → Bool) (cs ds : List (List Literal)) → AllTrue v (cs ++ ds) → AllTrue v ds
 right_true v cs ds h c i = h c (in_right cs ds c i)
 
 -- a node whose literal is true is judged true
-pub node_read : (num : Fact → ℕ) (v : ℕ → Bool) (k : ℕ) (p : Copy) → IsPlain p → AllTrue v (node_clauses num k p) → lit_true v (top num k p) ≡ true → judge (λ f. v (num f)) p ≡ true
+pub node_read : (num : Fact → ℕ) (v : ℕ → Bool) (k : ℕ) (p : Copy) → IsPlain p → AllTrue v (node_clauses num k p) → literal_true v (top num k p) ≡ true → judge (λ f. v (num f)) p ≡ true
 node_read num v k (Known b) i h e = elim i [ ]
-node_read num v k (Literal sign f) i h e = e
+node_read num v k (Leaf sign f) i h e = sym (signed-same sign (v (num f))) ∙ e
 node_read num v k (Both p q) i h e =
     let a = top num (suc k) p in
     let b = top num (suc k + size p) q in
     let one = left_true v (node_clauses num (suc k) p ++ member_clause k a ∷ []) (node_clauses num (suc k + size p) q ++ member_clause k b ∷ []) h in
     let two = right_true v (node_clauses num (suc k) p ++ member_clause k a ∷ []) (node_clauses num (suc k + size p) q ++ member_clause k b ∷ []) h in
     and_from (judge (λ f. v (num f)) p) (judge (λ f. v (num f)) q)
-    (node_read num v (suc k) p i.0 (left_true v (node_clauses num (suc k) p) (member_clause k a ∷ []) one) (two_step (v k) (lit_true v a) (right_true v (node_clauses num (suc k) p) (member_clause k a ∷ []) one (member_clause k a) (inl refl)) e))
-    (node_read num v (suc k + size p) q i.1 (left_true v (node_clauses num (suc k + size p) q) (member_clause k b ∷ []) two) (two_step (v k) (lit_true v b) (right_true v (node_clauses num (suc k + size p) q) (member_clause k b ∷ []) two (member_clause k b) (inl refl)) e))
+    (node_read num v (suc k) p i.0 (left_true v (node_clauses num (suc k) p) (member_clause k a ∷ []) one) (two_step (v k) (literal_true v a) (right_true v (node_clauses num (suc k) p) (member_clause k a ∷ []) one (member_clause k a) (inl refl)) e))
+    (node_read num v (suc k + size p) q i.1 (left_true v (node_clauses num (suc k + size p) q) (member_clause k b ∷ []) two) (two_step (v k) (literal_true v b) (right_true v (node_clauses num (suc k + size p) q) (member_clause k b ∷ []) two (member_clause k b) (inl refl)) e))
 node_read num v k (Either p q) i h e =
     let a = top num (suc k) p in
     let b = top num (suc k + size p) q in
     let later = right_true v (node_clauses num (suc k) p) (node_clauses num (suc k + size p) q ++ either_clauses k a b) h in
     let last = right_true v (node_clauses num (suc k + size p) q) (either_clauses k a b) later in
-    elim (or_cases (lit_true v a) (lit_true v b) (either_read v k a b last e)) [
+    elim (or_cases (literal_true v a) (literal_true v b) (either_read v k a b last e)) [
       | inl t ↦ or_left (judge (λ f. v (num f)) p) (judge (λ f. v (num f)) q) (node_read num v (suc k) p i.0 (left_true v (node_clauses num (suc k) p) (node_clauses num (suc k + size p) q ++ either_clauses k a b) h) t)
       | inr t ↦ or_right (judge (λ f. v (num f)) p) (judge (λ f. v (num f)) q) (node_read num v (suc k + size p) q i.1 (left_true v (node_clauses num (suc k + size p) q) (either_clauses k a b) later) t)
     ]
@@ -106,7 +92,7 @@ node_read num v k (Each n c) i h e =
     let at : ℕ → ℕ = λ y. suc k + sum_from (λ z. size (c z)) 0 y in
     let mine : AllTrue v (node_clauses num (at x) (c x) ++ member_clause k (top num (at x) (c x)) ∷ []) = λ d u. h d (in_flat (λ y. node_clauses num (at y) (c y) ++ member_clause k (top num (at y) (c y)) ∷ []) (places_from 0 n) x d o u) in
     node_read num v (at x) (c x) (i x l) (left_true v (node_clauses num (at x) (c x)) (member_clause k (top num (at x) (c x)) ∷ []) mine)
-    (two_step (v k) (lit_true v (top num (at x) (c x))) (right_true v (node_clauses num (at x) (c x)) (member_clause k (top num (at x) (c x)) ∷ []) mine (member_clause k (top num (at x) (c x))) (inl refl)) e))
+    (two_step (v k) (literal_true v (top num (at x) (c x))) (right_true v (node_clauses num (at x) (c x)) (member_clause k (top num (at x) (c x)) ∷ []) mine (member_clause k (top num (at x) (c x))) (inl refl)) e))
 
 -- a truth value, or none in it
 abbrev pub IsSimple : Copy → Type 0
@@ -117,14 +103,14 @@ or_nothing : (b : Bool) → (b || false) ≡ true → b ≡ true
 or_nothing true h = refl
 or_nothing false h = h
 
-top_true : (v : ℕ → Bool) (num : Fact → ℕ) (k : ℕ) (p : Copy) → AllTrue v (node_clauses num k p ++ (top num k p ∷ []) ∷ []) → lit_true v (top num k p) ≡ true
+top_true : (v : ℕ → Bool) (num : Fact → ℕ) (k : ℕ) (p : Copy) → AllTrue v (node_clauses num k p ++ (top num k p ∷ []) ∷ []) → literal_true v (top num k p) ≡ true
 top_true v num k p h =
-    or_nothing (lit_true v (top num k p)) (right_true v (node_clauses num k p) ((top num k p ∷ []) ∷ []) h (top num k p ∷ []) (inl refl))
+    or_nothing (literal_true v (top num k p)) (right_true v (node_clauses num k p) ((top num k p ∷ []) ∷ []) h (top num k p ∷ []) (inl refl))
 
 pub whole_read : (num : Fact → ℕ) (v : ℕ → Bool) (k : ℕ) (p : Copy) → IsSimple p → AllTrue v (whole_clauses num k p) → judge (λ f. v (num f)) p ≡ true
 whole_read num v k (Known true) i h = refl
 whole_read num v k (Known false) i h = absurd (false≢true (h [] (inl refl)))
-whole_read num v k (Literal sign f) i h = node_read num v k (Literal sign f) i (left_true v (node_clauses num k (Literal sign f)) ((top num k (Literal sign f) ∷ []) ∷ []) h) (top_true v num k (Literal sign f) h)
+whole_read num v k (Leaf sign f) i h = node_read num v k (Leaf sign f) i (left_true v (node_clauses num k (Leaf sign f)) ((top num k (Leaf sign f) ∷ []) ∷ []) h) (top_true v num k (Leaf sign f) h)
 whole_read num v k (Both p q) i h = node_read num v k (Both p q) i (left_true v (node_clauses num k (Both p q)) ((top num k (Both p q) ∷ []) ∷ []) h) (top_true v num k (Both p q) h)
 whole_read num v k (Each n c) i h = node_read num v k (Each n c) i (left_true v (node_clauses num k (Each n c)) ((top num k (Each n c) ∷ []) ∷ []) h) (top_true v num k (Each n c) h)
 whole_read num v k (Either p q) i h = node_read num v k (Either p q) i (left_true v (node_clauses num k (Either p q)) ((top num k (Either p q) ∷ []) ∷ []) h) (top_true v num k (Either p q) h)
@@ -245,7 +231,7 @@ exchange num n voc v rel h pre mid m (s ∷ ss) (x ∷ xs) (y ∷ ys) q a e =
 
 apart_in : (num : Fact → ℕ) (voc : Vocabulary) (k m : ℕ) → IsIn k voc.numerals → IsIn m voc.numerals → k < m → IsIn (no (num (Equation Pr (numeral_place voc k) (numeral_place voc m))) ∷ []) (numeral_clauses num voc)
 apart_in num voc k m hk hm l =
-    let x : ℕ → ℕ → List Lit = λ a b. no (num (Equation Pr (numeral_place voc a) (numeral_place voc b))) ∷ [] in
+    let x : ℕ → ℕ → List Literal = λ a b. no (num (Equation Pr (numeral_place voc a) (numeral_place voc b))) ∷ [] in
     in_flat (λ a. flat_map (λ b. cond (nat_lt a b) (x a b ∷ []) []) voc.numerals) voc.numerals k (x k m) hk
     (in_flat (λ b. cond (nat_lt k b) (x k b ∷ []) []) voc.numerals m (x k m) hm (in_cond (nat_lt k m) (x k m) [] (lt-ltb k m l)))
 

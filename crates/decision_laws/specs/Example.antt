@@ -16,8 +16,9 @@ use Rattle.csdn_core.specs.declared.syntax.Formula.TheVariants.{True, Atom, Same
 use Rattle.csdn_core.specs.declared.syntax.Command.TheVariants.{Insert}
 use Rattle.csdn_core.specs.Tree.{negation, conjunction, disjunction, implication, universal}
 use Rattle.csdn_core.specs.Network.{Network}
-use Rattle.decision_laws.specs.Copies.{Fact, Tuple, Equation, Copy, Literal, Both, Either, Each}
-use Rattle.decision_laws.specs.Clauses.{Lit, yes, no}
+use Rattle.decision_laws.specs.Copies.{Fact, Tuple, Equation, Copy, Leaf, Both, Either, Each}
+use Rattle.decision_laws.specs.Clauses.{yes, no}
+use Rattle.clause_log.specs.Literals.{Literal}
 
 abbrev pub variable : ℕ → VarId
 variable k = record { 0 = k }
@@ -80,10 +81,10 @@ hosts_equal a b = Equation Ho a b
 abbrev pub example_copies : Copy
 example_copies =
     Both
-    (Each 4 (λ a. Each 4 (λ b. Either (Either (Literal false (r_of a)) (Literal false (r_of b))) (Literal true (hosts_equal a b)))))
+    (Each 4 (λ a. Each 4 (λ b. Either (Either (Leaf false (r_of a)) (Leaf false (r_of b))) (Leaf true (hosts_equal a b)))))
     (Both
-    (Both (Either (Literal true (r_of 2)) (Literal true (hosts_equal 2 0))) (Either (Literal true (r_of 3)) (Literal true (hosts_equal 3 0))))
-    (Literal false (hosts_equal 2 3)))
+    (Both (Either (Leaf true (r_of 2)) (Leaf true (hosts_equal 2 0))) (Either (Leaf true (r_of 3)) (Leaf true (hosts_equal 3 0))))
+    (Leaf false (hosts_equal 2 3)))
 
 -- Numbers: 0 for the one switch equal to itself; for hosts a up to b, a = b has 1 + 4 * b + a; 17 for the one port; r(a) has
 -- 18 + a. The 42 nodes have 22 to 63: 22 is the whole, 23 the hypothesis, 24, 33, 42 and 51 its copies for each X, each
@@ -91,7 +92,7 @@ example_copies =
 abbrev pub example_first : ℕ
 example_first = 22
 
-abbrev pub example_node_clauses : List (List Lit)
+abbrev pub example_node_clauses : List (List Literal)
 example_node_clauses =
     (no 26 ∷ no 18 ∷ []) ∷ (no 25 ∷ yes 26 ∷ yes 1 ∷ []) ∷ (no 24 ∷ yes 25 ∷ []) ∷ (no 28 ∷ no 18 ∷ no 19 ∷ []) ∷
     (no 27 ∷ yes 28 ∷ yes 5 ∷ []) ∷ (no 24 ∷ yes 27 ∷ []) ∷ (no 30 ∷ no 18 ∷ no 20 ∷ []) ∷
@@ -114,7 +115,7 @@ example_node_clauses =
     (no 22 ∷ yes 60 ∷ []) ∷ (yes 22 ∷ []) ∷ []
 
 -- each constant is itself; equality of hosts is transitive; equal hosts replace each other in r
-abbrev pub example_equality_clauses : List (List Lit)
+abbrev pub example_equality_clauses : List (List Literal)
 example_equality_clauses =
     (yes 0 ∷ []) ∷ (yes 1 ∷ []) ∷ (yes 6 ∷ []) ∷ (yes 11 ∷ []) ∷ (yes 16 ∷ []) ∷ (no 5 ∷ no 10 ∷ yes 9 ∷ []) ∷
     (no 5 ∷ no 14 ∷ yes 13 ∷ []) ∷ (no 9 ∷ no 10 ∷ yes 5 ∷ []) ∷ (no 9 ∷ no 15 ∷ yes 13 ∷ []) ∷

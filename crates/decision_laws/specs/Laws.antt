@@ -12,7 +12,8 @@ use Rattle.decision_laws.specs.Forms.{Form, normal_form, in_fragment}
 use Rattle.decision_laws.specs.Vocabulary.{Vocabulary, IsIn, vocabulary, fits, has_term}
 use Rattle.decision_laws.specs.Copies.{Fact, Equation, Copy, index_of, copies_of, judge, IsFair}
 use Rattle.decision_laws.specs.Classes.{sizes}
-use Rattle.decision_laws.specs.Clauses.{Lit, IsModel, all_clauses, IsNaming}
+use Rattle.decision_laws.specs.Clauses.{all_clauses, IsNaming}
+use Rattle.clause_log.specs.Literals.{IsModel, Literal}
 use Rattle.decision_laws.specs.Tied.{IsTied, name_of}
 
 -- the normal form of a sentence
@@ -56,7 +57,7 @@ module _ (P : Parts) (F : Formula) where
       → j (Equation s (index_of t (words.names s)) (index_of u (words.names s))) ≡ (value (structure P N x Nothing) no_values t == value (structure P N x Nothing) no_values u)
 
   -- all clauses of the sentence, where facts are numbered by num, and the nodes of the copies from first on
-  abbrev pub complete_clauses : (Fact → ℕ) → ℕ → List (List Lit)
+  abbrev pub complete_clauses : (Fact → ℕ) → ℕ → List (List Literal)
   complete_clauses num first = all_clauses num first counts words sentence_copies
 
   -- num gives facts numbers below first, from which fact_at leads back
@@ -68,13 +69,13 @@ module _ (P : Parts) (F : Formula) where
   clause_names first fact_at = name_of fact_at first sentence_copies
 
   -- a clause is tied to the sentence by these names
-  abbrev pub IsTiedTo : ℕ → (ℕ → Fact) → List Lit → Type 0
+  abbrev pub IsTiedTo : ℕ → (ℕ → Fact) → List Literal → Type 0
   IsTiedTo first fact_at c = IsTied counts words sentence_copies (clause_names first fact_at) c
 
   -- some names of the atoms tie each of the clauses to the sentence
-  abbrev pub AreTied : List (List Lit) → Type 0
-  AreTied cs = (name : ℕ → Copy) × ((c : List Lit) → IsIn c cs → IsTied counts words sentence_copies name c)
+  abbrev pub AreTied : List (List Literal) → Type 0
+  AreTied cs = (name : ℕ → Copy) × ((c : List Literal) → IsIn c cs → IsTied counts words sentence_copies name c)
 
 -- some valuation makes each of the clauses true
-abbrev pub HasModel : List (List Lit) → Type 0
+abbrev pub HasModel : List (List Literal) → Type 0
 HasModel cs = (v : ℕ → Bool) × IsModel v cs

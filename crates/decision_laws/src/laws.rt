@@ -10,7 +10,8 @@ ghost use Rattle.decision_laws.specs.Forms.{Form, form_truth, simplified};
 ghost use Rattle.decision_laws.specs.Vocabulary.{Vocabulary, IsIn, places_from};
 ghost use Rattle.decision_laws.specs.Copies.{AreBelow, Fact, Scope, copies, judge};
 ghost use Rattle.decision_laws.specs.Classes.{Meaning, AreOfJudgement, number, network_of, state_of};
-ghost use Rattle.decision_laws.specs.Clauses.{Lit, size, AtomsDiffer, clause_true, IsModel};
+ghost use Rattle.decision_laws.specs.Clauses.{size};
+ghost use Rattle.clause_log.specs.Literals.{has_distinct_atoms, IsModel, Literal, clause_true};
 ghost use Rattle.decision_laws.specs.Numbers.{tuple_count, tuple_of, fact_count, fact_number, numbered_fact};
 ghost use Rattle.decision_laws.specs.Weights.{weight};
 ghost use Rattle.decision_laws.specs.Sublists.{ArePart, AreBroken, left_of};
@@ -41,15 +42,15 @@ pub fn judgement_gives_network()
 pub fn clauses_have_models()
     ensures model { (P : AnyParts) (F : AnyFormula) (first : ℕ) (num : Fact → ℕ) (fact_at : ℕ → Fact) → IsSentence P F → NamesFacts P F first num fact_at → (v : ℕ → Bool) → IsModel v (complete_clauses P F num first) → IsJudgement P F (λ f. v (num f)) }
     ensures judged { (P : AnyParts) (F : AnyFormula) (first : ℕ) (num : Fact → ℕ) (fact_at : ℕ → Fact) → IsSentence P F → NamesFacts P F first num fact_at → (j : Fact → Bool) → IsJudgement P F j → IsModel (λ x. judge j (clause_names P F first fact_at x)) (complete_clauses P F num first) }
-    ensures tied { (P : AnyParts) (F : AnyFormula) (first : ℕ) (num : Fact → ℕ) (fact_at : ℕ → Fact) → IsSentence P F → NamesFacts P F first num fact_at → (c : List Lit) → IsIn c (complete_clauses P F num first) → IsTiedTo P F first fact_at c }
-    ensures apart { (P : AnyParts) (F : AnyFormula) (first : ℕ) (num : Fact → ℕ) (fact_at : ℕ → Fact) → IsSentence P F → NamesFacts P F first num fact_at → (c : List Lit) → IsIn c (complete_clauses P F num first) → AtomsDiffer c }
-    ensures within { (P : AnyParts) (F : AnyFormula) (first : ℕ) (num : Fact → ℕ) (fact_at : ℕ → Fact) → IsSentence P F → NamesFacts P F first num fact_at → (c : List Lit) → IsIn c (complete_clauses P F num first) → (l : Lit) → IsIn l c → l.1 < first + size (sentence_copies P F) }
+    ensures tied { (P : AnyParts) (F : AnyFormula) (first : ℕ) (num : Fact → ℕ) (fact_at : ℕ → Fact) → IsSentence P F → NamesFacts P F first num fact_at → (c : List Literal) → IsIn c (complete_clauses P F num first) → IsTiedTo P F first fact_at c }
+    ensures apart { (P : AnyParts) (F : AnyFormula) (first : ℕ) (num : Fact → ℕ) (fact_at : ℕ → Fact) → IsSentence P F → NamesFacts P F first num fact_at → (c : List Literal) → IsIn c (complete_clauses P F num first) → IsTrue (has_distinct_atoms c) }
+    ensures within { (P : AnyParts) (F : AnyFormula) (first : ℕ) (num : Fact → ℕ) (fact_at : ℕ → Fact) → IsSentence P F → NamesFacts P F first num fact_at → (c : List Literal) → IsIn c (complete_clauses P F num first) → (l : Literal) → IsIn l c → l.atom < first + size (sentence_copies P F) }
     ensures network { (P : AnyParts) (F : AnyFormula) (first : ℕ) (num : Fact → ℕ) (fact_at : ℕ → Fact) → IsSentence P F → NamesFacts P F first num fact_at → HasModel (complete_clauses P F num first) ↔ HasNetwork P F }
 {}
 
 /// Clauses that are tied to a sentence, by any names, have a model where the sentence has a network.
 pub fn tied_clauses_have_models()
-    ensures { (P : AnyParts) (F : AnyFormula) (cs : List (List Lit)) → IsSentence P F → AreTied P F cs → HasNetwork P F → HasModel cs }
+    ensures { (P : AnyParts) (F : AnyFormula) (cs : List (List Literal)) → IsSentence P F → AreTied P F cs → HasNetwork P F → HasModel cs }
 {}
 
 /// The copies of a form have as many nodes wherever they are made.
@@ -70,11 +71,11 @@ pub fn numbers_name_tuples()
 /// Some of the clauses, each once, are tied and have a model where the sentence has a network. Clauses that a model of them
 /// breaks are new, and so many fewer are left.
 pub fn some_clauses_suffice()
-    ensures tied { (P : AnyParts) (F : AnyFormula) (first : ℕ) (num : Fact → ℕ) (fact_at : ℕ → Fact) → IsSentence P F → NamesFacts P F first num fact_at → (cs : List (List Lit)) → ArePart (complete_clauses P F num first) cs → (c : List Lit) → IsIn c cs → IsTiedTo P F first fact_at c }
-    ensures model { (P : AnyParts) (F : AnyFormula) (first : ℕ) (num : Fact → ℕ) (fact_at : ℕ → Fact) → IsSentence P F → NamesFacts P F first num fact_at → (cs : List (List Lit)) → ArePart (complete_clauses P F num first) cs → HasNetwork P F → HasModel cs }
-    ensures whole { (whole cs : List (List Lit)) (v : ℕ → Bool) → ((c : List Lit) → IsIn c whole → IsTrue (clause_true v c)) → IsModel v whole }
-    ensures part { (whole cs new : List (List Lit)) (v : ℕ → Bool) → ArePart whole cs → IsModel v cs → AreBroken whole v new → ArePart whole (cs ++ new) }
-    ensures left { (whole cs new : List (List Lit)) (v : ℕ → Bool) → ArePart whole cs → IsModel v cs → AreBroken whole v new → left_of whole (cs ++ new) + length new ≡ left_of whole cs }
+    ensures tied { (P : AnyParts) (F : AnyFormula) (first : ℕ) (num : Fact → ℕ) (fact_at : ℕ → Fact) → IsSentence P F → NamesFacts P F first num fact_at → (cs : List (List Literal)) → ArePart (complete_clauses P F num first) cs → (c : List Literal) → IsIn c cs → IsTiedTo P F first fact_at c }
+    ensures model { (P : AnyParts) (F : AnyFormula) (first : ℕ) (num : Fact → ℕ) (fact_at : ℕ → Fact) → IsSentence P F → NamesFacts P F first num fact_at → (cs : List (List Literal)) → ArePart (complete_clauses P F num first) cs → HasNetwork P F → HasModel cs }
+    ensures whole { (whole cs : List (List Literal)) (v : ℕ → Bool) → ((c : List Literal) → IsIn c whole → IsTrue (clause_true v c)) → IsModel v whole }
+    ensures part { (whole cs new : List (List Literal)) (v : ℕ → Bool) → ArePart whole cs → IsModel v cs → AreBroken whole v new → ArePart whole (cs ++ new) }
+    ensures left { (whole cs new : List (List Literal)) (v : ℕ → Bool) → ArePart whole cs → IsModel v cs → AreBroken whole v new → left_of whole (cs ++ new) + length new ≡ left_of whole cs }
 {}
 
 /// The definitions at a worked example, computed by hand: the step condition of a program that keeps a relation of hosts to
