@@ -13,7 +13,7 @@ use Rattle.decision_laws.proofs.Read.{IsPlain, IsSimple, below_append}
 use Rattle.decision_laws.proofs.Simplify.{fits-simplified, inside-simplified, need-simplified}
 use Rattle.decision_laws.proofs.Tied.{tied_true}
 use Rattle.decision_laws.specs.Classes.{all_tuples}
-use Rattle.decision_laws.specs.Clauses.{IsNaming, IsOver, all_clauses, chain_clause, chain_clauses, either_clauses, equality_clauses, is_chain, member_clause, no, node_clauses, nodes, numeral_clauses, replace_clause, replace_clauses, replace_from, same_clauses, size, sum_from, top, whole_clauses, yes}
+use Rattle.decision_laws.specs.Clauses.{IsNaming, Naming, IsOver, all_clauses, chain_clause, chain_clauses, either_clauses, equality_clauses, is_chain, member_clause, no, node_clauses, nodes, numeral_clauses, replace_clause, replace_clauses, replace_from, same_clauses, size, sum_from, top, whole_clauses, yes}
 use Rattle.csdn_core.specs.Truth.{same_truth}
 use Rattle.decision_laws.proofs.NormalTruth.{same_truth-is}
 use Rattle.clause_log.specs.Literals.{Literal, clause_true, negated}
@@ -227,7 +227,7 @@ equality_tied n voc whole name num r c h =
       ]
     ]
 
-pub all_tied : (n : Sort → ℕ) (voc : Vocabulary) (whole : Copy) (name : ℕ → Copy) (num : Fact → ℕ) → IsReady n voc name num → (k : ℕ) → IsSimple whole → AllOver n voc whole → AreNodes name k whole → (c : List Literal) → IsIn c (all_clauses num k n voc whole) → IsTied n voc whole name c
+pub all_tied : (n : Sort → ℕ) (voc : Vocabulary) (whole : Copy) (name : ℕ → Copy) (num : Fact → ℕ) → IsReady n voc name num → (k : ℕ) → IsSimple whole → AllOver n voc whole → AreNodes name k whole → (c : List Literal) → IsIn c (whole_clauses num k whole ++ equality_clauses num n voc) → IsTied n voc whole name c
 all_tied n voc whole name num r k i o a c h =
     elim (in_both (whole_clauses num k whole) (equality_clauses num n voc) c h) [
       | inl u ↦ whole_tied n voc whole name num r k i o a c u
@@ -295,32 +295,47 @@ nodes_named name k (Each n c) h =
     )
 
 -- the names of facts and nodes are those of the numbering
-ready : (voc : Vocabulary) → IsVocabulary voc → (n : Sort → ℕ) (first : ℕ) (num : Fact → ℕ) (fact_at : ℕ → Fact) → IsNaming voc n first num fact_at → ((s : Sort) → known voc s ≤ n s) → (whole : Copy) → IsReady n voc (name_of fact_at first whole) num
-ready voc vocabulary n first num fact_at o few whole = record {
-  facts = λ f i.
-      (let e = ap (λ b. cond b (Leaf true (fact_at (num f))) (get_or (nodes whole) (num f - first) (Known true))) (lt-ltb (num f) first (o.below f i)) in
-      (i, elim (o.back f i) [ inl q ↦ inl (e ∙ ap (λ g. Leaf true g) q) | inr q ↦ inr (e ∙ ap (λ g. Leaf true g) q) ]));
-  few = few;
-  vocabulary = vocabulary;
-}
 
-whole_named : (first : ℕ) (fact_at : ℕ → Fact) (whole : Copy) → AreNodes (name_of fact_at first whole) first whole
-whole_named first fact_at whole =
-    nodes_named (name_of fact_at first whole) first whole (λ i l.
-    let back : first + i - first ≡ i = omega arith in
-    ap (λ b. cond b (Leaf true (fact_at (first + i))) (get_or (nodes whole) (first + i - first) (Known true))) (le-ltb (first + i) first (omega arith)) ∙ ap (λ z. get_or (nodes whole) z (Known true)) back)
+fact_named : (m : Naming) (whole : Copy) (x : ℕ) → 0 < x → x < m.first → name_of m whole x ≡ Leaf true (m.fact_at x)
+fact_named m whole zero l k = absurd (omega arith)
+fact_named m whole (suc x) l k = ap (λ b. cond b (Leaf true (m.fact_at (suc x))) (get_or (nodes whole) (suc x - m.first) (Known true))) (lt-ltb (suc x) m.first k)
 
-pub sentence_tied : (voc : Vocabulary) (f : Form) (first : ℕ) (num : Fact → ℕ) (fact_at : ℕ → Fact) → IsClosed voc f → IsNaming voc (constants voc f) first num fact_at → (c : List Literal) → IsIn c (all_clauses num first (constants voc f) voc (copies_of voc f)) → IsTied (constants voc f) voc (copies_of voc f) (name_of fact_at first (copies_of voc f)) c
-sentence_tied voc f first num fact_at is o =
+pub node_named : (m : Naming) (whole : Copy) (x : ℕ) → 0 < x → m.first ≤ x → name_of m whole x ≡ get_or (nodes whole) (x - m.first) (Known true)
+node_named m whole zero l k = absurd (omega arith)
+node_named m whole (suc x) l k = ap (λ b. cond b (Leaf true (m.fact_at (suc x))) (get_or (nodes whole) (suc x - m.first) (Known true))) (le-ltb (suc x) m.first k)
+
+module _ (voc : Vocabulary) (n : Sort → ℕ) (m : Naming) (o : IsNaming voc n m) (whole : Copy) where
+  ready : IsVocabulary voc → ((s : Sort) → known voc s ≤ n s) → IsReady n voc (name_of m whole) m.num
+  ready vocabulary few = record {
+    facts = λ f i.
+        (let e = fact_named m whole (m.num f) (o.some f) (o.below f i) in
+        (i, elim (o.back f i) [ inl q ↦ inl (e ∙ ap (λ g. Leaf true g) q) | inr q ↦ inr (e ∙ ap (λ g. Leaf true g) q) ]));
+    few = few;
+    vocabulary = vocabulary;
+  }
+
+  whole_named : 0 < m.first → AreNodes (name_of m whole) m.first whole
+  whole_named l =
+      nodes_named (name_of m whole) m.first whole (λ i k.
+      let back : m.first + i - m.first ≡ i = omega arith in
+      node_named m whole (m.first + i) (omega arith) (omega arith) ∙ ap (λ z. get_or (nodes whole) z (Known true)) back)
+
+pub some_first : (voc : Vocabulary) (n : Sort → ℕ) (m : Naming) → IsNaming voc n m → 0 < n Sw → 0 < m.first
+some_first voc n m o l =
+    let f = Equation Sw 0 0 in
+    omega (arith, o.some f, o.below f (l, l))
+
+pub sentence_tied : (voc : Vocabulary) (f : Form) (m : Naming) → IsClosed voc f → IsNaming voc (constants voc f) m → (c : List Literal) → IsIn c (all_clauses m (constants voc f) voc (copies_of voc f)) → IsTied (constants voc f) voc (copies_of voc f) (name_of m (copies_of voc f)) c
+sentence_tied voc f m is o =
     let n = constants voc f in
     let few : (s : Sort) → known voc s ≤ n s = λ s. omega arith in
-    all_tied n voc (copies_of voc f) (name_of fact_at first (copies_of voc f)) num (ready voc is.vocabulary n first num fact_at o few (copies_of voc f)) first (copies_simple voc n (λ s. omega arith) f [] (known voc))
-    (copies_over voc n few (simplified f) [] (known voc) tt (fits-simplified voc f [] is.closed) (inside-simplified f is.inside) (λ s. omega (arith, need-simplified f s))) (whole_named first fact_at (copies_of voc f))
+    all_tied n voc (copies_of voc f) (name_of m (copies_of voc f)) m.num (ready voc n m o (copies_of voc f) is.vocabulary few) m.first (copies_simple voc n (λ s. omega arith) f [] (known voc))
+    (copies_over voc n few (simplified f) [] (known voc) tt (fits-simplified voc f [] is.closed) (inside-simplified f is.inside) (λ s. omega (arith, need-simplified f s))) (whole_named voc n m o (copies_of voc f) (some_first voc n m o (omega arith)))
 
 -- a fair judgement that makes the copies true, read by the names, is a model
-pub judged_model : (voc : Vocabulary) (f : Form) (first : ℕ) (num : Fact → ℕ) (fact_at : ℕ → Fact) → IsClosed voc f → IsNaming voc (constants voc f) first num fact_at → (j : Fact → Bool) → IsFair voc (constants voc f) j → judge j (copies_of voc f) ≡ true → (c : List Literal) → IsIn c (all_clauses num first (constants voc f) voc (copies_of voc f)) → clause_true (λ x. judge j (name_of fact_at first (copies_of voc f) x)) c ≡ true
-judged_model voc f first num fact_at is o j fair h c i =
+pub judged_model : (voc : Vocabulary) (f : Form) (m : Naming) → IsClosed voc f → IsNaming voc (constants voc f) m → (j : Fact → Bool) → IsFair voc (constants voc f) j → judge j (copies_of voc f) ≡ true → (c : List Literal) → IsIn c (all_clauses m (constants voc f) voc (copies_of voc f)) → clause_true (λ x. judge j (name_of m (copies_of voc f) x)) c ≡ true
+judged_model voc f m is o j fair h c i =
     let n = constants voc f in
     let whole = copies_of voc f in
-    let name = name_of fact_at first whole in
-    tied_true voc n j fair whole h name (λ x. judge j (name x)) (λ x. refl) c (sentence_tied voc f first num fact_at is o c i)
+    let name = name_of m whole in
+    tied_true voc n j fair whole h name (λ x. judge j (name x)) (λ x. refl) c (sentence_tied voc f m is o c i)

@@ -119,10 +119,6 @@ abbrev pub equality_clauses : (Fact → ℕ) → (Sort → ℕ) → Vocabulary �
 equality_clauses num n voc =
     flat_map (λ s. same_clauses num n s ++ chain_clauses num n s) (Sw ∷ Ho ∷ Pr ∷ []) ++ (flat_map (λ r. replace_clauses num n voc r) voc.relations ++ numeral_clauses num voc)
 
--- all clauses of the copies: facts are numbered by num, and the nodes from first on
-abbrev pub all_clauses : (Fact → ℕ) → ℕ → (Sort → ℕ) → Vocabulary → Copy → List (List Literal)
-all_clauses num first n voc whole = whole_clauses num first whole ++ equality_clauses num n voc
-
 -- a fact over the constants
 abbrev pub IsOver : (Sort → ℕ) → Vocabulary → Fact → Type 0
 IsOver n voc (Tuple r xs) = IsIn r voc.relations × AreBelow n (voc.columns r) xs
@@ -132,8 +128,23 @@ abbrev pub mirror : Fact → Fact
 mirror (Tuple r xs) = Tuple r xs
 mirror (Equation s a b) = Equation s b a
 
--- num gives each fact over the constants a number below first, an equation and its mirror the same, and fact_at leads back
-pub record IsNaming (voc : Vocabulary) (n : Sort → ℕ) (first : ℕ) (num : Fact → ℕ) (fact_at : ℕ → Fact) : Type 0 where
-  pub turned : (s : Sort) (a b : ℕ) → num (Equation s a b) ≡ num (Equation s b a)
-  pub below : (f : Fact) → IsOver n voc f → num f < first
-  pub back : (f : Fact) → IsOver n voc f → (fact_at (num f) ≡ f) ⊎ (fact_at (num f) ≡ mirror f)
+-- the numbers of atoms
+pub record Naming : Type 0 where
+  -- that of a fact
+  pub num : Fact → ℕ
+  -- that of the first node, after which the others follow
+  pub first : ℕ
+  -- the fact of a number
+  pub fact_at : ℕ → Fact
+
+-- each fact over the constants has a number from 1 on and below those of nodes, which leads back; an equation and its mirror
+-- have the same
+pub record IsNaming (voc : Vocabulary) (n : Sort → ℕ) (m : Naming) : Type 0 where
+  pub turned : (s : Sort) (a b : ℕ) → m.num (Equation s a b) ≡ m.num (Equation s b a)
+  pub some : (f : Fact) → 0 < m.num f
+  pub below : (f : Fact) → IsOver n voc f → m.num f < m.first
+  pub back : (f : Fact) → IsOver n voc f → (m.fact_at (m.num f) ≡ f) ⊎ (m.fact_at (m.num f) ≡ mirror f)
+
+-- all clauses of the copies
+abbrev pub all_clauses : Naming → (Sort → ℕ) → Vocabulary → Copy → List (List Literal)
+all_clauses m n voc whole = whole_clauses m.num m.first whole ++ equality_clauses m.num n voc

@@ -1,11 +1,11 @@
 -- When a clause is tied to a sentence.
-use Rattle.std.specs.Prelude.{◌≡◌, ◌≢◌, ◌⊎◌, ℕ, ◌-◌, ◌<◌, true, false, List, [], ◌∷◌, ◌++◌, nat_lt, slice_index_or, if◌then◌else◌}
+use Rattle.std.specs.Prelude.{◌≡◌, ◌≢◌, ◌⊎◌, ℕ, zero, suc, ◌-◌, ◌<◌, true, false, List, [], ◌∷◌, ◌++◌, nat_lt, slice_index_or, if◌then◌else◌}
 use Rattle.csdn_core.specs.declared.terms.Sort.{Sort}
 use Rattle.csdn_core.specs.declared.terms.Sort.TheVariants.{Pr}
 use Rattle.csdn_core.specs.declared.terms.Pred.{Pred}
 use Rattle.decision_laws.specs.Vocabulary.{Vocabulary, IsIn}
 use Rattle.decision_laws.specs.Copies.{Fact, Tuple, Equation, Copy, Known, Leaf, Both, Either, Each, numeral_place}
-use Rattle.decision_laws.specs.Clauses.{nodes, IsOver, mirror}
+use Rattle.decision_laws.specs.Clauses.{Naming, nodes, IsOver, mirror}
 use Rattle.clause_log.specs.Literals.{Literal, negated}
 
 -- this atom number names a fact over the constants, or its mirror
@@ -57,6 +57,7 @@ pub record IsTied (n : Sort → ℕ) (voc : Vocabulary) (whole : Copy) (name : �
   pub all : (l : Literal) → IsIn l form → IsIn l c
   pub only : (l : Literal) → IsIn l c → IsIn l form
 
--- what the numbers name: a fact below first, and then the nodes
-abbrev pub name_of : (ℕ → Fact) → ℕ → Copy → ℕ → Copy
-name_of fact_at first whole x = if nat_lt x first then Leaf true (fact_at x) else slice_index_or (nodes whole) (x - first) (Known true)
+-- what the atoms name: a fact, or after all facts a node; 0 is no atom
+abbrev pub name_of : Naming → Copy → ℕ → Copy
+name_of m whole zero = Known true
+name_of m whole (suc x) = if nat_lt (suc x) m.first then Leaf true (m.fact_at (suc x)) else slice_index_or (nodes whole) (suc x - m.first) (Known true)

@@ -28,9 +28,9 @@ pub returns-clause-sentence : goal.returns-clause-sentence
 unfolding normal_form
 returns-clause-sentence c = record { closed = refl; inside = refl }
 
-pub returns-clause-first : goal.returns-clause-first
+pub returns-clause-atoms : goal.returns-clause-atoms
 unfolding normal_form
-returns-clause-first c = refl
+returns-clause-atoms c = refl
 
 pub returns-clause-clauses : goal.returns-clause-clauses
 unfolding normal_form
