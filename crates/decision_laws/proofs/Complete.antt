@@ -9,11 +9,11 @@ use Rattle.csdn_core.specs.declared.terms.Pred.{Pred}
 use Rattle.decision_laws.proofs.Basics.{IsClosed, IsVocabulary, in_place, index_of-below}
 use Rattle.decision_laws.proofs.Lists.{flat_in, in_both, in_flat, in_left, in_right, in_tuples, map_in, one_in}
 use Rattle.decision_laws.proofs.Made.{AllOver, copies_over, copies_simple}
-use Rattle.decision_laws.proofs.Read.{IsPlain, IsSimple, below_append}
+use Rattle.decision_laws.proofs.Read.{meets_apart, IsPlain, IsSimple, below_append}
 use Rattle.decision_laws.proofs.Simplify.{fits-simplified, inside-simplified, need-simplified}
 use Rattle.decision_laws.proofs.Tied.{tied_true}
 use Rattle.decision_laws.specs.Classes.{all_tuples}
-use Rattle.decision_laws.specs.Clauses.{IsNaming, Naming, IsOver, all_clauses, chain_clause, chain_clauses, either_clauses, equality_clauses, is_chain, member_clause, no, node_clauses, nodes, numeral_clauses, replace_clause, replace_clauses, replace_from, same_clauses, size, sum_from, top, whole_clauses, yes}
+use Rattle.decision_laws.specs.Clauses.{IsNaming, Naming, may_meet, IsOver, all_clauses, chain_clause, chain_clauses, either_clauses, equality_clauses, is_chain, member_clause, no, node_clauses, nodes, numeral_clauses, replace_clause, replace_clauses, replace_from, same_clauses, size, sum_from, top, whole_clauses, yes}
 use Rattle.csdn_core.specs.Truth.{same_truth}
 use Rattle.decision_laws.proofs.NormalTruth.{same_truth-is}
 use Rattle.clause_log.specs.Literals.{Literal, clause_true, negated}
@@ -140,26 +140,22 @@ cond_in : {X : Type 0} (b : Bool) (x y : X) → IsIn x (cond b (y ∷ []) []) �
 cond_in true x y h = (refl, one_in x y h)
 cond_in false x y h = elim h [ ]
 
-cond_in_not : {X : Type 0} (b : Bool) (x y : X) → IsIn x (cond b [] (y ∷ [])) → (b ≡ false) × (x ≡ y)
-cond_in_not true x y h = elim h [ ]
-cond_in_not false x y h = (refl, one_in x y h)
-
 same_tied : (n : Sort → ℕ) (voc : Vocabulary) (whole : Copy) (name : ℕ → Copy) (num : Fact → ℕ) → IsReady n voc name num → (s : Sort) (c : List Literal) → IsIn c (same_clauses num n s) → IsTied n voc whole name c
 same_tied n voc whole name num r s c h =
     let w = map_in (λ a. yes (num (Equation s a a)) ∷ []) (places_from 0 (n s)) c h in
     let l : w.0 < n s = omega (arith, (in_place 0 (n s) w.0 w.1).1) in
     exact n voc whole name c (yes (num (Equation s w.0 w.0)) ∷ []) w.2 (same s w.0 (yes (num (Equation s w.0 w.0))) (fact_is n voc whole name num r (Equation s w.0 w.0) (l, l)))
 
-chain_tied : (n : Sort → ℕ) (voc : Vocabulary) (whole : Copy) (name : ℕ → Copy) (num : Fact → ℕ) → IsReady n voc name num → (s : Sort) (c : List Literal) → IsIn c (chain_clauses num n s) → IsTied n voc whole name c
+chain_tied : (n : Sort → ℕ) (voc : Vocabulary) (whole : Copy) (name : ℕ → Copy) (num : Fact → ℕ) → IsReady n voc name num → (s : Sort) (c : List Literal) → IsIn c (chain_clauses num n voc s) → IsTied n voc whole name c
 chain_tied n voc whole name num r s c h =
     let ps = places_from 0 (n s) in
-    let x = flat_in (λ a. flat_map (λ b. flat_map (λ d. cond (is_chain a b d) (chain_clause num s a b d ∷ []) []) ps) ps) ps c h in
-    let y = flat_in (λ b. flat_map (λ d. cond (is_chain x.0 b d) (chain_clause num s x.0 b d ∷ []) []) ps) ps c x.2 in
-    let z = flat_in (λ d. cond (is_chain x.0 y.0 d) (chain_clause num s x.0 y.0 d ∷ []) []) ps c y.2 in
+    let x = flat_in (λ a. flat_map (λ b. flat_map (λ d. cond (is_chain voc s a b d) (chain_clause num s a b d ∷ []) []) ps) ps) ps c h in
+    let y = flat_in (λ b. flat_map (λ d. cond (is_chain voc s x.0 b d) (chain_clause num s x.0 b d ∷ []) []) ps) ps c x.2 in
+    let z = flat_in (λ d. cond (is_chain voc s x.0 y.0 d) (chain_clause num s x.0 y.0 d ∷ []) []) ps c y.2 in
     let lx : x.0 < n s = omega (arith, (in_place 0 (n s) x.0 x.1).1) in
     let ly : y.0 < n s = omega (arith, (in_place 0 (n s) y.0 y.1).1) in
     let lz : z.0 < n s = omega (arith, (in_place 0 (n s) z.0 z.1).1) in
-    exact n voc whole name c (chain_clause num s x.0 y.0 z.0) (cond_in (is_chain x.0 y.0 z.0) c (chain_clause num s x.0 y.0 z.0) z.2).1
+    exact n voc whole name c (chain_clause num s x.0 y.0 z.0) (cond_in (is_chain voc s x.0 y.0 z.0) c (chain_clause num s x.0 y.0 z.0) z.2).1
     (chain s x.0 y.0 z.0 (yes (num (Equation s x.0 y.0))) (yes (num (Equation s y.0 z.0))) (yes (num (Equation s x.0 z.0)))
     (fact_is n voc whole name num r (Equation s x.0 y.0) (lx, ly)) (fact_is n voc whole name num r (Equation s y.0 z.0) (ly, lz)) (fact_is n voc whole name num r (Equation s x.0 z.0) (lx, lz)))
 
@@ -175,21 +171,21 @@ one_difference n voc whole name s a b d l o post back k [] (x ∷ front) h = eli
 one_difference n voc whole name s a b d l o post back k (t ∷ pre) [] h = elim h [ ]
 one_difference n voc whole name s a b d l o post back k (t ∷ pre) (x ∷ front) h = inl (refl, h.0, one_difference n voc whole name s a b d l o post back k pre front h.1)
 
-replace_tied : (n : Sort → ℕ) (voc : Vocabulary) (whole : Copy) (name : ℕ → Copy) (num : Fact → ℕ) → IsReady n voc name num → (rel : Pred) → IsIn rel voc.relations → (pre : List Sort) (front : List ℕ) → AreBelow n pre front → (ss : List Sort) (xs : List ℕ) → voc.columns rel ≡ pre ++ ss → AreBelow n ss xs → (c : List Literal) → IsIn c (replace_from num n rel front ss xs) → IsTied n voc whole name c
+replace_tied : (n : Sort → ℕ) (voc : Vocabulary) (whole : Copy) (name : ℕ → Copy) (num : Fact → ℕ) → IsReady n voc name num → (rel : Pred) → IsIn rel voc.relations → (pre : List Sort) (front : List ℕ) → AreBelow n pre front → (ss : List Sort) (xs : List ℕ) → voc.columns rel ≡ pre ++ ss → AreBelow n ss xs → (c : List Literal) → IsIn c (replace_from num n voc rel front ss xs) → IsTied n voc whole name c
 replace_tied n voc whole name num r rel i pre front f [] xs q b c h = elim h [ ]
 replace_tied n voc whole name num r rel i pre front f (s ∷ ss) [] q b c h = elim h [ ]
 replace_tied n voc whole name num r rel i pre front f (s ∷ ss) (a ∷ back) q b c h =
-    let make : ℕ → List (List Literal) = λ d. cond (nat_eq a d) [] (replace_clause num rel s front back a d ∷ []) in
-    elim (in_both (flat_map make (places_from 0 (n s))) (replace_from num n rel (front ++ a ∷ []) ss back) c h) [
+    let make : ℕ → List (List Literal) = λ d. cond (may_meet voc s a d) (replace_clause num rel s front back a d ∷ []) [] in
+    elim (in_both (flat_map make (places_from 0 (n s))) (replace_from num n voc rel (front ++ a ∷ []) ss back) c h) [
       | inl u ↦ (
           let w = flat_in make (places_from 0 (n s)) c u in
           let l : w.0 < n s = omega (arith, (in_place 0 (n s) w.0 w.1).1) in
-          let e = cond_in_not (nat_eq a w.0) c (replace_clause num rel s front back a w.0) w.2 in
+          let e = cond_in (may_meet voc s a w.0) c (replace_clause num rel s front back a w.0) w.2 in
           let eq = fact_is n voc whole name num r (Equation s a w.0) (b.0, l) in
           let over : (d : ℕ) → d < n s → IsOver n voc (Tuple rel (front ++ d ∷ back)) = λ d k. (i, subst (λ z. AreBelow n z (front ++ d ∷ back)) (sym q) (below_append n pre (s ∷ ss) front (d ∷ back) f (k, b.1))) in
           exact n voc whole name c (replace_clause num rel s front back a w.0) e.1
           (replaced rel (front ++ a ∷ back) (front ++ w.0 ∷ back) (no (num (Equation s a w.0)) ∷ []) (yes (num (Tuple rel (front ++ a ∷ back)))) (yes (num (Tuple rel (front ++ w.0 ∷ back))))
-          (subst (λ z. AreDifferences n voc whole name z (front ++ a ∷ back) (front ++ w.0 ∷ back) (no (num (Equation s a w.0)) ∷ [])) (sym q) (one_difference n voc whole name s a w.0 (λ z. false≢true (sym e.0 ∙ eq-eqb a w.0 z)) (yes (num (Equation s a w.0))) eq ss back b.1 pre front f))
+          (subst (λ z. AreDifferences n voc whole name z (front ++ a ∷ back) (front ++ w.0 ∷ back) (no (num (Equation s a w.0)) ∷ [])) (sym q) (one_difference n voc whole name s a w.0 (meets_apart voc s a w.0 e.0) (yes (num (Equation s a w.0))) eq ss back b.1 pre front f))
           (fact_is n voc whole name num r (Tuple rel (front ++ a ∷ back)) (over a b.0))
           (fact_is n voc whole name num r (Tuple rel (front ++ w.0 ∷ back)) (over w.0 l))))
       | inr u ↦ replace_tied n voc whole name num r rel i (pre ++ s ∷ []) (front ++ a ∷ []) (below_append n pre (s ∷ []) front (a ∷ []) f (b.0, tt)) ss back (q ∙ sym (append_assoc pre (s ∷ []) ss)) b.1 c u
@@ -208,16 +204,16 @@ apart_tied n voc whole name num r k m ik im c h =
 equality_tied : (n : Sort → ℕ) (voc : Vocabulary) (whole : Copy) (name : ℕ → Copy) (num : Fact → ℕ) → IsReady n voc name num → (c : List Literal) → IsIn c (equality_clauses num n voc) → IsTied n voc whole name c
 equality_tied n voc whole name num r c h =
     let ss : List Sort = Sw ∷ Ho ∷ Pr ∷ [] in
-    let one : Sort → List (List Literal) = λ s. same_clauses num n s ++ chain_clauses num n s in
+    let one : Sort → List (List Literal) = λ s. same_clauses num n s ++ chain_clauses num n voc s in
     let replaces : Pred → List (List Literal) = λ rel. replace_clauses num n voc rel in
     elim (in_both (flat_map one ss) (flat_map replaces voc.relations ++ numeral_clauses num voc) c h) [
       | inl u ↦ (
           let w = flat_in one ss c u in
-          elim (in_both (same_clauses num n w.0) (chain_clauses num n w.0) c w.2) [ inl x ↦ same_tied n voc whole name num r w.0 c x | inr x ↦ chain_tied n voc whole name num r w.0 c x ])
+          elim (in_both (same_clauses num n w.0) (chain_clauses num n voc w.0) c w.2) [ inl x ↦ same_tied n voc whole name num r w.0 c x | inr x ↦ chain_tied n voc whole name num r w.0 c x ])
       | inr u ↦ elim (in_both (flat_map replaces voc.relations) (numeral_clauses num voc) c u) [
         | inl x ↦ (
             let w = flat_in replaces voc.relations c x in
-            let y = flat_in (λ xs. replace_from num n w.0 [] (voc.columns w.0) xs) (all_tuples n (voc.columns w.0)) c w.2 in
+            let y = flat_in (λ xs. replace_from num n voc w.0 [] (voc.columns w.0) xs) (all_tuples n (voc.columns w.0)) c w.2 in
             replace_tied n voc whole name num r w.0 w.1 [] [] tt (voc.columns w.0) y.0 refl (in_tuples n (voc.columns w.0) y.0 y.1) c y.2)
         | inr x ↦ (
             let pair : ℕ → ℕ → List (List Literal) = λ k m. cond (nat_lt k m) ((no (num (Equation Pr (numeral_place voc k) (numeral_place voc m))) ∷ []) ∷ []) [] in

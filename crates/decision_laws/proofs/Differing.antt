@@ -10,11 +10,11 @@ use Rattle.decision_laws.proofs.Basics.{in_place}
 use Rattle.decision_laws.proofs.Lists.{flat_in, in_both, in_tuples, map_in, one_in}
 use Rattle.decision_laws.proofs.Made.{AllOver, copies_over, copies_simple}
 use Rattle.decision_laws.proofs.Networks.{in_if}
-use Rattle.decision_laws.proofs.Read.{IsPlain, IsSimple, below_append}
+use Rattle.decision_laws.proofs.Read.{meets_apart, IsPlain, IsSimple, below_append}
 use Rattle.decision_laws.proofs.Simplify.{fits-simplified, inside-simplified, need-simplified}
 use Rattle.decision_laws.proofs.Words.{is_closed}
 use Rattle.decision_laws.specs.Classes.{all_tuples}
-use Rattle.decision_laws.specs.Clauses.{IsNaming, Naming, all_clauses, IsOver, chain_clause, chain_clauses, either_clauses, equality_clauses, is_chain, member_clause, mirror, no, node_clauses, numeral_clauses, replace_clause, replace_clauses, replace_from, same_clauses, size, sum_from, top, whole_clauses, yes}
+use Rattle.decision_laws.specs.Clauses.{IsNaming, Naming, may_meet, all_clauses, IsOver, chain_clause, chain_clauses, either_clauses, equality_clauses, is_chain, member_clause, mirror, no, node_clauses, numeral_clauses, replace_clause, replace_clauses, replace_from, same_clauses, size, sum_from, top, whole_clauses, yes}
 use Rattle.csdn_core.specs.Truth.{same_truth}
 use Rattle.clause_log.specs.Literals.{has_distinct_atoms, Literal}
 use Rattle.decision_laws.specs.Copies.{AreBelow, Both, Copy, Each, Either, Equation, Fact, Known, Leaf, Tuple, known, numeral_place}
@@ -94,13 +94,6 @@ moved c d e h = subst AtomsDiffer (sym e) h
 
 single : (c : List Literal) (l : Literal) → IsIn c ((l ∷ []) ∷ []) → AtomsDiffer c
 single c l h = moved c (l ∷ []) (one_in c (l ∷ []) h) refl
-
-not_equal : (a b : ℕ) → not (nat_eq a b) ≡ true → a ≡ b → ⊥
-not_equal a b h e = false≢true (sym (ap not (eq-eqb a b e)) ∙ h)
-
-if_not : {X : Type 0} (b : Bool) (x y : X) → IsIn x (cond b [] (y ∷ [])) → (b ≡ false) × (x ≡ y)
-if_not true x y h = elim h [ ]
-if_not false x y h = (refl, one_in x y h)
 
 same_middle : (front back : List ℕ) (a b : ℕ) → front ++ a ∷ back ≡ front ++ b ∷ back → a ≡ b
 same_middle [] back a b e = ap head_of e
@@ -190,35 +183,35 @@ module _ (voc : Vocabulary) (n : Sort → ℕ) (m : Naming) (o : IsNaming voc n 
 
   -- Equality.
 
-  pub chain_differs : (s : Sort) (a b c : ℕ) → a < n s → b < n s → c < n s → is_chain a b c ≡ true → AtomsDiffer (chain_clause m.num s a b c)
+  pub chain_differs : (s : Sort) (a b c : ℕ) → a < n s → b < n s → c < n s → is_chain voc s a b c ≡ true → AtomsDiffer (chain_clause m.num s a b c)
   chain_differs s a b c la lb lc h =
-      let p = and_parts (nat_lt a c) (not (nat_eq a b) && not (nat_eq b c)) h in
-      let q = and_parts (not (nat_eq a b)) (not (nat_eq b c)) p.1 in
+      let p = and_parts (nat_lt a c) (may_meet voc s a b && may_meet voc s b c) h in
+      let q = and_parts (may_meet voc s a b) (may_meet voc s b c) p.1 in
       let l : a < c = ltb-true a c p.0 in
       let ab = one_fact voc n m o (Equation s a b) (Equation s b c) (la, lb) (lb, lc) in
       let ac = one_fact voc n m o (Equation s a b) (Equation s a c) (la, lb) (la, lc) in
       let bc = one_fact voc n m o (Equation s b c) (Equation s a c) (lb, lc) (la, lc) in
       three_apart (no (m.num (Equation s a b))) (no (m.num (Equation s b c))) (yes (m.num (Equation s a c)))
-      (λ e. elim (ab e) [ inl w ↦ not_equal a b q.0 w.0 | inr w ↦ omega (arith, w.0, l) ])
-      (λ e. elim (ac e) [ inl w ↦ not_equal b c q.1 w.1 | inr w ↦ omega (arith, w.0, l) ])
-      (λ e. elim (bc e) [ inl w ↦ not_equal a b q.0 (sym w.0) | inr w ↦ not_equal b c q.1 w.0 ])
+      (λ e. elim (ab e) [ inl w ↦ meets_apart voc s a b q.0 w.0 | inr w ↦ omega (arith, w.0, l) ])
+      (λ e. elim (ac e) [ inl w ↦ meets_apart voc s b c q.1 w.1 | inr w ↦ omega (arith, w.0, l) ])
+      (λ e. elim (bc e) [ inl w ↦ meets_apart voc s a b q.0 (sym w.0) | inr w ↦ meets_apart voc s b c q.1 w.0 ])
 
-  pub replace_differs : (r : Pred) → IsIn r voc.relations → (pre : List Sort) (front : List ℕ) → AreBelow n pre front → (ss : List Sort) (xs : List ℕ) → voc.columns r ≡ pre ++ ss → AreBelow n ss xs → (c : List Literal) → IsIn c (replace_from m.num n r front ss xs) → AtomsDiffer c
+  pub replace_differs : (r : Pred) → IsIn r voc.relations → (pre : List Sort) (front : List ℕ) → AreBelow n pre front → (ss : List Sort) (xs : List ℕ) → voc.columns r ≡ pre ++ ss → AreBelow n ss xs → (c : List Literal) → IsIn c (replace_from m.num n voc r front ss xs) → AtomsDiffer c
   replace_differs r i pre front f [] xs q b c h = elim h [ ]
   replace_differs r i pre front f (s ∷ ss) [] q b c h = elim h [ ]
   replace_differs r i pre front f (s ∷ ss) (a ∷ back) q b c h =
-      let make : ℕ → List (List Literal) = λ d. cond (nat_eq a d) [] (replace_clause m.num r s front back a d ∷ []) in
-      elim (in_both (flat_map make (places_from 0 (n s))) (replace_from m.num n r (front ++ a ∷ []) ss back) c h) [
+      let make : ℕ → List (List Literal) = λ d. cond (may_meet voc s a d) (replace_clause m.num r s front back a d ∷ []) [] in
+      elim (in_both (flat_map make (places_from 0 (n s))) (replace_from m.num n voc r (front ++ a ∷ []) ss back) c h) [
         | inl u ↦ (
             let w = flat_in make (places_from 0 (n s)) c u in
             let l : w.0 < n s = omega (arith, (in_place 0 (n s) w.0 w.1).1) in
-            let e = if_not (nat_eq a w.0) c (replace_clause m.num r s front back a w.0) w.2 in
+            let e = in_if (may_meet voc s a w.0) (replace_clause m.num r s front back a w.0 ∷ []) c w.2 in
             let over : (d : ℕ) → d < n s → IsOver n voc (Tuple r (front ++ d ∷ back)) = λ d k. (i, subst (λ z. AreBelow n z (front ++ d ∷ back)) (sym q) (below_append n pre (s ∷ ss) front (d ∷ back) f (k, b.1))) in
-            moved c (replace_clause m.num r s front back a w.0) e.1
+            moved c (replace_clause m.num r s front back a w.0) (one_in c (replace_clause m.num r s front back a w.0) e.1)
             (three_apart (no (m.num (Equation s a w.0))) (no (m.num (Tuple r (front ++ a ∷ back)))) (yes (m.num (Tuple r (front ++ w.0 ∷ back))))
             (one_fact voc n m o (Equation s a w.0) (Tuple r (front ++ a ∷ back)) (b.0, l) (over a b.0))
             (one_fact voc n m o (Equation s a w.0) (Tuple r (front ++ w.0 ∷ back)) (b.0, l) (over w.0 l))
-            (λ z. not_equal a w.0 (ap not e.0) (same_middle front back a w.0 (one_fact voc n m o (Tuple r (front ++ a ∷ back)) (Tuple r (front ++ w.0 ∷ back)) (over a b.0) (over w.0 l) z)))))
+            (λ z. meets_apart voc s a w.0 e.0 (same_middle front back a w.0 (one_fact voc n m o (Tuple r (front ++ a ∷ back)) (Tuple r (front ++ w.0 ∷ back)) (over a b.0) (over w.0 l) z)))))
         | inr u ↦ replace_differs r i (pre ++ s ∷ []) (front ++ a ∷ []) (below_append n pre (s ∷ []) front (a ∷ []) f (b.0, tt)) ss back (q ∙ sym (append_assoc pre (s ∷ []) ss)) b.1 c u
       ]
 
@@ -227,29 +220,29 @@ module _ (voc : Vocabulary) (n : Sort → ℕ) (m : Naming) (o : IsNaming voc n 
       let w = map_in (λ a. yes (m.num (Equation s a a)) ∷ []) (places_from 0 (n s)) c h in
       moved c (yes (m.num (Equation s w.0 w.0)) ∷ []) w.2 refl
 
-  chains_differ : (s : Sort) (c : List Literal) → IsIn c (chain_clauses m.num n s) → AtomsDiffer c
+  chains_differ : (s : Sort) (c : List Literal) → IsIn c (chain_clauses m.num n voc s) → AtomsDiffer c
   chains_differ s c h =
       let ps = places_from 0 (n s) in
-      let x = flat_in (λ a. flat_map (λ b. flat_map (λ d. cond (is_chain a b d) (chain_clause m.num s a b d ∷ []) []) ps) ps) ps c h in
-      let y = flat_in (λ b. flat_map (λ d. cond (is_chain x.0 b d) (chain_clause m.num s x.0 b d ∷ []) []) ps) ps c x.2 in
-      let z = flat_in (λ d. cond (is_chain x.0 y.0 d) (chain_clause m.num s x.0 y.0 d ∷ []) []) ps c y.2 in
-      let w = in_if (is_chain x.0 y.0 z.0) (chain_clause m.num s x.0 y.0 z.0 ∷ []) c z.2 in
+      let x = flat_in (λ a. flat_map (λ b. flat_map (λ d. cond (is_chain voc s a b d) (chain_clause m.num s a b d ∷ []) []) ps) ps) ps c h in
+      let y = flat_in (λ b. flat_map (λ d. cond (is_chain voc s x.0 b d) (chain_clause m.num s x.0 b d ∷ []) []) ps) ps c x.2 in
+      let z = flat_in (λ d. cond (is_chain voc s x.0 y.0 d) (chain_clause m.num s x.0 y.0 d ∷ []) []) ps c y.2 in
+      let w = in_if (is_chain voc s x.0 y.0 z.0) (chain_clause m.num s x.0 y.0 z.0 ∷ []) c z.2 in
       moved c (chain_clause m.num s x.0 y.0 z.0) (one_in c (chain_clause m.num s x.0 y.0 z.0) w.1)
       (chain_differs s x.0 y.0 z.0 (omega (arith, (in_place 0 (n s) x.0 x.1).1)) (omega (arith, (in_place 0 (n s) y.0 y.1).1)) (omega (arith, (in_place 0 (n s) z.0 z.1).1)) w.0)
 
   equality_differs : (c : List Literal) → IsIn c (equality_clauses m.num n voc) → AtomsDiffer c
   equality_differs c h =
       let ss : List Sort = Sw ∷ Ho ∷ Pr ∷ [] in
-      let one : Sort → List (List Literal) = λ s. same_clauses m.num n s ++ chain_clauses m.num n s in
+      let one : Sort → List (List Literal) = λ s. same_clauses m.num n s ++ chain_clauses m.num n voc s in
       let replaces : Pred → List (List Literal) = λ r. replace_clauses m.num n voc r in
       elim (in_both (flat_map one ss) (flat_map replaces voc.relations ++ numeral_clauses m.num voc) c h) [
         | inl u ↦ (
             let w = flat_in one ss c u in
-            elim (in_both (same_clauses m.num n w.0) (chain_clauses m.num n w.0) c w.2) [ inl x ↦ same_differs w.0 c x | inr x ↦ chains_differ w.0 c x ])
+            elim (in_both (same_clauses m.num n w.0) (chain_clauses m.num n voc w.0) c w.2) [ inl x ↦ same_differs w.0 c x | inr x ↦ chains_differ w.0 c x ])
         | inr u ↦ elim (in_both (flat_map replaces voc.relations) (numeral_clauses m.num voc) c u) [
           | inl x ↦ (
               let w = flat_in replaces voc.relations c x in
-              let y = flat_in (λ xs. replace_from m.num n w.0 [] (voc.columns w.0) xs) (all_tuples n (voc.columns w.0)) c w.2 in
+              let y = flat_in (λ xs. replace_from m.num n voc w.0 [] (voc.columns w.0) xs) (all_tuples n (voc.columns w.0)) c w.2 in
               replace_differs w.0 w.1 [] [] tt (voc.columns w.0) y.0 refl (in_tuples n (voc.columns w.0) y.0 y.1) c y.2)
           | inr x ↦ (
               let pair : ℕ → ℕ → List (List Literal) = λ k l. cond (nat_lt k l) ((no (m.num (Equation Pr (numeral_place voc k) (numeral_place voc l))) ∷ []) ∷ []) [] in

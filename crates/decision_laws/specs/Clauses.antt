@@ -3,6 +3,8 @@ use Rattle.std.specs.Prelude.{◌≡◌, ◌⊎◌, ℕ, zero, suc, ◌+◌, ◌
 use Rattle.csdn_core.specs.declared.terms.Sort.{Sort}
 use Rattle.csdn_core.specs.declared.terms.Sort.TheVariants.{Sw, Ho, Pr}
 use Rattle.csdn_core.specs.declared.terms.Pred.{Pred}
+use Rattle.std.specs.List.{list_any}
+use Rattle.csdn_core.specs.Same.{same_sort}
 use Rattle.csdn_core.specs.Truth.{same_truth}
 use Rattle.clause_log.specs.Literals.{Literal}
 use Rattle.decision_laws.specs.Vocabulary.{Vocabulary, IsIn, places_from}
@@ -85,30 +87,38 @@ same_clauses num n s = map (λ a. yes (num (Equation s a a)) ∷ []) (places_fro
 abbrev pub chain_clause : (Fact → ℕ) → Sort → ℕ → ℕ → ℕ → List Literal
 chain_clause num s a b c = no (num (Equation s a b)) ∷ no (num (Equation s b c)) ∷ yes (num (Equation s a c)) ∷ []
 
+-- whether a constant is a numeral
+abbrev pub is_numeral : Vocabulary → Sort → ℕ → Bool
+is_numeral voc s a = same_sort s Pr && list_any (λ k. numeral_place voc k == a) voc.numerals
+
+-- whether two different constants may be one element, which two numerals never are
+abbrev pub may_meet : Vocabulary → Sort → ℕ → ℕ → Bool
+may_meet voc s a b = not (a == b) && not (is_numeral voc s a && is_numeral voc s b)
+
 -- other chains say nothing new
-abbrev pub is_chain : ℕ → ℕ → ℕ → Bool
-is_chain a b c = nat_lt a c && (not (a == b) && not (b == c))
+abbrev pub is_chain : Vocabulary → Sort → ℕ → ℕ → ℕ → Bool
+is_chain voc s a b c = nat_lt a c && (may_meet voc s a b && may_meet voc s b c)
 
 -- equality is transitive
-abbrev pub chain_clauses : (Fact → ℕ) → (Sort → ℕ) → Sort → List (List Literal)
-chain_clauses num n s =
-    flat_map (λ a. flat_map (λ b. flat_map (λ c. if is_chain a b c then chain_clause num s a b c ∷ [] else []) (places_from 0 (n s))) (places_from 0 (n s))) (places_from 0 (n s))
+abbrev pub chain_clauses : (Fact → ℕ) → (Sort → ℕ) → Vocabulary → Sort → List (List Literal)
+chain_clauses num n voc s =
+    flat_map (λ a. flat_map (λ b. flat_map (λ c. if is_chain voc s a b c then chain_clause num s a b c ∷ [] else []) (places_from 0 (n s))) (places_from 0 (n s))) (places_from 0 (n s))
 
 -- a replaced by b in a tuple
 abbrev pub replace_clause : (Fact → ℕ) → Pred → Sort → List ℕ → List ℕ → ℕ → ℕ → List Literal
 replace_clause num r s front back a b =
     no (num (Equation s a b)) ∷ no (num (Tuple r (front ++ a ∷ back))) ∷ yes (num (Tuple r (front ++ b ∷ back))) ∷ []
 
--- each constant of the tuple exchanged for each other one
-abbrev pub replace_from : (Fact → ℕ) → (Sort → ℕ) → Pred → List ℕ → List Sort → List ℕ → List (List Literal)
-replace_from num n r front [] xs = []
-replace_from num n r front (s ∷ ss) [] = []
-replace_from num n r front (s ∷ ss) (a ∷ back) =
-    flat_map (λ b. if a == b then [] else replace_clause num r s front back a b ∷ []) (places_from 0 (n s)) ++ replace_from num n r (front ++ a ∷ []) ss back
+-- each constant of the tuple exchanged for each one that it may meet
+abbrev pub replace_from : (Fact → ℕ) → (Sort → ℕ) → Vocabulary → Pred → List ℕ → List Sort → List ℕ → List (List Literal)
+replace_from num n voc r front [] xs = []
+replace_from num n voc r front (s ∷ ss) [] = []
+replace_from num n voc r front (s ∷ ss) (a ∷ back) =
+    flat_map (λ b. if may_meet voc s a b then replace_clause num r s front back a b ∷ [] else []) (places_from 0 (n s)) ++ replace_from num n voc r (front ++ a ∷ []) ss back
 
 -- equal constants may replace each other in the tuples of a relation, one argument at a time
 abbrev pub replace_clauses : (Fact → ℕ) → (Sort → ℕ) → Vocabulary → Pred → List (List Literal)
-replace_clauses num n voc r = flat_map (λ xs. replace_from num n r [] (voc.columns r) xs) (all_tuples n (voc.columns r))
+replace_clauses num n voc r = flat_map (λ xs. replace_from num n voc r [] (voc.columns r) xs) (all_tuples n (voc.columns r))
 
 -- different numerals are different
 abbrev pub numeral_clauses : (Fact → ℕ) → Vocabulary → List (List Literal)
@@ -117,7 +127,7 @@ numeral_clauses num voc =
 
 abbrev pub equality_clauses : (Fact → ℕ) → (Sort → ℕ) → Vocabulary → List (List Literal)
 equality_clauses num n voc =
-    flat_map (λ s. same_clauses num n s ++ chain_clauses num n s) (Sw ∷ Ho ∷ Pr ∷ []) ++ (flat_map (λ r. replace_clauses num n voc r) voc.relations ++ numeral_clauses num voc)
+    flat_map (λ s. same_clauses num n s ++ chain_clauses num n voc s) (Sw ∷ Ho ∷ Pr ∷ []) ++ (flat_map (λ r. replace_clauses num n voc r) voc.relations ++ numeral_clauses num voc)
 
 -- a fact over the constants
 abbrev pub IsOver : (Sort → ℕ) → Vocabulary → Fact → Type 0

@@ -7,7 +7,7 @@ use Rattle.std.specs.Prelude.{ℕ, Bool, true, false, ◌==◌, if◌then◌else
 use Rattle.csdn_core.specs.declared.terms.VarId.{VarId}
 use Rattle.csdn_core.specs.declared.terms.Sort.{Sort}
 use Rattle.csdn_core.specs.declared.terms.Sort.TheVariants.{Sw, Ho, Pr}
-use Rattle.csdn_core.specs.declared.terms.Term.TheVariants.{Var}
+use Rattle.csdn_core.specs.declared.terms.Term.TheVariants.{Var, Port}
 use Rattle.csdn_core.specs.declared.terms.Pred.{Pred}
 use Rattle.csdn_core.specs.declared.terms.Pred.TheVariants.{Stored}
 use Rattle.csdn_core.specs.declared.program.Parts.{Parts}
@@ -144,30 +144,32 @@ example_judgement (Equation s a b) = example_meaning s a == example_meaning s b
 abbrev pub example_network : Network
 example_network = record { switches = 1 ∷ []; hosts = 1 ∷ 2 ∷ []; ports = 1 ∷ []; constants = []; rows = [] }
 
--- A smaller one: `p() and not p()` has no network, which a log of one step shows.
+-- A smaller one, with the numerals 1 and 2: `q(prt(1)) and not q(prt(1))` has no network, which a log of one step shows.
 --
---   rel p();
+--   rel q(PR);
 abbrev pub small_program : Parts
 small_program = record {
-  relations = record { name = []; sorts = []; fixed = false } ∷ [];
+  relations = record { name = []; sorts = Pr ∷ []; fixed = false } ∷ [];
   constants = [];
   start = [];
   topology = [];
   safety = [];
   trans = [];
   handlers = [];
-  numerals = [];
+  numerals = 1 ∷ 2 ∷ [];
   timeout = None;
 }
 
 abbrev pub contradiction : Formula
-contradiction = conjunction (Atom r []) (negation (Atom r []))
+contradiction = conjunction (Atom r (Port 1 ∷ [])) (negation (Atom r (Port 1 ∷ [])))
 
--- By hand: 1, 2 and 3 are the one constant of each sort, equal to itself; 4 is p(), and 5 the whole.
+-- By hand: 1 and 2 are the one switch and the one host, equal to themselves; of ports, 3 is 1 = 1, 5 is 1 = 2 and 6 is
+-- 2 = 2; 7 and 8 are q of 1 and of 2, and 9 is the whole. Numerals never meet, so neither replaces the other in q.
 abbrev pub contradiction_clauses : List (List Literal)
 contradiction_clauses =
-    (no 5 ∷ yes 4 ∷ []) ∷ (no 5 ∷ no 4 ∷ []) ∷ (yes 5 ∷ []) ∷ (yes 1 ∷ []) ∷ (yes 2 ∷ []) ∷ (yes 3 ∷ []) ∷ []
+    (no 9 ∷ yes 7 ∷ []) ∷ (no 9 ∷ no 7 ∷ []) ∷ (yes 9 ∷ []) ∷ (yes 1 ∷ []) ∷ (yes 2 ∷ []) ∷ (yes 3 ∷ []) ∷
+    (yes 6 ∷ []) ∷ (no 5 ∷ []) ∷ []
 
--- the third clause makes 5 true, the first then 4, and the second is broken
+-- the third clause makes 9 true, the first then 7, and the second is broken
 abbrev pub contradiction_log : List Step
 contradiction_log = record { literals = []; hints = 3 ∷ 1 ∷ 2 ∷ [] } ∷ []
