@@ -1,6 +1,5 @@
 -- Each clause of a sentence is tied to it.
-use Rattle.std.proofs.lemmas.Bool.{false≢true}
-use Rattle.std.proofs.Common.{Bool, List, [], eq-eqb, ap, append_assoc, ap₂, arith, cond, eqb-true, false, flat_map, get_or, get_or-append-add, inl, inr, le-ltb, length, length-append, lt-ltb, ltb-true, nat_eq, nat_lt, refl, subst, suc, sym, true, zero, ℕ, ◌++◌, ◌+◌, ◌-◌, ◌<◌, ◌∙◌, ◌∷◌, ◌≡◌, ◌≤◌}
+use Rattle.std.proofs.Common.{Bool, List, [], ap, append_assoc, ap₂, arith, cond, eqb-true, false, flat_map, get_or, get_or-append-add, inl, inr, le-ltb, length, length-append, lt-ltb, ltb-true, nat_eq, nat_lt, refl, subst, suc, sym, true, zero, ℕ, ◌++◌, ◌+◌, ◌-◌, ◌<◌, ◌∙◌, ◌∷◌, ◌≡◌, ◌≤◌}
 use Rattle.std.proofs.Math.ListN.{get_or-append}
 use Rattle.csdn_core.specs.declared.terms.Sort.{Sort}
 use Rattle.csdn_core.specs.declared.terms.Sort.TheVariants.{Ho, Pr, Sw}

@@ -1,5 +1,5 @@
 //! Laws as contracts of functions that do nothing.
-ghost use Rattle.std.specs.Prelude.{◌≡◌, ◌≢◌, ◌↔◌, ℕ, ◌+◌, ◌<◌, ◌==◌, Bool, true, List, [], ◌∷◌, ◌++◌, length, IsTrue};
+ghost use Rattle.std.specs.Prelude.{◌≡◌, ◌≢◌, ◌↔◌, ℕ, ◌+◌, ◌<◌, ◌==◌, Bool, true, List, [], ◌∷◌, ◌++◌, length, AllPairs, IsTrue};
 ghost use Rattle.csdn_core.specs.declared.terms.Sort.{Sort as AnySort};
 ghost use Rattle.csdn_core.specs.declared.terms.Sort.TheVariants.{Pr};
 ghost use Rattle.csdn_core.specs.declared.program.Parts.{Parts as AnyParts};
@@ -9,7 +9,7 @@ ghost use Rattle.csdn_core.specs.Network.{Network, State, IsNetwork, elements};
 ghost use Rattle.decision_laws.specs.Forms.{Form, form_truth, simplified};
 ghost use Rattle.decision_laws.specs.Vocabulary.{Vocabulary, IsIn, places_from};
 ghost use Rattle.decision_laws.specs.Copies.{AreBelow, Fact, Scope, copies, judge};
-ghost use Rattle.decision_laws.specs.Classes.{Meaning, AreOfJudgement, number, network_of, state_of};
+ghost use Rattle.decision_laws.specs.Classes.{Meaning, AreOfJudgement, ListTheSame, number, network_of, state_of};
 ghost use Rattle.decision_laws.specs.Clauses.{size, IsNaming};
 ghost use Rattle.clause_log.specs.Literals.{IsModel, Literal, clause_true, is_clause};
 ghost use Rattle.clause_log.specs.Refutations.{Step, is_refutation};
@@ -31,11 +31,12 @@ pub fn network_gives_judgement()
 {}
 
 /// The classes of equal constants of a fair judgement that makes the copies true are the elements of a network and state in
-/// which the sentence is true.
+/// which the sentence is true, in whatever order they are listed.
 pub fn judgement_gives_network()
     ensures network { (P : AnyParts) (F : AnyFormula) (j : Fact → Bool) → IsSentence P F → IsJudgement P F j → IsNetwork P (network_of P (form_of F) j) × IsTrueIn P F (network_of P (form_of F) j) (state_of P (form_of F) j) }
     ensures numbers { (P : AnyParts) (F : AnyFormula) (j : Fact → Bool) → IsJudgement P F j → AreOfJudgement P (form_of F) j (number P (form_of F) j) (network_of P (form_of F) j) (state_of P (form_of F) j) }
     ensures counted { (P : AnyParts) (F : AnyFormula) (j : Fact → Bool) → IsJudgement P F j → (s : AnySort) → s ≢ Pr → elements (network_of P (form_of F) j) s ≡ places_from 1 (length (elements (network_of P (form_of F) j) s)) }
+    ensures listed { (P : AnyParts) (F : AnyFormula) (j : Fact → Bool) → IsJudgement P F j → (N : Network) → ListTheSame (network_of P (form_of F) j) N → ((s : AnySort) → AllPairs (λ m n. m ≢ n) (elements N s)) → IsNetwork P N × AreOfJudgement P (form_of F) j (number P (form_of F) j) N (state_of P (form_of F) j) }
     ensures any { (P : AnyParts) (F : AnyFormula) (j : Fact → Bool) (ρ : Meaning) (N : Network) (x : State) → IsSentence P F → IsJudgement P F j → AreOfJudgement P (form_of F) j ρ N x → IsTrueIn P F N x }
     ensures names { (P : AnyParts) (F : AnyFormula) (j : Fact → Bool) (ρ : Meaning) (N : Network) (x : State) → AreOfJudgement P (form_of F) j ρ N x → AgreesOnNames P F N x j }
 {}
