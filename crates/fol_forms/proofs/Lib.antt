@@ -1,4 +1,6 @@
 pub mod Capped
+pub mod NormalTruth
+pub mod ConstantCounts
 pub mod Copied
 pub mod Leaves
 pub mod Sized

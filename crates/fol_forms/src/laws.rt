@@ -7,8 +7,8 @@ ghost use Rattle.csdn_core.specs.declared.syntax.Formula.{Formula as AnyFormula}
 ghost use Rattle.csdn_core.specs.SortedIn.{Scope};
 ghost use Rattle.csdn_core.specs.Truth.{Structure, Assignment, truth, values};
 ghost use Rattle.csdn_core.specs.Variables.{vars_of, free_in, BindsOutside};
-ghost use Rattle.decision_laws.specs.Forms.{Form, normal_form, signed};
-ghost use Rattle.decision_laws.specs.Laws.{form_of};
+ghost use Rattle.fol_forms.specs.Forms.{Form, normal_form, signed};
+ghost use Rattle.fol_forms.specs.Forms.{form_of};
 ghost use Rattle.fol_forms.specs.declared.close.Bind.{Bind as AnyBind};
 ghost use Rattle.fol_forms.specs.Closed.{closed, IsTrueForAll};
 ghost use Rattle.fol_forms.specs.Renumber.{renumber};
