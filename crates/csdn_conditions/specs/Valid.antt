@@ -1,5 +1,5 @@
 -- What it means that a condition is valid.
-use Rattle.std.specs.Prelude.{IsTrue}
+use Rattle.std.specs.Prelude.{IsTrue, IsFalse}
 use Rattle.csdn_core.specs.declared.event.Packet.TheVariants.{Nothing}
 use Rattle.csdn_core.specs.declared.program.Parts.{Parts}
 use Rattle.csdn_core.specs.Truth.{truth}
@@ -11,3 +11,8 @@ use Rattle.csdn_conditions.specs.declared.sentence.Condition.{Condition}
 abbrev pub IsValid : Parts → Condition → Type 0
 IsValid P c =
     (N : Network) (x : State) → IsNetwork P N → IsTrue (truth (structure P N x Nothing) c.hypothesis no_values) → IsTrue (truth (structure P N x Nothing) c.goal no_values)
+
+-- a case of it: a network and a state in which the hypothesis is true and the goal false
+abbrev pub HasCase : Parts → Condition → Type 0
+HasCase P c =
+    (N : Network) × (x : State) × IsNetwork P N × IsTrue (truth (structure P N x Nothing) c.hypothesis no_values) × IsFalse (truth (structure P N x Nothing) c.goal no_values)
