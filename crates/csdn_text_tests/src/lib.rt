@@ -21,7 +21,7 @@ mod tests {
     fn tells(rt: &impl Abort, alloc: Global, rows: &[(&[u8], &str)]) -> Result<(), AllocError> {
         for (i, row) in rows.iter().enumerate() {
             let found = told(alloc, row.0)?;
-            assert_eq!(rt; found.as_str(), row.1, "row {i}");
+            assert!(rt; found.as_str() == row.1, "row {i}: {found}");
         }
         Ok(())
     }
@@ -193,14 +193,23 @@ mod tests {
         (b"rel ", b"a", 64, "BadName { at: 4 }"),
     ];
 
-    #[test]
-    fn counts_depth_and_bytes_exactly(rt: HostRuntime) -> Result<(), Fail> {
-        let alloc = rt.alloc();
-        for row in LIMITS {
+    /// Each text that is made so is answered so.
+    fn tells_repeated(
+        rt: &impl Abort,
+        alloc: Global,
+        rows: &[(&[u8], &[u8], usize, &str)],
+    ) -> Result<(), AllocError> {
+        for (i, row) in rows.iter().enumerate() {
             let text = repeated(alloc, row.0, row.1, row.2)?;
             let found = told(alloc, &text)?;
-            assert_eq!(rt; found.as_str(), row.3);
+            assert!(rt; found.as_str() == row.3, "row {i}: {found}");
         }
+        Ok(())
+    }
+
+    #[test]
+    fn counts_depth_and_bytes_exactly(rt: HostRuntime) -> Result<(), Fail> {
+        tells_repeated(&rt, rt.alloc(), LIMITS)?;
         Ok(())
     }
 
@@ -225,20 +234,28 @@ mod tests {
         }
     }
 
+    /// Whether the text reads as an implication of an implication.
+    fn reads_nested_to_the_right(alloc: Global, text: &[u8]) -> bool {
+        match parse(alloc, text) {
+            Ok(raw) => is_nested_to_the_right(&raw),
+            Err(_) => false,
+        }
+    }
+
+    /// Whether the text reads as an `if` with no `else` of its own.
+    fn reads_no_outer_else(alloc: Global, text: &[u8]) -> bool {
+        match parse(alloc, text) {
+            Ok(raw) => has_no_outer_else(&raw),
+            Err(_) => false,
+        }
+    }
+
     #[test]
     fn makes_the_tree_that_the_grammar_means(rt: HostRuntime) -> Result<(), Fail> {
         let alloc = rt.alloc();
-        let implication = match parse(alloc, b"safety A: p() -> q() -> r();") {
-            Ok(raw) => is_nested_to_the_right(&raw),
-            Err(_) => false,
-        };
-        assert!(rt; implication, "not right-associative");
+        assert!(rt; reads_nested_to_the_right(alloc, b"safety A: p() -> q() -> r();"));
         let text = b"pktIn(s, a->b, i) { if p() { if q() { skip; } else { r.insert(); } } }";
-        let conditional = match parse(alloc, text) {
-            Ok(raw) => has_no_outer_else(&raw),
-            Err(_) => false,
-        };
-        assert!(rt; conditional, "the else belongs to the outer if");
+        assert!(rt; reads_no_outer_else(alloc, text));
         Ok(())
     }
 }
