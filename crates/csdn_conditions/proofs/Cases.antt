@@ -8,15 +8,11 @@ use Rattle.csdn_core.specs.Network.{Network, structure}
 use Rattle.csdn_core.specs.Run.{empty_state, no_values}
 use Rattle.csdn_core.specs.Holds.{IsTopology}
 use Rattle.csdn_core.specs.WellSorted.{IsWellSorted}
-use Rattle.std.specs.Prelude.{IsTrue}
-use Rattle.decision_laws.specs.Forms.{in_fragment}
-use Rattle.decision_laws.specs.Laws.{HasNetwork, IsSentence, form_of}
-use Rattle.csdn_wp.proofs.Fitting.{sentence_fits}
 use Rattle.csdn_conditions.specs.Closed.{IsClosed}
 use Rattle.csdn_conditions.specs.declared.kinds.CondKind.TheVariants.{Network as NetworkKind}
 use Rattle.csdn_conditions.specs.declared.sentence.Condition.{Condition}
 use Rattle.csdn_conditions.specs.Conditions.{condition, sentence}
-use Rattle.csdn_conditions.specs.Valid.{IsValid, HasCase}
+use Rattle.csdn_conditions.specs.Valid.{IsValid, IsMadeTrue, HasCase}
 use Rattle.csdn_conditions.proofs.Inductive.{topology_true}
 use Rattle.csdn_conditions.proofs.Complete.{topology_holds}
 use Rattle.csdn_core.specs.SortedIn.{IsSortedIn}
@@ -29,7 +25,7 @@ is_true : (b : Bool) → (b ≡ false → ⊥) → b ≡ true
 is_true true h = refl
 is_true false h = absurd (h refl)
 
-pub case_sentence : (P : Parts) (c : Condition) → HasCase P c ↔ HasNetwork P (sentence c)
+pub case_sentence : (P : Parts) (c : Condition) → HasCase P c ↔ IsMadeTrue P (sentence c)
 unfolding truth
 case_sentence P c = (
   (λ (N, x, network, h, g). (N, x, network, and_from _ _ h (ap not g))),
@@ -51,9 +47,6 @@ case_network P well n = (
   (λ (N, is). (N, empty_state, is.network, topology_true P well N is.network is.topology empty_state, refl)),
 )
 
-closed_sentence : (P : Parts) (c : Condition) → IsClosed P c.hypothesis → IsClosed P c.goal → IsClosed P (sentence c)
+pub case_closed : (P : Parts) (c : Condition) → IsClosed P c.hypothesis → IsClosed P c.goal → IsClosed P (sentence c)
 unfolding IsSortedIn
-closed_sentence P c h g = (h, g)
-
-pub case_decided : (P : Parts) (c : Condition) → IsClosed P c.hypothesis → IsClosed P c.goal → IsTrue (in_fragment (form_of (sentence c))) → IsSentence P (sentence c)
-case_decided P c h g inside = record { closed = sentence_fits P (sentence c) (closed_sentence P c h g); inside = inside }
+case_closed P c h g = (h, g)

@@ -1,7 +1,8 @@
--- What it means that a condition is valid.
+-- What it means that a condition is valid, and that it has a case.
 use Rattle.std.specs.Prelude.{IsTrue, IsFalse}
 use Rattle.csdn_core.specs.declared.event.Packet.TheVariants.{Nothing}
 use Rattle.csdn_core.specs.declared.program.Parts.{Parts}
+use Rattle.csdn_core.specs.declared.syntax.Formula.{Formula}
 use Rattle.csdn_core.specs.Truth.{truth}
 use Rattle.csdn_core.specs.Network.{Network, State, structure, IsNetwork}
 use Rattle.csdn_core.specs.Run.{no_values}
@@ -16,3 +17,7 @@ IsValid P c =
 abbrev pub HasCase : Parts → Condition → Type 0
 HasCase P c =
     (N : Network) × (x : State) × IsNetwork P N × IsTrue (truth (structure P N x Nothing) c.hypothesis no_values) × IsFalse (truth (structure P N x Nothing) c.goal no_values)
+
+-- some network and state make the formula true
+abbrev pub IsMadeTrue : Parts → Formula → Type 0
+IsMadeTrue P p = (N : Network) × (x : State) × IsNetwork P N × IsTrue (truth (structure P N x Nothing) p no_values)

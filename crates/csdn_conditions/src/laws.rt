@@ -6,8 +6,6 @@ ghost use Rattle.csdn_core.specs.declared.event.Packet.{Packet as AnyPacket};
 ghost use Rattle.csdn_core.specs.declared.event.Packet.TheVariants.{Nothing};
 ghost use Rattle.csdn_core.specs.declared.syntax.Formula.{Formula as AnyFormula};
 ghost use Rattle.csdn_core.specs.Truth.{truth};
-ghost use Rattle.decision_laws.specs.Laws.{HasNetwork, IsSentence, form_of};
-ghost use Rattle.decision_laws.specs.Forms.{in_fragment};
 ghost use Rattle.csdn_core.specs.Network.{Network, State, IsNetwork, structure};
 ghost use Rattle.csdn_core.specs.Holds.{IsInductive, IsTopology};
 ghost use Rattle.csdn_core.specs.Run.{no_values, Run};
@@ -17,7 +15,7 @@ ghost use Rattle.csdn_conditions.specs.declared.sentence.Condition.{Condition as
 ghost use Rattle.csdn_conditions.specs.Start.{start};
 ghost use Rattle.csdn_conditions.specs.Conditions.{condition, conditions, after_events, sentence};
 ghost use Rattle.csdn_conditions.specs.Closed.{IsClosed};
-ghost use Rattle.csdn_conditions.specs.Valid.{IsValid, HasCase};
+ghost use Rattle.csdn_conditions.specs.Valid.{IsValid, IsMadeTrue, HasCase};
 ghost use Rattle.csdn_conditions.specs.Initial.{IsInitial};
 
 /// `start` is true in a state exactly where the state is the initial one, as far as a network's elements go.
@@ -46,10 +44,11 @@ pub fn after_events_are_exact()
 {}
 
 /// A condition has a case exactly where some network and state make its sentence true, and is valid exactly where it has none.
-/// The first condition of a level has one exactly where some network meets the topology invariants.
+/// The first condition of a level has one exactly where some network meets the topology invariants. The sentence is closed
+/// where the hypothesis and the goal are.
 pub fn cases_break_conditions()
-    ensures sentence { (P : AnyParts) (c : AnyCondition) → HasCase P c ↔ HasNetwork P (sentence c) }
-    ensures decided { (P : AnyParts) (c : AnyCondition) → IsClosed P c.hypothesis → IsClosed P c.goal → IsTrue (in_fragment (form_of (sentence c))) → IsSentence P (sentence c) }
+    ensures sentence { (P : AnyParts) (c : AnyCondition) → HasCase P c ↔ IsMadeTrue P (sentence c) }
+    ensures closed { (P : AnyParts) (c : AnyCondition) → IsClosed P c.hypothesis → IsClosed P c.goal → IsClosed P (sentence c) }
     ensures valid { (P : AnyParts) (c : AnyCondition) → IsValid P c ↔ (HasCase P c → ⊥) }
     ensures network { (P : AnyParts) → IsWellSorted P → (n : ℕ) → HasCase P (condition P n NetworkKind) ↔ ((N : Network) × IsTopology P N) }
 {}
