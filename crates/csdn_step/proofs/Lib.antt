@@ -8,3 +8,4 @@ pub mod Starts
 pub mod Room
 pub mod Steps
 pub mod Quiet
+pub mod Elements
