@@ -4,6 +4,7 @@ use Rattle.std.specs.Prelude.{slice_get, option_map}
 use Rattle.std.specs.List.{list_any, flat_map}
 use Rattle.std.proofs.lemmas.Bool.{and_parts, or_cases, eqb-true}
 use Rattle.std.proofs.lemmas.Option.{none-some, same_Some}
+use Rattle.std.proofs.lemmas.List.Elements.{All-contains}
 use Rattle.csdn_core.specs.declared.terms.Sort.{Sort}
 use Rattle.csdn_core.specs.declared.terms.Sort.TheVariants.{Sw, Ho, Pr}
 use Rattle.csdn_core.specs.declared.terms.VarId.{VarId}
@@ -17,6 +18,7 @@ use Rattle.csdn_core.specs.declared.event.Event.TheVariants.{PktIn, PktFlow, Exp
 use Rattle.csdn_core.specs.declared.program.Parts.{Parts}
 use Rattle.csdn_core.specs.declared.program.Relation.{Relation}
 use Rattle.csdn_core.specs.declared.program.Handler.{Handler}
+use Rattle.csdn_core.specs.declared.program.StartRow.{StartRow}
 use Rattle.csdn_core.specs.declared.syntax.Command.{Command}
 use Rattle.csdn_core.specs.declared.syntax.Command.TheVariants as c
 use Rattle.csdn_core.specs.declared.syntax.Formula.{Formula}
@@ -24,10 +26,10 @@ use Rattle.csdn_core.specs.Tree.{sequence, conditional, choice}
 use Rattle.csdn_core.specs.Truth.{Assignment, with_var, values}
 use Rattle.csdn_core.specs.Network.{Network, State, elements, structure, is_fixed, is_fixed_in, same_pred, same_cells, HaveElements, IsNetwork}
 use Rattle.csdn_core.specs.Execution.{put, take_out, take_out_match, flooded, is_flood, is_rule_of, tuple, Executes}
-use Rattle.csdn_core.specs.Run.{no_values, first_fit, fits, for_packet, Handles, Step}
+use Rattle.csdn_core.specs.Run.{no_values, empty_state, initial, first_fit, fits, for_packet, Handles, Step}
 use Rattle.csdn_core.specs.Sorted.{Bind, HaveSorts, sorts_of, flow_sorts, packet_sorts, bound_in}
 use Rattle.csdn_core.specs.SortedIn.{Scope, no_scope, with_sort, scope_of}
-use Rattle.csdn_core.specs.WellSorted.{IsCommand, IsWellSorted, IsWrite, OwnPacket, signature, own_packet, handler_binds, handler_bound_in, invariant_bound_in, command_bound_in, all_bound_in}
+use Rattle.csdn_core.specs.WellSorted.{IsCommand, IsWellSorted, IsStartRow, IsWrite, OwnPacket, signature, own_packet, handler_binds, handler_bound_in, invariant_bound_in, command_bound_in, all_bound_in}
 use Rattle.csdn_core.specs.Members.{AreDistinct}
 use Rattle.csdn_core.proofs.Same.{same_pred-is, same_cells-is}
 use Rattle.csdn_core.proofs.Members.{distinct_left, distinct_right, distinct_pairs}
@@ -50,7 +52,7 @@ more_by N Γ e s m w t false there before is = before is
 pub has_more : (N : Network) (Γ : Scope) (e : Assignment) (v : VarId) (s : Sort) (m : ℕ) → Contains (elements N s) m → HasElements N Γ e → HasElements N (with_sort Γ v s) (with_var e v m)
 has_more N Γ e v s m there has = λ w t is. more_by N Γ e s m w t (w == v.0) there (has w t) is
 
-has_none : (N : Network) → HasElements N no_scope no_values
+pub has_none : (N : Network) → HasElements N no_scope no_values
 has_none N = λ v s is. absurd (none-some s is)
 
 -- where a handler begins
@@ -121,7 +123,7 @@ module _ (P : Parts) (N : Network) where
 
   flow_there : (s a b i o : ℕ) → HaveElements N packet_sorts (s ∷ a ∷ b ∷ i ∷ []) → Contains N.ports o → HaveElements N flow_sorts (s ∷ a ∷ b ∷ i ∷ o ∷ [])
   unfolding HaveElements
-  flow_there s a b i o there in_o = (there.0, there.1, there.2, there.3, in_o, tt)
+  flow_there s a b i o there in_o = (there.0, (there.1.0, (there.1.1.0, (there.1.1.1.0, (in_o, tt)))))
 
   flood_one : (cells ds : List ℕ) → HaveElements N packet_sorts cells → is_flood N.ports cells ds ≡ true → IsOne Sent ds
   unfolding HaveElements
@@ -206,6 +208,29 @@ module _ (P : Parts) (N : Network) where
       unfolding HaveElements
       step_keeps x y (PktIn s a b i) (in_s, in_a, in_b, in_i, done) of = handles_keeps s a b i in_s in_a in_b in_i x y (first_fit P.handlers i) refl done of
       step_keeps x y (PktFlow s a b i o) (in_s, in_a, in_b, in_i, in_o, enabled, is) of =
-          subst (λ (z : State). IsOfElements P N z) (sym is) (put_keeps x Sent (s ∷ a ∷ b ∷ i ∷ o ∷ []) of (of_flow Sent tt refl (s ∷ a ∷ b ∷ i ∷ o ∷ []) (in_s, in_a, in_b, in_i, in_o, tt)))
+          subst (λ (z : State). IsOfElements P N z) (sym is) (put_keeps x Sent (s ∷ a ∷ b ∷ i ∷ o ∷ []) of (of_flow Sent tt refl (s ∷ a ∷ b ∷ i ∷ o ∷ []) (in_s, (in_a, (in_b, (in_i, (in_o, tt)))))))
       step_keeps x y (Expire s a b i) (in_s, in_a, in_b, in_i, may, rule, is) of =
           subst (λ (z : State). IsOfElements P N z) (sym is) (match_keeps x (s ∷ a ∷ b ∷ i ∷ []) of)
+
+      started : (row : StartRow) → IsStartRow P row → (r : RelId) (cells : List ℕ) → ((row.rel.0 == r.0) && same_cells (tuple P N row.terms no_values empty_state) cells) ≡ true → IsOne (Stored r) cells
+      started row start r cells is =
+          let parts = and_parts (row.rel.0 == r.0) (same_cells (tuple P N row.terms no_values empty_state) cells) is in
+          let same : row.rel ≡ r = ap (λ n. record { 0 = n }) (eqb-true row.rel.0 r.0 parts.0) in
+          subst (λ (q : RelId). IsOne (Stored q) cells) same
+          (subst (λ (es : List ℕ). IsOne (Stored row.rel) es) (same_cells-is (tuple P N row.terms no_values empty_state) cells parts.1) (record {
+            kept = ap is_fixed_in start.declared ∙ start.stored;
+            sorts = start.relation.sorts;
+            declared = ap (option_map (λ (d : Relation). d.sorts)) start.declared;
+            cells = terms_there [] no_scope no_values empty_state (AreInScope-none no_scope) (has_none N) start.relation.sorts row.terms start.terms;
+          }))
+
+      pub start_keeps : IsOfElements P N (initial P N)
+      start_keeps = λ q ds is. at q ds is
+        where
+          at : (q : Pred) (ds : List ℕ) → initial P N q ds ≡ true → IsOne q ds
+          at (Stored r) ds is =
+              let one = found (λ row. (row.rel.0 == r.0) && same_cells (tuple P N row.terms no_values empty_state) ds) P.start is in
+              started one.0 (All-contains (IsStartRow P) P.start one.0 sorted.start one.1) r ds one.2
+          at Ft ds is = absurd (true≢false (sym is))
+          at Sent ds is = absurd (true≢false (sym is))
+          at RcvThis ds is = absurd (true≢false (sym is))

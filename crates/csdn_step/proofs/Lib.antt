@@ -9,3 +9,4 @@ pub mod Room
 pub mod Steps
 pub mod Quiet
 pub mod Elements
+pub mod Telling

@@ -197,20 +197,50 @@ mod tests {
     const EXPIRES: &[u8] =
         b"timeout 30; pktIn(s, a->b, i) { s.install(a->b, i->prt(2)); s.forward(a->b, i->prt(2)); }";
 
-    const PACKET: Act = Act::Fire(Event::PktIn { s: 1, a: 4, b: 5, i: 1 });
+    const PACKET: Act = Act::Fire(Event::PktIn {
+        s: 1,
+        a: 4,
+        b: 5,
+        i: 1,
+    });
 
-    const EXPIRY: Act = Act::Fire(Event::Expire { s: 1, a: 4, b: 5, i: 1 });
+    const EXPIRY: Act = Act::Fire(Event::Expire {
+        s: 1,
+        a: 4,
+        b: 5,
+        i: 1,
+    });
 
     const QUIET: Act = Act::FireQuiet(FOUND);
 
     /// The match of that packet, and that of one that comes back by the same port.
-    const FOUND: Match = Match { s: 1, a: 4, b: 5, i: 1 };
+    const FOUND: Match = Match {
+        s: 1,
+        a: 4,
+        b: 5,
+        i: 1,
+    };
 
-    const OTHER_WAY: Match = Match { s: 1, a: 5, b: 4, i: 1 };
+    const OTHER_WAY: Match = Match {
+        s: 1,
+        a: 5,
+        b: 4,
+        i: 1,
+    };
 
-    const THERE: Match = Match { s: 1, a: 4, b: 5, i: 2 };
+    const THERE: Match = Match {
+        s: 1,
+        a: 4,
+        b: 5,
+        i: 2,
+    };
 
-    const BACK: Match = Match { s: 1, a: 5, b: 4, i: 2 };
+    const BACK: Match = Match {
+        s: 1,
+        a: 5,
+        b: 4,
+        i: 2,
+    };
 
     const MANY_OUTS: &[Out] = &[Out::Port(3), Out::Flood, Out::Port(1)];
 
@@ -263,7 +293,12 @@ mod tests {
         (
             LEARNT,
             b"",
-            Act::Fire(Event::PktIn { s: 2, a: 4, b: 4, i: 3 }),
+            Act::Fire(Event::PktIn {
+                s: 2,
+                a: 4,
+                b: 4,
+                i: 3,
+            }),
             &[],
             &[Out::Flood],
             b"sent 2 4 4 3 1\nsent 2 4 4 3 2\n",
@@ -280,12 +315,29 @@ mod tests {
         (
             PORTS,
             b"",
-            Act::Fire(Event::PktIn { s: 1, a: 4, b: 5, i: 2 }),
+            Act::Fire(Event::PktIn {
+                s: 1,
+                a: 4,
+                b: 5,
+                i: 2,
+            }),
             &[],
             &[Out::Port(3)],
             b"sent 1 4 5 2 3\n",
         ),
-        (PORTS, b"", Act::Fire(Event::PktIn { s: 1, a: 4, b: 5, i: 3 }), &[], &[], b""),
+        (
+            PORTS,
+            b"",
+            Act::Fire(Event::PktIn {
+                s: 1,
+                a: 4,
+                b: 5,
+                i: 3,
+            }),
+            &[],
+            &[],
+            b"",
+        ),
         (
             EVERY,
             b"",
@@ -312,7 +364,12 @@ mod tests {
         (
             MANY,
             b"",
-            Act::Fire(Event::PktIn { s: 1, a: 4, b: 5, i: 2 }),
+            Act::Fire(Event::PktIn {
+                s: 1,
+                a: 4,
+                b: 5,
+                i: 2,
+            }),
             &[BACK, THERE],
             MANY_OUTS,
             ALL_RULES,
@@ -320,7 +377,12 @@ mod tests {
         (
             MANY,
             b"ft 1 5 4 2 1\n",
-            Act::Fire(Event::PktIn { s: 1, a: 4, b: 5, i: 2 }),
+            Act::Fire(Event::PktIn {
+                s: 1,
+                a: 4,
+                b: 5,
+                i: 2,
+            }),
             &[THERE, BACK],
             MANY_OUTS,
             ALL_RULES,
@@ -328,7 +390,12 @@ mod tests {
         (
             MANY,
             b"ft 1 5 4 2 1\nft 1 5 4 2 3\n",
-            Act::Fire(Event::PktIn { s: 1, a: 4, b: 5, i: 2 }),
+            Act::Fire(Event::PktIn {
+                s: 1,
+                a: 4,
+                b: 5,
+                i: 2,
+            }),
             &[THERE],
             MANY_OUTS,
             ALL_RULES,
@@ -336,7 +403,12 @@ mod tests {
         (
             MANY,
             b"ft 1 4 5 2 2\nft 1 5 4 2 3\n",
-            Act::Fire(Event::PktIn { s: 1, a: 4, b: 5, i: 2 }),
+            Act::Fire(Event::PktIn {
+                s: 1,
+                a: 4,
+                b: 5,
+                i: 2,
+            }),
             &[BACK],
             MANY_OUTS,
             ALL_RULES,
@@ -345,7 +417,13 @@ mod tests {
         (
             LEARNT,
             b"ft 1 4 5 1 2\n",
-            Act::Fire(Event::PktFlow { s: 1, a: 4, b: 5, i: 1, o: 2 }),
+            Act::Fire(Event::PktFlow {
+                s: 1,
+                a: 4,
+                b: 5,
+                i: 1,
+                o: 2,
+            }),
             &[],
             &[],
             b"ft 1 4 5 1 2\nsent 1 4 5 1 2\n",
@@ -368,16 +446,51 @@ mod tests {
             b"t c 2 4\n",
         ),
         // a rule that isn't there is taken out: nothing
-        (UNINSTALLS, b"ft 1 4 5 1 3\n", PACKET, &[], &[], b"ft 1 4 5 1 3\n"),
-        (UNINSTALLS, b"ft 1 4 5 1 2\nft 1 4 5 1 3\n", PACKET, &[FOUND], &[], b"ft 1 4 5 1 3\n"),
+        (
+            UNINSTALLS,
+            b"ft 1 4 5 1 3\n",
+            PACKET,
+            &[],
+            &[],
+            b"ft 1 4 5 1 3\n",
+        ),
+        (
+            UNINSTALLS,
+            b"ft 1 4 5 1 2\nft 1 4 5 1 3\n",
+            PACKET,
+            &[FOUND],
+            &[],
+            b"ft 1 4 5 1 3\n",
+        ),
         // a rule put in and taken out, or taken out and put in: what counts is before and after
         (IN_AND_OUT, b"", PACKET, &[], &[], b""),
         (IN_AND_OUT, b"ft 1 4 5 1 2\n", PACKET, &[FOUND], &[], b""),
         (OUT_AND_IN, b"", PACKET, &[FOUND], &[], b"ft 1 4 5 1 2\n"),
-        (OUT_AND_IN, b"ft 1 4 5 1 2\n", PACKET, &[], &[], b"ft 1 4 5 1 2\n"),
+        (
+            OUT_AND_IN,
+            b"ft 1 4 5 1 2\n",
+            PACKET,
+            &[],
+            &[],
+            b"ft 1 4 5 1 2\n",
+        ),
         // another output in place of one; and the first command that changed a match, not the last, gives the order
-        (MOVES, b"ft 1 4 5 1 2\nft 1 5 4 1 3\n", PACKET, &[FOUND, OTHER_WAY], &[], b"ft 1 4 5 1 3\nft 1 5 4 1 2\n"),
-        (MOVES, b"", PACKET, &[FOUND, OTHER_WAY], &[], b"ft 1 4 5 1 3\nft 1 5 4 1 2\n"),
+        (
+            MOVES,
+            b"ft 1 4 5 1 2\nft 1 5 4 1 3\n",
+            PACKET,
+            &[FOUND, OTHER_WAY],
+            &[],
+            b"ft 1 4 5 1 3\nft 1 5 4 1 2\n",
+        ),
+        (
+            MOVES,
+            b"",
+            PACKET,
+            &[FOUND, OTHER_WAY],
+            &[],
+            b"ft 1 4 5 1 3\nft 1 5 4 1 2\n",
+        ),
         // all rules of one match end, and no others
         (
             EXPIRES,
@@ -419,21 +532,141 @@ mod tests {
 
     /// A program, what is done, and whether an element is a stranger; else the event isn't enabled.
     const REFUSED: &[(&[u8], Act, bool)] = &[
-        (LEARNT, Act::Fire(Event::PktIn { s: 3, a: 4, b: 5, i: 1 }), true),
-        (LEARNT, Act::Fire(Event::PktIn { s: 1, a: 7, b: 5, i: 1 }), true),
-        (LEARNT, Act::Fire(Event::PktIn { s: 1, a: 4, b: 1, i: 1 }), true),
-        (LEARNT, Act::Fire(Event::PktIn { s: 1, a: 4, b: 5, i: 4 }), true),
-        (LEARNT, Act::FireQuiet(Match { s: 1, a: 4, b: 5, i: 4 }), true),
-        (LEARNT, Act::Fire(Event::PktFlow { s: 1, a: 4, b: 5, i: 1, o: 4 }), true),
-        (LEARNT, Act::Fire(Event::PktFlow { s: 1, a: 4, b: 5, i: 1, o: 2 }), false),
-        (LEARNT, Act::Fire(Event::PktFlow { s: 1, a: 5, b: 4, i: 1, o: 3 }), false),
+        (
+            LEARNT,
+            Act::Fire(Event::PktIn {
+                s: 3,
+                a: 4,
+                b: 5,
+                i: 1,
+            }),
+            true,
+        ),
+        (
+            LEARNT,
+            Act::Fire(Event::PktIn {
+                s: 1,
+                a: 7,
+                b: 5,
+                i: 1,
+            }),
+            true,
+        ),
+        (
+            LEARNT,
+            Act::Fire(Event::PktIn {
+                s: 1,
+                a: 4,
+                b: 1,
+                i: 1,
+            }),
+            true,
+        ),
+        (
+            LEARNT,
+            Act::Fire(Event::PktIn {
+                s: 1,
+                a: 4,
+                b: 5,
+                i: 4,
+            }),
+            true,
+        ),
+        (
+            LEARNT,
+            Act::FireQuiet(Match {
+                s: 1,
+                a: 4,
+                b: 5,
+                i: 4,
+            }),
+            true,
+        ),
+        (
+            LEARNT,
+            Act::Fire(Event::PktFlow {
+                s: 1,
+                a: 4,
+                b: 5,
+                i: 1,
+                o: 4,
+            }),
+            true,
+        ),
+        (
+            LEARNT,
+            Act::Fire(Event::PktFlow {
+                s: 1,
+                a: 4,
+                b: 5,
+                i: 1,
+                o: 2,
+            }),
+            false,
+        ),
+        (
+            LEARNT,
+            Act::Fire(Event::PktFlow {
+                s: 1,
+                a: 5,
+                b: 4,
+                i: 1,
+                o: 3,
+            }),
+            false,
+        ),
         // no rules end where the program says nothing of time, or where none of the match is there
         (LEARNT, EXPIRY, false),
-        (EXPIRES, Act::Fire(Event::Expire { s: 1, a: 5, b: 4, i: 1 }), false),
-        (EXPIRES, Act::Fire(Event::Expire { s: 2, a: 4, b: 5, i: 2 }), false),
-        (EXPIRES, Act::Fire(Event::Expire { s: 3, a: 4, b: 5, i: 1 }), true),
-        (EXPIRES, Act::Fire(Event::Expire { s: 1, a: 4, b: 5, i: 4 }), true),
-        (LEARNT, Act::Fire(Event::Expire { s: 1, a: 4, b: 9, i: 1 }), true),
+        (
+            EXPIRES,
+            Act::Fire(Event::Expire {
+                s: 1,
+                a: 5,
+                b: 4,
+                i: 1,
+            }),
+            false,
+        ),
+        (
+            EXPIRES,
+            Act::Fire(Event::Expire {
+                s: 2,
+                a: 4,
+                b: 5,
+                i: 2,
+            }),
+            false,
+        ),
+        (
+            EXPIRES,
+            Act::Fire(Event::Expire {
+                s: 3,
+                a: 4,
+                b: 5,
+                i: 1,
+            }),
+            true,
+        ),
+        (
+            EXPIRES,
+            Act::Fire(Event::Expire {
+                s: 1,
+                a: 4,
+                b: 5,
+                i: 4,
+            }),
+            true,
+        ),
+        (
+            LEARNT,
+            Act::Fire(Event::Expire {
+                s: 1,
+                a: 4,
+                b: 9,
+                i: 1,
+            }),
+            true,
+        ),
     ];
 
     // Each event is refused, and the state is unchanged.

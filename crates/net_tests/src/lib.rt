@@ -431,7 +431,13 @@ mod tests {
     const PARTS: &[(Given, Found)] = &[
         // in any order, and a tuple that stands twice is read once
         (
-            (&[2, 1], &[4, 3], &[2, 1], &[3, 2], &[(LINK, &[2, 1]), (UP, &[]), (LINK, &[1, 2]), (LINK, &[2, 1])]),
+            (
+                &[2, 1],
+                &[4, 3],
+                &[2, 1],
+                &[3, 2],
+                &[(LINK, &[2, 1]), (UP, &[]), (LINK, &[1, 2]), (LINK, &[2, 1])],
+            ),
             Found::Taken(3),
         ),
         ((&[1], &[1], &[2], &[1, 2], &[]), Found::Taken(0)),
@@ -439,25 +445,64 @@ mod tests {
         ((&[], &[3], &[2], &[3, 2], &[]), Found::EmptySort(Sort::Sw)),
         ((&[1], &[], &[2], &[3, 2], &[]), Found::EmptySort(Sort::Ho)),
         ((&[1], &[3], &[], &[3, 2], &[]), Found::EmptySort(Sort::Pr)),
-        ((&[1, 2, 2, 1], &[3], &[2], &[3, 2], &[]), Found::RepeatedElement(Sort::Sw, 2)),
-        ((&[1], &[3, 4, 3], &[2], &[3, 2], &[]), Found::RepeatedElement(Sort::Ho, 3)),
-        ((&[1], &[3], &[2, 2], &[3, 2], &[]), Found::RepeatedElement(Sort::Pr, 2)),
+        (
+            (&[1, 2, 2, 1], &[3], &[2], &[3, 2], &[]),
+            Found::RepeatedElement(Sort::Sw, 2),
+        ),
+        (
+            (&[1], &[3, 4, 3], &[2], &[3, 2], &[]),
+            Found::RepeatedElement(Sort::Ho, 3),
+        ),
+        (
+            (&[1], &[3], &[2, 2], &[3, 2], &[]),
+            Found::RepeatedElement(Sort::Pr, 2),
+        ),
         ((&[1], &[3], &[1, 3], &[3, 1], &[]), Found::MissingPort(2)),
         ((&[1], &[3], &[2], &[4, 2], &[]), Found::StrangeConst(0)),
         ((&[1], &[3], &[2], &[3, 1], &[]), Found::StrangeConst(1)),
         ((&[1], &[3], &[2], &[3], &[]), Found::StrangeConst(1)),
         ((&[1], &[3], &[2], &[3, 2, 2], &[]), Found::StrangeConst(2)),
-        ((&[1], &[3], &[2], &[3, 2], &[(UP, &[]), (LINK, &[2, 2])]), Found::StrangeElement(1)),
-        ((&[1], &[3], &[2], &[3, 2], &[(LINK, &[1])]), Found::StrangeElement(0)),
-        ((&[1], &[3], &[2], &[3, 2], &[(UP, &[1])]), Found::StrangeElement(0)),
-        ((&[1], &[3], &[2], &[3, 2], &[(TR, &[1, 3])]), Found::StrangeElement(0)),
-        ((&[1], &[3], &[2], &[3, 2], &[(Pred::Ft, &[1, 3, 3, 2, 2])]), Found::StrangeElement(0)),
-        ((&[1], &[3], &[2], &[3, 2], &[(Pred::Stored(RelId(9)), &[])]), Found::StrangeElement(0)),
+        (
+            (&[1], &[3], &[2], &[3, 2], &[(UP, &[]), (LINK, &[2, 2])]),
+            Found::StrangeElement(1),
+        ),
+        (
+            (&[1], &[3], &[2], &[3, 2], &[(LINK, &[1])]),
+            Found::StrangeElement(0),
+        ),
+        (
+            (&[1], &[3], &[2], &[3, 2], &[(UP, &[1])]),
+            Found::StrangeElement(0),
+        ),
+        (
+            (&[1], &[3], &[2], &[3, 2], &[(TR, &[1, 3])]),
+            Found::StrangeElement(0),
+        ),
+        (
+            (&[1], &[3], &[2], &[3, 2], &[(Pred::Ft, &[1, 3, 3, 2, 2])]),
+            Found::StrangeElement(0),
+        ),
+        (
+            (&[1], &[3], &[2], &[3, 2], &[(Pred::Stored(RelId(9)), &[])]),
+            Found::StrangeElement(0),
+        ),
         // several reasons: the first in the order of the refusals
-        ((&[1, 1], &[], &[3], &[], &[(TR, &[])]), Found::EmptySort(Sort::Ho)),
-        ((&[1], &[3, 3], &[3, 3], &[], &[]), Found::RepeatedElement(Sort::Ho, 3)),
-        ((&[1], &[3], &[1], &[9, 9], &[(TR, &[])]), Found::MissingPort(2)),
-        ((&[1], &[3], &[2], &[9, 9], &[(TR, &[])]), Found::StrangeConst(0)),
+        (
+            (&[1, 1], &[], &[3], &[], &[(TR, &[])]),
+            Found::EmptySort(Sort::Ho),
+        ),
+        (
+            (&[1], &[3, 3], &[3, 3], &[], &[]),
+            Found::RepeatedElement(Sort::Ho, 3),
+        ),
+        (
+            (&[1], &[3], &[1], &[9, 9], &[(TR, &[])]),
+            Found::MissingPort(2),
+        ),
+        (
+            (&[1], &[3], &[2], &[9, 9], &[(TR, &[])]),
+            Found::StrangeConst(0),
+        ),
     ];
 
     fn are_found(
@@ -499,9 +544,25 @@ mod tests {
         let trusted = rows_of(alloc, &[(TR, &[1, 4]), (TR, &[2, 3])])?;
         assert!(rt; state.rows(alloc, TR)?.as_slice() == trusted.as_slice());
         assert!(rt; state.rows(alloc, UP)?.is_empty());
-        let outputs = state.outputs(alloc, &Match { s: 1, a: 3, b: 4, i: 1 })?;
+        let outputs = state.outputs(
+            alloc,
+            &Match {
+                s: 1,
+                a: 3,
+                b: 4,
+                i: 1,
+            },
+        )?;
         assert!(rt; outputs.as_slice() == [1, 2].as_slice());
-        let others = state.outputs(alloc, &Match { s: 1, a: 4, b: 3, i: 1 })?;
+        let others = state.outputs(
+            alloc,
+            &Match {
+                s: 1,
+                a: 4,
+                b: 3,
+                i: 1,
+            },
+        )?;
         assert!(rt; others.is_empty());
         Ok(())
     }
