@@ -1,7 +1,7 @@
 -- A step keeps the state's tuples within the network's elements.
-use Rattle.std.proofs.Common.{◌≡◌, ◌≢◌, ◌∙◌, sym, ap, ap₂, subst, refl, ℕ, ◌==◌, Bool, true, false, true≢false, not, ◌&&◌, ◌||◌, ◌⊎◌, inl, inr, if◌then◌else◌, List, [], ◌∷◌, ◌++◌, Contains, IsTrue, Option, Some, None}
-use Rattle.std.specs.Prelude.{slice_get, option_map}
-use Rattle.std.specs.List.{list_any, flat_map}
+use Rattle.std.proofs.Common.{◌≡◌, ◌∙◌, sym, ap, subst, refl, ℕ, ◌==◌, Bool, true, false, true≢false, not, ◌&&◌, ◌⊎◌, inl, inr, if◌then◌else◌, List, [], ◌∷◌, ◌++◌, Contains, Option, Some, None}
+use Rattle.std.specs.Prelude.{option_map}
+use Rattle.std.specs.List.{flat_map}
 use Rattle.std.proofs.lemmas.Bool.{and_parts, or_cases, eqb-true}
 use Rattle.std.proofs.lemmas.Option.{none-some, same_Some}
 use Rattle.std.proofs.lemmas.List.Elements.{All-contains}
@@ -21,10 +21,9 @@ use Rattle.csdn_core.specs.declared.program.Handler.{Handler}
 use Rattle.csdn_core.specs.declared.program.StartRow.{StartRow}
 use Rattle.csdn_core.specs.declared.syntax.Command.{Command}
 use Rattle.csdn_core.specs.declared.syntax.Command.TheVariants as c
-use Rattle.csdn_core.specs.declared.syntax.Formula.{Formula}
 use Rattle.csdn_core.specs.Tree.{sequence, conditional, choice}
-use Rattle.csdn_core.specs.Truth.{Assignment, with_var, values}
-use Rattle.csdn_core.specs.Network.{Network, State, elements, structure, is_fixed, is_fixed_in, same_pred, same_cells, HaveElements, IsNetwork}
+use Rattle.csdn_core.specs.Truth.{Assignment, with_var}
+use Rattle.csdn_core.specs.Network.{Network, State, elements, structure, is_fixed_in, same_pred, same_cells, HaveElements, IsNetwork}
 use Rattle.csdn_core.specs.Execution.{put, take_out, take_out_match, flooded, is_flood, is_rule_of, tuple, Executes}
 use Rattle.csdn_core.specs.Run.{no_values, empty_state, initial, first_fit, fits, for_packet, Handles, Step}
 use Rattle.csdn_core.specs.Sorted.{Bind, HaveSorts, sorts_of, flow_sorts, packet_sorts, bound_in}

@@ -10,3 +10,4 @@ pub mod Steps
 pub mod Quiet
 pub mod Elements
 pub mod Telling
+pub mod Changes

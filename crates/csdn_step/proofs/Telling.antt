@@ -1,9 +1,8 @@
 -- What an event is told to have done is of the network.
-use Rattle.std.proofs.Common.{◌≡◌, sym, ap, refl, ℕ, zero, suc, ◌<◌, Bool, true, false, inl, if◌then◌else◌, List, [], ◌∷◌, ◌++◌, All, Contains, length, Option, Some, None, arith}
+use Rattle.std.proofs.Common.{◌≡◌, refl, ℕ, zero, suc, Bool, true, false, inl, if◌then◌else◌, List, [], ◌∷◌, ◌++◌, All, Contains, Option, Some, None, arith}
 use Rattle.std.proofs.lemmas.Bool.{and_parts}
 use Rattle.std.proofs.lemmas.List.Elements.{All-append, All-filter, All-nil}
 use Rattle.std.specs.List.{list_any}
-use Rattle.csdn_core.specs.declared.terms.Term.{Term}
 use Rattle.csdn_core.specs.declared.event.Event.{Event}
 use Rattle.csdn_core.specs.declared.event.Event.TheVariants.{PktIn, PktFlow, Expire}
 use Rattle.csdn_core.specs.declared.event.Match.{Match}
