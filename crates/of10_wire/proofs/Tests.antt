@@ -21,6 +21,15 @@ pub near_front : (n : ℕ) (b : Bool) (e : WireRefusal) (rest : Option WireRefus
 near_front n true e rest first h = first
 near_front n false e rest first h = h
 
+-- a refusal unless a test passes
+pub unless-none : (b : Bool) (e : WireRefusal) → cond b None (Some e) ≡ None → b ≡ true
+unless-none true e h = refl
+unless-none false e h = absurd cc
+
+pub unless-near : (n : ℕ) (b : Bool) (e : WireRefusal) → IsOfBytes n e → IfSome (cond b None (Some e)) (IsOfBytes n)
+unless-near n true e h = tt
+unless-near n false e h = h
+
 -- the refusal at a place, for a reason that isn't memory
 pub refusal_is : (at most : ℕ) (why : WireWhy) (e : WireRefusal) → at ≤ most → why ≢ Memory → e ≡ refusal at why → IsOfBytes most e
 refusal_is at most why e le named is = subst (IsOfBytes most) (sym is) (record { near = le; named = named })

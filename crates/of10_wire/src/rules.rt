@@ -44,7 +44,7 @@ pub enum Opening {
 pub fn opening_of(bytes: &[u8]) -> Opening
     ensures opening { result ≡ opening_of bytes.now }
     ensures short { (n : ℕ) → result ≡ Wants n → n < 2 ^ 16 }
-    ensures whole { (n : ℕ) → result ≡ Frame n → (8 ≤ n) × (n ≤ length bytes.now) }
+    ensures whole { (n : ℕ) → result ≡ Frame n → (8 ≤ n) × (n ≤ length bytes.now) × (n < 2 ^ 16) }
 {
     if bytes.len() < 8 {
         return Opening::Wants(8);

@@ -11,4 +11,4 @@ returns-else-bytes-len-clause-whole c = λ n is.
     let same : c.from-len.result ≡ n = cc in
     let kept : header_refusal c.args.bytes.now ≡ None = sym c.header_refusal.ensures ∙ c.in_default.is in
     let told = counts_header c.args.bytes.now kept in
-    (omega (arith, told, c.read.ensures.stand.1.1.0, c.from-len.ensures, same), omega (arith, c.if-bytes-len.false, same))
+    (omega (arith, told, c.read.ensures.stand.1.1.0, c.from-len.ensures, same), omega (arith, c.if-bytes-len.false, same), omega (arith, c.read.type_inv, c.from-len.ensures, same))
