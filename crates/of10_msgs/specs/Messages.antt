@@ -69,6 +69,11 @@ xid_of (BarrierReply xid) = xid
 xid_of (QueueGetConfigRequest xid port) = xid
 xid_of (QueueGetConfigReply xid port queues) = xid
 
+-- the reply to an echo request
+abbrev pub echoed : Message → Message
+echoed (EchoRequest xid body) = EchoReply xid body
+echoed message = message
+
 -- what stands behind the header
 abbrev pub fields_of : Message → List Slot
 fields_of (Hello xid version body) = rest body

@@ -1,7 +1,7 @@
 //! Messages.
 
 ghost use Rattle.std.specs.Prelude.{◌≡◌};
-ghost use Rattle.of10_msgs.specs.Messages.{version_of, kind_of, xid_of};
+ghost use Rattle.of10_msgs.specs.Messages.{version_of, kind_of, xid_of, echoed};
 
 use of10_stats::{Queues, StatsReply, StatsRequest};
 use of10_wire::{Actions, Body, FlowMatch, PhyPort, Ports};
@@ -228,6 +228,18 @@ impl Message {
             | Message::BarrierReply { xid }
             | Message::QueueGetConfigRequest { xid, .. }
             | Message::QueueGetConfigReply { xid, .. } => *xid,
+        }
+    }
+}
+
+impl Message {
+    /// The reply to an echo request, with its number and its bytes; any other message as it is. It takes no memory.
+    pub fn into_echo_reply(self) -> Message
+        ensures { result ≡ echoed self }
+    {
+        match self {
+            Message::EchoRequest { xid, body } => Message::EchoReply { xid, body },
+            other => other,
         }
     }
 }

@@ -201,6 +201,8 @@ fn the_longest_echo_is_sent_and_no_longer_one(rt: HostRuntime) -> Result<(), Fai
     assert!(rt; is_sendable(&longest));
     let read = again(rt.alloc(), &longest)?;
     assert!(rt; read.kind() == 2 && read.xid() == 1 && read.version() == 1);
+    let reply = read.into_echo_reply();
+    assert!(rt; reply.kind() == 3 && reply.xid() == 1);
     let body = body_of(rt.alloc(), 65528)?;
     assert!(rt; !is_sendable(&Message::EchoRequest { xid: 1, body }));
     Ok(())
