@@ -1,6 +1,6 @@
 use Rattle.std.proofs.Common.{◌-◌, ◌∙◌, Some, ap, arith}
 use Rattle.clause_log.proofs.Known.{clause_of_step, clause_past}
-use Rattle.clause_log.proofs.checker.clause_at.Goals as goal
+use Rattle.clause_log.proofs.checker.clause_among.Goals as goal
 
 pub returns-then-step-steps : goal.returns-then-step-steps
 returns-then-step-steps c =
