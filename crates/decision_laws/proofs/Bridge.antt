@@ -17,13 +17,16 @@ use Rattle.decision_laws.proofs.Read.{AllTrue, fair_read, left_true, right_true,
 use Rattle.decision_laws.proofs.Tied.{tied_true}
 use Rattle.decision_laws.proofs.Weights.{size-copies}
 use Rattle.decision_laws.proofs.Within.{tied_within}
-use Rattle.decision_laws.proofs.Words.{is_closed, law_up}
 use Rattle.decision_laws.specs.Classes.{network_of, state_of}
 use Rattle.decision_laws.specs.Clauses.{IsNaming, equality_clauses, size, whole_clauses}
 use Rattle.decision_laws.specs.Copies.{Fact, judge, known}
-use Rattle.decision_laws.specs.Forms.{simplified}
-use Rattle.decision_laws.specs.Laws.{AreTied, AreTiedBy, HasModel, HasNetwork, IsJudgement, IsSentence, atoms, clauses, counts, form_of, judged, name, naming, sentence_copies, words}
+use Rattle.decision_laws.specs.Laws.{AreTied, AreTiedBy, HasModel, HasNetwork, IsJudgement, IsSentence, atoms, clauses, judged, name, naming, sentence_copies, words}
 use Rattle.decision_laws.specs.Sublists.{ArePart}
+use Rattle.fol_forms.specs.Forms.{form_of}
+use Rattle.fol_forms.specs.Constants.{counts}
+use Rattle.decision_laws.specs.Simplified.{simplified}
+use Rattle.decision_laws.proofs.Fitting.{is_closed}
+use Rattle.decision_laws.proofs.Upward.{law_up}
 
 pub numbers_named : (P : Parts) (F : Formula) → IsNaming (words P F) (counts P F) (naming P F)
 numbers_named P F = numbers_name (counts P F) (words P F)

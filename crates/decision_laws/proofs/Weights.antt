@@ -2,10 +2,11 @@
 use Rattle.std.proofs.Common.{◌≡◌, ℕ, zero, suc, ◌+◌, ◌*◌, ◌∷◌, refl, ap, ap₂, sym, suc-mul, zero-mul, arith}
 use Rattle.csdn_core.specs.declared.terms.Sort.{Sort}
 use Rattle.decision_laws.specs.Vocabulary.{Vocabulary}
-use Rattle.decision_laws.specs.Forms.{Form, Fixed, Atom, Same, And, Or, ForAll, ForSome, need, one_if}
 use Rattle.decision_laws.specs.Copies.{Copy, Scope, copies, each}
 use Rattle.decision_laws.specs.Clauses.{size, sum_from}
 use Rattle.decision_laws.specs.Weights.{weight, each_weight}
+use Rattle.fol_forms.specs.Forms.{Form, Fixed, Atom, Same, And, Or, ForAll, ForSome}
+use Rattle.fol_forms.specs.Constants.{need, one_if}
 
 sum_same : (g : ℕ → ℕ) (w : ℕ) → ((i : ℕ) → g i ≡ w) → (i m : ℕ) → sum_from g i m ≡ m * w
 sum_same g w h i zero = sym (zero-mul w)

@@ -1,9 +1,9 @@
 -- What a sentence is written with: the names of each sort, and the relations that it uses.
-use Rattle.std.specs.Prelude.{◌≡◌, ◌⊎◌, ℕ, zero, suc, ◌==◌, Bool, true, false, ◌&&◌, ◌||◌, List, [], ◌∷◌, ◌++◌, map, length, filter, if◌then◌else◌, Option, Some, None, slice_get}
+use Rattle.std.specs.Prelude.{ℕ, zero, suc, ◌==◌, Bool, true, false, ◌&&◌, ◌||◌, List, [], ◌∷◌, ◌++◌, map, length, filter, if◌then◌else◌, Option, Some, None, slice_get}
 use Rattle.std.specs.List.{list_any}
 use Rattle.csdn_core.specs.Same.{same_sort, same_term}
 use Rattle.csdn_core.specs.declared.terms.Sort.{Sort}
-use Rattle.csdn_core.specs.declared.terms.Sort.TheVariants.{Sw, Ho, Pr}
+use Rattle.csdn_core.specs.declared.terms.Sort.TheVariants.{Sw, Pr}
 use Rattle.csdn_core.specs.declared.terms.Term.{Term}
 use Rattle.csdn_core.specs.declared.terms.Term.TheVariants.{Var, Const, Port}
 use Rattle.csdn_core.specs.declared.terms.Pred.{Pred}
@@ -13,12 +13,8 @@ use Rattle.csdn_core.specs.declared.program.Constant.{Constant}
 use Rattle.csdn_core.specs.Network.{same_pred}
 use Rattle.csdn_core.specs.Sorted.{sorts_of}
 use Rattle.csdn_core.specs.WellSorted.{signature}
-use Rattle.decision_laws.specs.Forms.{Form, Fixed, Atom, Same, And, Or, ForAll, ForSome}
-
--- x is in the list
-abbrev pub IsIn : {X : Type 0} → X → List X → Type 0
-IsIn x [] = ⊥
-IsIn x (y ∷ ys) = (x ≡ y) ⊎ IsIn x ys
+use Rattle.fol_forms.specs.Forms.{Form, Fixed, Atom, Same, And, Or, ForAll, ForSome}
+use Rattle.fol_forms.specs.Constants.{names_of}
 
 abbrev pub has_term : Term → List Term → Bool
 has_term t ts = list_any (same_term t) ts
@@ -43,16 +39,6 @@ uses (Or p q) r = uses p r || uses q r
 uses (ForAll v s p) r = uses p r
 uses (ForSome v s p) r = uses p r
 
--- the constants of a sort among these, which are numbered from k on
-abbrev pub constants_from : Sort → ℕ → List Constant → List Term
-constants_from s k [] = []
-constants_from s k (c ∷ cs) = if same_sort c.sort s then Const (record { 0 = k }) ∷ constants_from s (suc k) cs else constants_from s (suc k) cs
-
-abbrev pub numerals_of : Sort → List ℕ → List Term
-numerals_of Sw ks = []
-numerals_of Ho ks = []
-numerals_of Pr ks = map Port ks
-
 abbrev pub sort_or : Option Constant → Sort
 sort_or None = Sw
 sort_or (Some c) = c.sort
@@ -69,10 +55,6 @@ places_from i (suc n) = i ∷ places_from (suc i) n
 -- all relations that a state or a network has: the declared ones in order, then `ft` and `sent`
 abbrev pub all_relations : Parts → List Pred
 all_relations P = map (λ k. Stored (record { 0 = k })) (places_from 0 (length P.relations)) ++ Ft ∷ Sent ∷ []
-
--- the names of a sort of a program
-abbrev pub names_of : Parts → Sort → List Term
-names_of P s = constants_from s 0 P.constants ++ numerals_of s P.numerals
 
 -- the sort of a declared constant, by its number
 abbrev pub sort_of_constant : Parts → ℕ → Sort

@@ -6,8 +6,7 @@ ghost use Rattle.csdn_core.specs.declared.program.Parts.{Parts as AnyParts};
 ghost use Rattle.csdn_core.specs.declared.syntax.Formula.{Formula as AnyFormula};
 ghost use Rattle.csdn_core.specs.Truth.{Structure, Assignment, truth};
 ghost use Rattle.csdn_core.specs.Network.{Network, State, IsNetwork, elements};
-ghost use Rattle.decision_laws.specs.Forms.{Form, form_truth, simplified};
-ghost use Rattle.decision_laws.specs.Vocabulary.{Vocabulary, IsIn, places_from};
+ghost use Rattle.decision_laws.specs.Vocabulary.{Vocabulary, places_from};
 ghost use Rattle.decision_laws.specs.Copies.{AreBelow, Fact, Scope, copies, judge};
 ghost use Rattle.decision_laws.specs.Classes.{Meaning, AreOfJudgement, ListTheSame, number, network_of, state_of};
 ghost use Rattle.decision_laws.specs.Clauses.{size, IsNaming};
@@ -18,7 +17,11 @@ ghost use Rattle.decision_laws.specs.Numbers.{tuple_count, tuple_of};
 ghost use Rattle.decision_laws.specs.Weights.{weight};
 ghost use Rattle.decision_laws.specs.Sublists.{ArePart, AreBroken, left_of};
 ghost use Rattle.decision_laws.specs.Example.{program, sentence, r, example_counts, example_copies, example_node_clauses, example_equality_clauses, example_judgement, example_network, small_program, contradiction, contradiction_clauses, contradiction_log};
-ghost use Rattle.decision_laws.specs.Laws.{form_of, words, counts, sentence_copies, IsSentence, IsTrueIn, HasNetwork, IsJudgement, AgreesOnNames, naming, name, judged, atoms, clauses, AreTied, AreTiedBy, HasModel};
+ghost use Rattle.decision_laws.specs.Laws.{words, sentence_copies, IsSentence, IsTrueIn, HasNetwork, IsJudgement, AgreesOnNames, naming, name, judged, atoms, clauses, AreTied, AreTiedBy, HasModel};
+ghost use Rattle.fol_forms.specs.Forms.{Form, form_truth, form_of};
+ghost use Rattle.fol_forms.specs.Constants.{counts};
+ghost use Rattle.decision_laws.specs.Simplified.{simplified};
+ghost use Rattle.csdn_core.specs.Members.{IsIn};
 
 /// A normal form is true where its formula is.
 pub fn normal_forms_keep_truth()
