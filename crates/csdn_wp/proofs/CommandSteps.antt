@@ -42,6 +42,10 @@ pub wp-Install : (ts : List Term) (q : Formula) → wp (c.Install ts) q ≡ add_
 unfolding wp
 wp-Install ts q = refl
 
+pub wp-Uninstall : (ts : List Term) (q : Formula) → wp (c.Uninstall ts) q ≡ drop_row q Ft ts
+unfolding wp
+wp-Uninstall ts q = refl
+
 pub wp-Forward : (ts : List Term) (q : Formula) → wp (c.Forward ts) q ≡ add_row q Sent ts
 unfolding wp
 wp-Forward ts q = refl
@@ -50,4 +54,4 @@ pub wp-Flood : (ts : List Term) (q : Formula) → wp (c.Flood ts) q ≡ add_floo
 unfolding wp
 wp-Flood ts q = refl
 
-pub ruleset wp_steps = (wp-Skip, wp-Seq, wp-If, wp-Pick, wp-Insert, wp-Remove, wp-Install, wp-Forward, wp-Flood)
+pub ruleset wp_steps = (wp-Skip, wp-Seq, wp-If, wp-Pick, wp-Insert, wp-Remove, wp-Install, wp-Uninstall, wp-Forward, wp-Flood)
