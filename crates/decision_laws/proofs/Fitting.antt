@@ -24,7 +24,8 @@ use Rattle.decision_laws.proofs.Basics.{any_from, place_in, IsClosed}
 use Rattle.decision_laws.proofs.Lists.{in_filter, in_term}
 use Rattle.decision_laws.proofs.Words.{is_vocabulary, constant_has}
 use Rattle.decision_laws.specs.Laws.{words, IsSentence}
-use Rattle.decision_laws.specs.Vocabulary.{all_relations, find_or, fits, has_term, is_bound, places_from, sort_of_constant, sort_or, sorts_or, term_fits, term_sort, terms_fit, uses, vocabulary}
+use Rattle.decision_laws.specs.Vocabulary.{all_relations, find_or, has_term, places_from, sort_of_constant, sort_or, sorts_or, uses, vocabulary}
+use Rattle.decision_laws.proofs.Fits.{fits, is_bound, term_fits, term_sort, terms_fit}
 use Rattle.fol_forms.specs.Constants.{constants_from, names_of, numerals_of}
 use Rattle.fol_forms.specs.Forms.{And, Atom, Form, Same, form_of, normal_form}
 use Rattle.std.proofs.Common.{Bool, IsTrue, List, None, Option, Some, [], ap, arith, cond, false, inl, inr, length, map, refl, slice_get, subst, sym, true, ℕ, ◌+◌, ◌==◌, ◌∙◌, ◌∷◌, ◌≡◌}

@@ -1,3 +1,4 @@
+pub mod Fits
 pub mod Basics
 pub mod Simplify
 pub mod Agree
