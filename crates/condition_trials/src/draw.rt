@@ -2,7 +2,7 @@
 use crate::trouble::Trouble;
 use crate::world::World;
 use csdn_core::program::Sorts;
-use csdn_core::terms::{Pred, RelId, Sort};
+use csdn_core::terms::{FLOW_SORTS, Pred, RelId, Sort};
 use net_structs::cells::Cells;
 use net_structs::state::State;
 use rand::RngExt;
@@ -11,9 +11,6 @@ use std::alloc::Global;
 
 /// How many tuples are drawn for a state; some are drawn twice.
 const TUPLES: u32 = 8;
-
-/// The sorts of a rule, and of what was sent.
-const RULE: [Sort; 5] = [Sort::Sw, Sort::Ho, Sort::Ho, Sort::Pr, Sort::Pr];
 
 /// A state with up to eight tuples.
 pub fn draw_state(alloc: Global, world: &World, draws: &mut Pcg32) -> Result<State, Trouble> {
@@ -27,10 +24,10 @@ pub fn draw_state(alloc: Global, world: &World, draws: &mut Pcg32) -> Result<Sta
                 state.insert(Pred::Stored(RelId(drawn as u32)), &cells)?;
             }
             None if drawn == relations.len() => {
-                state.insert(Pred::Ft, &draw_cells(&RULE, draws))?;
+                state.insert(Pred::Ft, &draw_cells(&FLOW_SORTS, draws))?;
             }
             None => {
-                state.insert(Pred::Sent, &draw_cells(&RULE, draws))?;
+                state.insert(Pred::Sent, &draw_cells(&FLOW_SORTS, draws))?;
             }
         }
     }

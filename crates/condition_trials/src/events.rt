@@ -3,7 +3,7 @@ use csdn_conditions::kinds::EventKind;
 use csdn_core::event::Event;
 use std::alloc::{AllocError, Global};
 
-/// The packets that may come in, or the ways in which rules may send them.
+/// The packets that may come in, the ways in which rules may send them, or the matches whose rules may end.
 pub fn all_events(alloc: Global, kind: EventKind) -> Result<Vec<Event>, AllocError> {
     let mut events = Vec::new(alloc);
     for a in 1..=2 {
@@ -16,6 +16,7 @@ pub fn all_events(alloc: Global, kind: EventKind) -> Result<Vec<Event>, AllocErr
                             events.push(Event::PktFlow { s: 1, a, b, i, o })?;
                         }
                     }
+                    EventKind::Expire => events.push(Event::Expire { s: 1, a, b, i })?,
                 }
             }
         }

@@ -1,7 +1,7 @@
 //! The programs of the trials.
 
 /// Programs that between them have every command, first fit, captured names, and invariants of every kind.
-pub const PROGRAMS: [&str; 20] = [
+pub const PROGRAMS: [&str; 25] = [
     // nothing is done
     "rel p(HO); safety A: forall X:HO. not p(X); pktIn(s, src->dst, i) { skip; }",
     // no handler at all
@@ -38,4 +38,14 @@ pub const PROGRAMS: [&str; 20] = [
     "rel ok(HO); safety A: forall S:SW, X:HO, Y:HO, I:PR, O:PR. S.sent(X->Y, I->O) -> ok(Y); trans B: forall S:SW, X:HO, Y:HO, I:PR. S.rcv_this(X->Y, I) -> ok(X); pktIn(s, src->dst, i) { ok.insert(src); ok.insert(dst); s.install(src->dst, i->prt(2)); }",
     // rows at the start
     "rel p(PR) = {(prt(1)), (prt(2))}; rel q() = {()}; safety A: p(prt(1)) and q(); pktIn(s, src->dst, i) { if p(i) { q.remove(); q.insert(); } else { p.remove(i); } }",
+    // what is taken out again
+    "safety A: forall S:SW, A1:HO, B1:HO, I:PR, O:PR. not S.ft(A1->B1, I->O); pktIn(s, src->dst, i) { s.install(src->dst, i->i); s.uninstall(src->dst, i->i); }",
+    // one output of a match is taken out
+    "rel p(HO); safety A: forall X:HO. p(X) -> (exists S:SW, Y:HO, I:PR, O:PR. S.ft(X->Y, I->O)); trans B: forall S:SW, X:HO, Y:HO, I:PR. S.rcv_this(X->Y, I) -> not S.ft(X->Y, I->prt(1)); pktIn(s, src->dst, i) { p.insert(src); s.install(src->dst, i->prt(2)); s.uninstall(src->dst, i->prt(1)); }",
+    // rules that end, and a relation that doesn't
+    "timeout 5; rel seen(SW, HO, HO, PR); safety A: forall S:SW, A1:HO, B1:HO, I:PR. seen(S, A1, B1, I) -> S.ft(A1->B1, I->prt(1)); pktIn(s, src->dst, i) { seen.insert(s, src, dst, i); s.install(src->dst, i->prt(1)); }",
+    // all outputs of a match end
+    "timeout 5; rel p(HO); safety A: forall X:HO. p(X) -> (exists S:SW, Y:HO, I:PR, O:PR. S.ft(X->Y, I->O)); trans B: exists S:SW, X:HO, Y:HO, I:PR, O:PR. S.ft(X->Y, I->O) and not X = Y;",
+    // an expiry has no packet
+    "timeout 30; safety A: exists S:SW, X:HO, Y:HO, I:PR, O:PR. S.ft(X->Y, I->O); trans B: (exists S:SW, X:HO, Y:HO, I:PR. S.rcv_this(X->Y, I)) or (forall S:SW, X:HO, I:PR, O:PR. not S.sent(X->X, I->O)); pktIn(s, src->dst, i) { if src = dst { s.uninstall(src->dst, i->i); } else { s.install(src->dst, i->i); s.flood(src->dst, i); } }",
 ];

@@ -84,7 +84,7 @@ impl World {
     }
 }
 
-/// The packet of an event.
+/// The packet of an event; an expiry has none.
 fn packet_of(event: &Event) -> Packet {
     match event {
         Event::PktIn { s, a, b, i } | Event::PktFlow { s, a, b, i, .. } => Packet::At {
@@ -93,5 +93,6 @@ fn packet_of(event: &Event) -> Packet {
             b: *b,
             i: *i,
         },
+        Event::Expire { .. } => Packet::Nothing,
     }
 }

@@ -38,6 +38,7 @@ use Rattle.csdn_core.proofs.Agreement.{structure_of, elements_there, truth_sees}
 use Rattle.csdn_conditions.proofs.StartTruth.{truth-all, is_initial}
 use Rattle.csdn_conditions.proofs.Inductive.{IsStatic, static_names, truth-state, formula_there, kind_of, Breaks, event_breaks, topology_true, quiet, runs_end, ends_true}
 use Rattle.csdn_core.specs.SortedIn.{no_scope, any_relation, no_rcv_this, IsSortedIn}
+use Rattle.csdn_conditions.specs.Among.{IsInductiveAmong}
 
 -- sentences have the same truth in states that agree on a network's elements
 
@@ -173,39 +174,51 @@ module _ (P : Parts) (well : IsWellSorted P) (N : Network) (network : IsNetwork 
       at (u ∷ vs) zero within all = all 0 u (omega arith)
       at (u ∷ vs) (suc k) within all = at vs k (omega arith) (λ j d less. all (suc j) d (omega (arith, less)))
 
-  module _ (n : ℕ) (inductive : IsInductive n P) where
-    by_kind : (kind : CondKind) → IsOfEvents (events P) (some_where (is_some P.timeout)) n (length P.safety) (length P.trans) kind → (x : State) → Sat x (hypothesis P n kind) → Sat x (conclusion P n kind)
+  module _ (n : ℕ) (Kind : State → Type 0) (inductive : IsTopology P N → IsInductiveAmong Kind P N n) where
+    by_kind : (kind : CondKind) → IsOfEvents (events P) (some_where (is_some P.timeout)) n (length P.safety) (length P.trans) kind → (x : State) → Kind x → Sat x (hypothesis P n kind) → Sat x (conclusion P n kind)
     unfolding truth
-    by_kind NetworkKind some x h = absurd some
-    by_kind (Init k v) some x h =
+    by_kind NetworkKind some x is_kind h = absurd some
+    by_kind (Init k v) some x is_kind h =
         let all = topology_holds x (and_parts _ _ h).0 in
-        let points = inductive N (record { network = network; topology = all }) in
+        let points = inductive (record { network = network; topology = all }) in
         let agree : IsInitial P N x = is_initial P N x Nothing well (and_parts _ _ h).1 in
         let q : Formula = formula_at P.safety v in
         truth-agree P N network x (initial P N) agree (after_events P k q) (events_closed P well k q (safety_closed P well v))
         ∙ ends_true P well N network k q (safety_closed P well v) (initial P N)
         (λ es y many run. safe_at y v some.1 (points.initially es y (omega (arith, many, some.0)) run))
-    by_kind (StepKind v kind) some x h =
+    by_kind (StepKind v kind) some x is_kind h =
         let all = topology_holds x (and_parts _ _ h).0 in
-        let points = inductive N (record { network = network; topology = all }) in
+        let points = inductive (record { network = network; topology = all }) in
         let safe : IsSafeFor P N n x = safe_from n x (and_parts _ _ h).1 in
         let q : Formula = formula_at P.safety v in
         let closed : IsClosed P (after_events P n q) = events_closed P well n q (safety_closed P well v) in
         event_from kind some.1 (after_events P n q) (any_event P well (after_events P n q) closed) x
         (λ event y is step.
         quiet P well N network (after_events P n q) closed y (packet_of event)
-        ∙ ends_true P well N network n q (safety_closed P well v) y (λ es z many run. safe_at z v some.0 (points.safety x (event ∷ es) z safe (ap suc many) (y, step, run))))
-    by_kind (Trans u kind) some x h =
+        ∙ ends_true P well N network n q (safety_closed P well v) y (λ es z many run. safe_at z v some.0 (points.safety x (event ∷ es) z is_kind safe (ap suc many) (y, step, run))))
+    by_kind (Trans u kind) some x is_kind h =
         let all = topology_holds x (and_parts _ _ h).0 in
-        let points = inductive N (record { network = network; topology = all }) in
+        let points = inductive (record { network = network; topology = all }) in
         let safe : IsSafeFor P N n x = safe_from n x (and_parts _ _ h).1 in
-        event_from kind some.1 (formula_at P.trans u) (trans_any P well u) x (λ event y is step. trans_at_event y event u some.0 (points.trans x event y safe step))
+        event_from kind some.1 (formula_at P.trans u) (trans_any P well u) x (λ event y is step. trans_at_event y event u some.0 (points.trans x event y is_kind safe step))
+
+-- the condition holds in states of the kind
+pub complete_among : (Kind : State → Type 0) (P : Parts) → IsWellSorted P → (n : ℕ) → ((N : Network) → IsTopology P N → IsInductiveAmong Kind P N n) → (i : ℕ) (c : Condition) → slice_get (conditions P n) i ≡ Some c → 0 < i
+    → (N : Network) (x : State) → IsNetwork P N → Kind x → IsTrue (truth (structure P N x Nothing) c.hypothesis no_values) → IsTrue (truth (structure P N x Nothing) c.goal no_values)
+complete_among Kind P well n inductive i c there past N x network is_kind =
+    let found = kind_of_member P well n i c there in
+    subst (λ (d : Condition). IsTrue (truth (structure P N x Nothing) d.hypothesis no_values) → IsTrue (truth (structure P N x Nothing) d.goal no_values)) found.2
+    (λ h. by_kind P well N network n Kind (inductive N) found.0 (of_events (events P) (some_where (is_some P.timeout)) n (length P.safety) (length P.trans) i found.0 found.1 past) x is_kind h)
+
+-- induction over all states
+pub among_all : (Kind : State → Type 0) (n : ℕ) (P : Parts) → IsInductive n P → (N : Network) → IsTopology P N → IsInductiveAmong Kind P N n
+among_all Kind n P inductive N is_topology =
+    let points = inductive N is_topology in
+    record { initially = points.initially; safety = λ x es y is_kind. points.safety x es y; trans = λ x event y is_kind. points.trans x event y }
 
 pub complete : (P : Parts) → IsWellSorted P → (n : ℕ) → IsInductive n P → (i : ℕ) (c : Condition) → slice_get (conditions P n) i ≡ Some c → 0 < i → IsValid P c
-complete P well n inductive i c there past =
-    let found = kind_of_member P well n i c there in
-    subst (IsValid P) found.2
-    (λ N x network h. by_kind P well N network n inductive found.0 (of_events (events P) (some_where (is_some P.timeout)) n (length P.safety) (length P.trans) i found.0 found.1 past) x h)
+complete P well n inductive i c there past N x network h =
+    complete_among (λ y. Unit {0}) P well n (among_all (λ y. Unit {0}) n P inductive) i c there past N x network tt h
 
 -- the first condition
 

@@ -8,8 +8,8 @@ mod StartTruth
 mod Rooms
 mod Conditioned
 mod ClosedParts
-mod ClosedConditions
-mod Inductive
-mod Complete
+pub mod ClosedConditions
+pub mod Inductive
+pub mod Complete
 pub mod Cases
 mod Examples

@@ -7,3 +7,4 @@ pub mod Valid
 pub mod Conditions
 pub mod Answers
 pub mod Classes
+pub mod Among
