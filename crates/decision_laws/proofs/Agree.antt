@@ -15,7 +15,9 @@ use Rattle.csdn_core.specs.Run.{no_values}
 use Rattle.decision_laws.proofs.Basics.{index_of-below, relation_in}
 use Rattle.decision_laws.specs.Classes.{Meaning, values_of}
 use Rattle.decision_laws.specs.Copies.{AreBelow, Equation, Fact, Scope, Tuple, index_of, known, nothing, place, place_sort}
-use Rattle.decision_laws.specs.Vocabulary.{IsIn, Vocabulary, find_or, has_term, is_bound, term_fits, term_sort, terms_fit}
+use Rattle.decision_laws.specs.Vocabulary.{Vocabulary, find_or, has_term}
+use Rattle.decision_laws.proofs.Fits.{is_bound, term_fits, term_sort, terms_fit}
+use Rattle.csdn_core.specs.Members.{IsIn}
 
 -- the assignment that gives each variable in scope the element of its constant
 abbrev pub assigned : Meaning → Scope → Assignment

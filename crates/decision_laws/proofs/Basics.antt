@@ -15,8 +15,11 @@ use Rattle.csdn_core.specs.Network.{same_pred}
 use Rattle.csdn_core.specs.Run.{no_values}
 use Rattle.decision_laws.specs.Copies.{Copy, Fact, each, index_of, judge}
 use Rattle.clause_log.specs.Literals.{signed}
-use Rattle.decision_laws.specs.Forms.{signed as signed_form, And, Atom, Fixed, ForAll, ForSome, Form, Or, Same, in_fragment, is_universal, need, one_if}
-use Rattle.decision_laws.specs.Vocabulary.{IsIn, Vocabulary, fits, has_term, places_from, term_fits}
+use Rattle.decision_laws.specs.Vocabulary.{Vocabulary, has_term, places_from}
+use Rattle.decision_laws.proofs.Fits.{fits, term_fits}
+use Rattle.fol_forms.specs.Forms.{signed as signed_form, And, Atom, Fixed, ForAll, ForSome, Form, Or, Same, in_fragment, is_universal}
+use Rattle.fol_forms.specs.Constants.{need, one_if}
+use Rattle.csdn_core.specs.Members.{IsIn}
 
 pub one_if-same : (s : Sort) → one_if s s ≡ 1
 one_if-same Sw = refl

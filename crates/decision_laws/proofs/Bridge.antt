@@ -1,5 +1,5 @@
 -- The clauses of a program's sentence.
-use Rattle.std.proofs.Common.{Bool, true, List, [], arith, refl, ℕ, suc, ◌+◌, ◌≤◌, ◌≡◌, ◌↔◌}
+use Rattle.std.proofs.Common.{Bool, true, List, [], arith, refl, ℕ, suc, ◌+◌, ◌<◌, max, ◌≤◌, ◌≡◌, ◌↔◌}
 use Rattle.std.specs.List.{list_all}
 use Rattle.std.proofs.lemmas.Bool.{and_from}
 use Rattle.csdn_core.specs.declared.program.Parts.{Parts}
@@ -15,18 +15,28 @@ use Rattle.decision_laws.proofs.Made.{copies_simple}
 use Rattle.decision_laws.proofs.Networks.{law_network}
 use Rattle.decision_laws.proofs.Read.{AllTrue, fair_read, left_true, right_true, whole_read}
 use Rattle.decision_laws.proofs.Tied.{tied_true}
-use Rattle.decision_laws.proofs.Weights.{size-copies}
+use Rattle.decision_laws.proofs.Weights.{few_nodes, size-copies}
 use Rattle.decision_laws.proofs.Within.{tied_within}
-use Rattle.decision_laws.proofs.Words.{is_closed, law_up}
 use Rattle.decision_laws.specs.Classes.{network_of, state_of}
 use Rattle.decision_laws.specs.Clauses.{IsNaming, equality_clauses, size, whole_clauses}
 use Rattle.decision_laws.specs.Copies.{Fact, judge, known}
-use Rattle.decision_laws.specs.Forms.{simplified}
-use Rattle.decision_laws.specs.Laws.{AreTied, AreTiedBy, HasModel, HasNetwork, IsJudgement, IsSentence, atoms, clauses, counts, form_of, judged, name, naming, sentence_copies, words}
+use Rattle.decision_laws.specs.Laws.{AreTied, AreTiedBy, HasModel, HasNetwork, IsJudgement, IsSentence, atoms, clauses, judged, name, naming, sentence_copies, words}
 use Rattle.decision_laws.specs.Sublists.{ArePart}
+use Rattle.fol_forms.specs.Forms.{form_of}
+use Rattle.fol_forms.specs.Constants.{counts, instances}
+use Rattle.decision_laws.specs.Simplified.{simplified}
+use Rattle.decision_laws.proofs.Fitting.{is_closed}
+use Rattle.decision_laws.proofs.Upward.{law_up}
+use Rattle.decision_laws.specs.Weights.{weight}
 
 pub numbers_named : (P : Parts) (F : Formula) → IsNaming (words P F) (counts P F) (naming P F)
 numbers_named P F = numbers_name (counts P F) (words P F)
+
+copies_weigh : (P : Parts) (F : Formula) → size (sentence_copies P F) ≡ weight (counts P F) (simplified (form_of F))
+copies_weigh P F = size-copies (words P F) (counts P F) (simplified (form_of F)) [] (known (words P F))
+
+pub few_copies : (P : Parts) (F : Formula) → size (sentence_copies P F) < max 1 (instances (counts P F) (form_of F))
+few_copies P F = omega (arith, copies_weigh P F, few_nodes P F)
 
 module _ (P : Parts) (F : Formula) (is : IsSentence P F) where
   pub model_judged : (v : ℕ → Bool) → IsModel v (clauses P F) → IsJudgement P F (judged P F v)
@@ -52,8 +62,7 @@ module _ (P : Parts) (F : Formula) (is : IsSentence P F) where
 
   pub clauses_bounded : list_all (is_clause (atoms P F)) (clauses P F) ≡ true
   clauses_bounded =
-      let weighs = size-copies (words P F) (counts P F) (simplified (form_of F)) [] (known (words P F)) in
-      let few : (naming P F).first + size (sentence_copies P F) ≤ suc (atoms P F) = omega (arith, weighs) in
+      let few : (naming P F).first + size (sentence_copies P F) ≤ suc (atoms P F) = omega (arith, copies_weigh P F) in
       all_from (is_clause (atoms P F)) (clauses P F) (λ c i.
       and_from (has_distinct_atoms c) (list_all (is_within (atoms P F)) c)
       (clauses_differ P F (naming P F) is (numbers_named P F) c i)

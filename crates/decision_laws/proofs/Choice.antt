@@ -10,8 +10,11 @@ use Rattle.decision_laws.proofs.Basics.{any_gives, one_if-same, inside_step}
 use Rattle.decision_laws.proofs.Walks.{IsHome, universal_true}
 use Rattle.decision_laws.specs.Classes.{Meaning}
 use Rattle.decision_laws.specs.Copies.{Fact, Scope, copies, judge}
-use Rattle.decision_laws.specs.Forms.{And, Atom, Fixed, ForAll, ForSome, Form, Or, Same, form_truth, in_fragment, need, one_if}
-use Rattle.decision_laws.specs.Vocabulary.{IsIn, Vocabulary, fits}
+use Rattle.decision_laws.specs.Vocabulary.{Vocabulary}
+use Rattle.decision_laws.proofs.Fits.{fits}
+use Rattle.fol_forms.specs.Forms.{And, Atom, Fixed, ForAll, ForSome, Form, Or, Same, form_truth, in_fragment}
+use Rattle.fol_forms.specs.Constants.{need, one_if}
+use Rattle.csdn_core.specs.Members.{IsIn}
 
 -- the sentence is true with its existential quantifiers given to the constants from base on
 abbrev pub IsMet : Structure → Meaning → Scope → (Sort → ℕ) → Form → Type 0

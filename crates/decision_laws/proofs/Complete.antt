@@ -6,7 +6,7 @@ use Rattle.csdn_core.specs.declared.terms.Sort.TheVariants.{Ho, Pr, Sw}
 use Rattle.csdn_core.specs.declared.terms.Term.TheVariants.{Port}
 use Rattle.csdn_core.specs.declared.terms.Pred.{Pred}
 use Rattle.decision_laws.proofs.Basics.{IsClosed, IsVocabulary, in_place, index_of-below}
-use Rattle.decision_laws.proofs.Lists.{flat_in, in_both, in_flat, in_left, in_right, in_tuples, map_in, one_in}
+use Rattle.decision_laws.proofs.Lists.{in_tuples}
 use Rattle.decision_laws.proofs.Made.{AllOver, copies_over, copies_simple}
 use Rattle.decision_laws.proofs.Read.{meets_apart, IsPlain, IsSimple, below_append}
 use Rattle.decision_laws.proofs.Simplify.{fits-simplified, inside-simplified, need-simplified}
@@ -14,12 +14,15 @@ use Rattle.decision_laws.proofs.Tied.{tied_true}
 use Rattle.decision_laws.specs.Classes.{all_tuples}
 use Rattle.decision_laws.specs.Clauses.{IsNaming, Naming, may_meet, IsOver, all_clauses, chain_clause, chain_clauses, either_clauses, equality_clauses, is_chain, member_clause, no, node_clauses, nodes, numeral_clauses, replace_clause, replace_clauses, replace_from, same_clauses, size, sum_from, top, whole_clauses, yes}
 use Rattle.csdn_core.specs.Truth.{same_truth}
-use Rattle.decision_laws.proofs.NormalTruth.{same_truth-is}
 use Rattle.clause_log.specs.Literals.{Literal, clause_true, negated}
 use Rattle.decision_laws.specs.Copies.{AreBelow, Both, Copy, Each, Either, Equation, Fact, IsFair, Known, Leaf, Tuple, constants, copies_of, judge, known, numeral_place}
-use Rattle.decision_laws.specs.Forms.{Form, simplified}
 use Rattle.decision_laws.specs.Tied.{AreDifferences, IsForm, IsLiteralOf, IsTied, Names, apart, chain, choice, member, name_of, replaced, same, whole_false, whole_true}
-use Rattle.decision_laws.specs.Vocabulary.{IsIn, Vocabulary, places_from, vocabulary}
+use Rattle.decision_laws.specs.Vocabulary.{Vocabulary, places_from, vocabulary}
+use Rattle.fol_forms.specs.Forms.{Form}
+use Rattle.fol_forms.proofs.NormalTruth.{same_truth-is}
+use Rattle.decision_laws.specs.Simplified.{simplified}
+use Rattle.csdn_core.specs.Members.{IsIn}
+use Rattle.csdn_core.proofs.Members.{flat_in, in_both, in_flat, in_left, in_right, map_in, one_in}
 
 -- the names of the nodes, numbered from k on
 abbrev pub AreNodes : (ℕ → Copy) → ℕ → Copy → Type 0

@@ -7,20 +7,24 @@ use Rattle.csdn_core.specs.declared.terms.Pred.{Pred}
 use Rattle.csdn_core.specs.declared.program.Parts.{Parts}
 use Rattle.csdn_core.specs.declared.syntax.Formula.{Formula}
 use Rattle.decision_laws.proofs.Basics.{in_place}
-use Rattle.decision_laws.proofs.Lists.{flat_in, in_both, in_tuples, map_in, one_in}
+use Rattle.decision_laws.proofs.Lists.{in_tuples}
 use Rattle.decision_laws.proofs.Made.{AllOver, copies_over, copies_simple}
 use Rattle.decision_laws.proofs.Networks.{in_if}
 use Rattle.decision_laws.proofs.Read.{meets_apart, IsPlain, IsSimple, below_append}
 use Rattle.decision_laws.proofs.Simplify.{fits-simplified, inside-simplified, need-simplified}
-use Rattle.decision_laws.proofs.Words.{is_closed}
 use Rattle.decision_laws.specs.Classes.{all_tuples}
 use Rattle.decision_laws.specs.Clauses.{IsNaming, Naming, may_meet, all_clauses, IsOver, chain_clause, chain_clauses, either_clauses, equality_clauses, is_chain, member_clause, mirror, no, node_clauses, numeral_clauses, replace_clause, replace_clauses, replace_from, same_clauses, size, sum_from, top, whole_clauses, yes}
 use Rattle.csdn_core.specs.Truth.{same_truth}
 use Rattle.clause_log.specs.Literals.{has_distinct_atoms, Literal}
 use Rattle.decision_laws.specs.Copies.{AreBelow, Both, Copy, Each, Either, Equation, Fact, Known, Leaf, Tuple, known, numeral_place}
-use Rattle.decision_laws.specs.Forms.{simplified}
-use Rattle.decision_laws.specs.Laws.{IsSentence, counts, form_of, sentence_copies, words}
-use Rattle.decision_laws.specs.Vocabulary.{IsIn, Vocabulary, places_from}
+use Rattle.decision_laws.specs.Laws.{IsSentence, sentence_copies, words}
+use Rattle.decision_laws.specs.Vocabulary.{Vocabulary, places_from}
+use Rattle.fol_forms.specs.Forms.{form_of}
+use Rattle.fol_forms.specs.Constants.{counts}
+use Rattle.decision_laws.specs.Simplified.{simplified}
+use Rattle.csdn_core.specs.Members.{IsIn}
+use Rattle.csdn_core.proofs.Members.{flat_in, in_both, map_in, one_in}
+use Rattle.decision_laws.proofs.Fitting.{is_closed}
 
 -- no two of the literals are of one atom
 abbrev AtomsDiffer : List Literal → Type 0

@@ -4,10 +4,11 @@ use Rattle.std.proofs.lemmas.Bool.{cases_order, false≢true}
 use Rattle.std.specs.List.{list_any}
 use Rattle.std.proofs.lemmas.List.Filters.{length-filter_both}
 use Rattle.decision_laws.proofs.Basics.{any_gives, in_place}
-use Rattle.decision_laws.proofs.Lists.{filter_in, map_in, in_right}
+use Rattle.decision_laws.proofs.Lists.{filter_in}
 use Rattle.decision_laws.specs.Classes.{position_in}
-use Rattle.decision_laws.specs.Clauses.{AreDistinct}
-use Rattle.decision_laws.specs.Vocabulary.{IsIn, places_from}
+use Rattle.decision_laws.specs.Vocabulary.{places_from}
+use Rattle.csdn_core.specs.Members.{AreDistinct, IsIn}
+use Rattle.csdn_core.proofs.Members.{map_in, in_right}
 
 pub places_distinct : (i n : ℕ) → AreDistinct (places_from i n)
 places_distinct i zero = tt

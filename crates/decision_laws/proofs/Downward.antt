@@ -11,16 +11,20 @@ use Rattle.csdn_core.specs.Network.{Network, State, elements, structure}
 use Rattle.csdn_core.specs.Run.{no_values}
 use Rattle.decision_laws.proofs.Agree.{Interprets, Models}
 use Rattle.decision_laws.proofs.Basics.{IsClosed, IsStructure, index_of-below}
-use Rattle.decision_laws.proofs.Lists.{contains_in, in_contains}
-use Rattle.decision_laws.proofs.NormalTruth.{form_truth-form_of}
 use Rattle.decision_laws.proofs.Simplify.{fits-simplified, form_truth-simplified, inside-simplified, need-simplified}
 use Rattle.decision_laws.proofs.Walks.{IsCovered, IsHome, copies_true}
-use Rattle.decision_laws.proofs.Words.{is_closed, name_is}
+use Rattle.decision_laws.proofs.Words.{name_is}
 use Rattle.decision_laws.specs.Classes.{AreOfJudgement, Meaning, sizes}
 use Rattle.decision_laws.specs.Copies.{Fact, constants, copies_of, index_of, judge, known}
-use Rattle.decision_laws.specs.Forms.{Form, form_truth, simplified}
-use Rattle.decision_laws.specs.Laws.{AgreesOnNames, IsJudgement, IsSentence, IsTrueIn, counts, form_of, words}
-use Rattle.decision_laws.specs.Vocabulary.{IsIn, Vocabulary, vocabulary}
+use Rattle.decision_laws.specs.Laws.{AgreesOnNames, IsJudgement, IsSentence, IsTrueIn, words}
+use Rattle.decision_laws.specs.Vocabulary.{Vocabulary, vocabulary}
+use Rattle.fol_forms.specs.Forms.{Form, form_truth, form_of}
+use Rattle.fol_forms.specs.Constants.{counts}
+use Rattle.fol_forms.proofs.NormalTruth.{form_truth-form_of}
+use Rattle.decision_laws.specs.Simplified.{simplified}
+use Rattle.csdn_core.specs.Members.{IsIn}
+use Rattle.csdn_core.proofs.Members.{contains_in, in_contains}
+use Rattle.decision_laws.proofs.Fitting.{is_closed}
 
 -- where each constant's element is one of its sort and names have theirs, no sort is empty
 abbrev pub filled_by : (voc : Vocabulary) (n : Sort → ℕ) (m : Structure) (ρ : Meaning) (j : Fact → Bool) → ((s : Sort) → 0 < n s) → Models voc n m ρ j → IsHome n m ρ → IsStructure voc m

@@ -7,8 +7,9 @@ use Rattle.csdn_core.specs.declared.terms.Sort.TheVariants.{Ho}
 use Rattle.csdn_core.specs.declared.terms.Pred.{Pred}
 use Rattle.decision_laws.specs.Copies.{AreAlike, IsFair, Tuple}
 use Rattle.decision_laws.specs.Example.{example_judgement, example_meaning, host_of, program, r, sentence}
-use Rattle.decision_laws.specs.Forms.{normal_form}
-use Rattle.decision_laws.specs.Laws.{counts, words}
+use Rattle.decision_laws.specs.Laws.{words}
+use Rattle.fol_forms.specs.Forms.{normal_form}
+use Rattle.fol_forms.specs.Constants.{counts}
 
 pub nat_eq-turned : (a b : ℕ) → nat_eq a b ≡ nat_eq b a
 nat_eq-turned a b = both_ways (nat_eq a b) (nat_eq b a) (λ e. eq-eqb b a (sym (eqb-true a b e))) (λ e. eq-eqb a b (sym (eqb-true b a e)))

@@ -12,7 +12,8 @@ use Rattle.csdn_core.specs.Network.{same_pred}
 use Rattle.decision_laws.specs.Clauses.{IsNaming, IsOver, mirror}
 use Rattle.decision_laws.specs.Copies.{AreBelow, Equation, Fact, Tuple}
 use Rattle.decision_laws.specs.Numbers.{Block, Equations, Tuples, arguments, blocks_of, columns_of, fact_count, fact_number, numbered_fact, fact_in, fact_of, is_of, number_in, total, tuple_count, tuple_number, tuple_of}
-use Rattle.decision_laws.specs.Vocabulary.{IsIn, Vocabulary}
+use Rattle.decision_laws.specs.Vocabulary.{Vocabulary}
+use Rattle.csdn_core.specs.Members.{IsIn}
 
 tuple_number-below : (n : Sort → ℕ) (ss : List Sort) (xs : List ℕ) → AreBelow n ss xs → tuple_number n ss xs < tuple_count n ss
 tuple_number-below n [] [] h = omega arith

@@ -3,11 +3,10 @@ use Rattle.std.proofs.Common.{Bool, IsTrue, List, [], arith, inl, inr, length, l
 use Rattle.std.proofs.lemmas.Bool.{false≢true}
 use Rattle.decision_laws.proofs.Basics.{all_at, all_from}
 use Rattle.decision_laws.proofs.Distinct.{no_more}
-use Rattle.decision_laws.proofs.Lists.{in_both}
-use Rattle.decision_laws.specs.Clauses.{AreDistinct}
 use Rattle.clause_log.specs.Literals.{IsModel, Literal, clause_true}
 use Rattle.decision_laws.specs.Sublists.{AreBroken, ArePart, left_of}
-use Rattle.decision_laws.specs.Vocabulary.{IsIn}
+use Rattle.csdn_core.specs.Members.{AreDistinct, IsIn}
+use Rattle.csdn_core.proofs.Members.{in_both}
 
 distinct_append : {X : Type 0} (xs ys : List X) → AreDistinct xs → AreDistinct ys → ((x : X) → IsIn x xs → IsIn x ys → ⊥) → AreDistinct (xs ++ ys)
 distinct_append [] ys d e n = e

@@ -1,6 +1,6 @@
+pub mod Fits
 pub mod Basics
 pub mod Simplify
-pub mod NormalTruth
 pub mod Agree
 pub mod Walks
 pub mod Choice
@@ -20,7 +20,7 @@ pub mod Left
 pub mod Bridge
 pub mod ExampleLemmas
 pub mod NamesLemmas
-pub mod SortedForms
+pub mod Fitting
 pub mod Differing
 pub mod Weights
 pub mod Within

@@ -1,5 +1,5 @@
 -- Members of lists.
-use Rattle.std.proofs.Common.{Bool, Contains, List, [], ap, arith, cond, false, filter, flat_map, inl, inr, map, refl, subst, suc, sym, true, zero, ℕ, ◌++◌, ◌<◌, ◌∙◌, ◌∷◌, ◌≡◌, ◌⊎◌}
+use Rattle.std.proofs.Common.{Bool, List, [], ap, arith, cond, false, filter, inl, inr, map, refl, subst, sym, true, ℕ, ◌<◌, ◌∙◌, ◌∷◌, ◌≡◌}
 use Rattle.std.proofs.lemmas.Bool.{false≢true}
 use Rattle.csdn_core.specs.Same.{same_term}
 use Rattle.csdn_core.proofs.Same.{same_term-is, same_term-refl}
@@ -8,41 +8,9 @@ use Rattle.csdn_core.specs.declared.terms.Term.{Term}
 use Rattle.decision_laws.proofs.Basics.{any_from, any_gives, in_place, place_in}
 use Rattle.decision_laws.specs.Classes.{all_tuples}
 use Rattle.decision_laws.specs.Copies.{AreBelow}
-use Rattle.decision_laws.specs.Vocabulary.{IsIn, has_term, places_from}
-
-pub in_map : {X Y : Type 0} (f : X → Y) (xs : List X) (x : X) → IsIn x xs → IsIn (f x) (map f xs)
-in_map f [] x h = elim h [ ]
-in_map f (y ∷ ys) x h = elim h [ inl e ↦ inl (ap f e) | inr r ↦ inr (in_map f ys x r) ]
-
-pub map_in : {X Y : Type 0} (f : X → Y) (xs : List X) (y : Y) → IsIn y (map f xs) → (x : X) × IsIn x xs × (y ≡ f x)
-map_in f [] y h = elim h [ ]
-map_in f (x ∷ xs) y h = elim h [ inl e ↦ (x, inl refl, e) | inr r ↦ (let w = map_in f xs y r in (w.0, inr w.1, w.2)) ]
-
-pub one_in : {X : Type 0} (x y : X) → IsIn x (y ∷ []) → x ≡ y
-one_in x y h = elim h [ inl e ↦ e | inr r ↦ elim r [ ] ]
-
-pub in_left : {X : Type 0} (xs ys : List X) (x : X) → IsIn x xs → IsIn x (xs ++ ys)
-in_left [] ys x h = elim h [ ]
-in_left (z ∷ zs) ys x h = elim h [ inl e ↦ inl e | inr r ↦ inr (in_left zs ys x r) ]
-
-pub in_right : {X : Type 0} (xs ys : List X) (x : X) → IsIn x ys → IsIn x (xs ++ ys)
-in_right [] ys x h = h
-in_right (z ∷ zs) ys x h = inr (in_right zs ys x h)
-
-pub in_both : {X : Type 0} (xs ys : List X) (x : X) → IsIn x (xs ++ ys) → IsIn x xs ⊎ IsIn x ys
-in_both [] ys x h = inr h
-in_both (z ∷ zs) ys x h =
-    elim h [ inl e ↦ inl (inl e) | inr r ↦ elim (in_both zs ys x r) [ inl a ↦ inl (inr a) | inr b ↦ inr b ] ]
-
-pub in_flat : {X Y : Type 0} (f : X → List Y) (xs : List X) (x : X) (y : Y) → IsIn x xs → IsIn y (f x) → IsIn y (flat_map f xs)
-in_flat f [] x y h k = elim h [ ]
-in_flat f (z ∷ zs) x y h k =
-    elim h [ inl e ↦ in_left (f z) (flat_map f zs) y (subst (λ w. IsIn y (f w)) e k) | inr r ↦ in_right (f z) (flat_map f zs) y (in_flat f zs x y r k) ]
-
-pub flat_in : {X Y : Type 0} (f : X → List Y) (xs : List X) (y : Y) → IsIn y (flat_map f xs) → (x : X) × IsIn x xs × IsIn y (f x)
-flat_in f [] y h = elim h [ ]
-flat_in f (z ∷ zs) y h =
-    elim (in_both (f z) (flat_map f zs) y h) [ inl a ↦ (z, inl refl, a) | inr b ↦ (let w = flat_in f zs y b in (w.0, inr w.1, w.2)) ]
+use Rattle.decision_laws.specs.Vocabulary.{has_term, places_from}
+use Rattle.csdn_core.specs.Members.{IsIn}
+use Rattle.csdn_core.proofs.Members.{in_map, map_in, in_flat, flat_in}
 
 pub tuple_in : (n : Sort → ℕ) (ss : List Sort) (xs : List ℕ) → AreBelow n ss xs → IsIn xs (all_tuples n ss)
 tuple_in n [] [] h = inl refl
@@ -84,15 +52,6 @@ in_filter p (y ∷ ys) x i h =
 pub filter_in : {X : Type 0} (p : X → Bool) (xs : List X) (x : X) → IsIn x (filter p xs) → IsIn x xs × (p x ≡ true)
 filter_in p [] x i = elim i [ ]
 filter_in p (y ∷ ys) x i = filter_step p y ys x (p y) refl i (filter_in p ys x)
-
-pub contains_in : {X : Type 0} (xs : List X) (x : X) → Contains xs x → IsIn x xs
-contains_in [] x (k, l, e) = absurd (omega arith)
-contains_in (y ∷ ys) x (zero, l, e) = inl (sym e)
-contains_in (y ∷ ys) x (suc k, l, e) = inr (contains_in ys x (k, omega arith, e))
-
-pub in_contains : {X : Type 0} (xs : List X) (x : X) → IsIn x xs → Contains xs x
-in_contains [] x i = elim i [ ]
-in_contains (y ∷ ys) x i = elim i [ inl e ↦ (0, omega arith, sym e) | inr r ↦ (let w = in_contains ys x r in (suc w.0, omega (arith, w.1), w.2)) ]
 
 pub term_in : (t : Term) (ts : List Term) → has_term t ts ≡ true → IsIn t ts
 term_in t ts h = (let w = any_gives (same_term t) ts h in subst (λ z. IsIn z ts) (sym (same_term-is t w.0 w.2)) w.1)

@@ -10,8 +10,11 @@ use Rattle.decision_laws.proofs.Read.{IsPlain, IsSimple}
 use Rattle.decision_laws.proofs.Simplify.{bare-simplified, fixed_is, is_bare}
 use Rattle.decision_laws.specs.Clauses.{IsOver}
 use Rattle.decision_laws.specs.Copies.{Both, Copy, Each, Either, Equation, Known, Leaf, Scope, copies, each, known, place}
-use Rattle.decision_laws.specs.Forms.{And, Atom, Fixed, ForAll, ForSome, Form, Or, Same, fixed_of, in_fragment, need, one_if, simplified}
-use Rattle.decision_laws.specs.Vocabulary.{Vocabulary, fits, term_fits, term_sort, terms_fit}
+use Rattle.decision_laws.specs.Vocabulary.{Vocabulary}
+use Rattle.decision_laws.proofs.Fits.{fits, term_fits, term_sort, terms_fit}
+use Rattle.fol_forms.specs.Forms.{And, Atom, Fixed, ForAll, ForSome, Form, Or, Same, in_fragment}
+use Rattle.fol_forms.specs.Constants.{need, one_if}
+use Rattle.decision_laws.specs.Simplified.{fixed_of, simplified}
 
 abbrev pub AllOver : (Sort → ℕ) → Vocabulary → Copy → Type 0
 AllOver n voc (Known b) = Unit {0}

@@ -1,5 +1,5 @@
 -- What the loops over names count.
-use Rattle.std.proofs.Common.{Bool, List, None, Some, [], ap, arith, cond, eq-eqb, false, get_or, length, map, min, nat_eq, ne_eqb, refl, slice_get, subst, suc, sym, true, zero, ℕ, ◌++◌, ◌+◌, ◌<◌, ◌∙◌, ◌∷◌, ◌≡◌, ◌≤◌}
+use Rattle.std.proofs.Common.{Bool, List, None, Some, [], ap, arith, cond, eq-eqb, false, get_or, length, map, nat_eq, ne_eqb, refl, slice_get, subst, suc, sym, true, zero, ℕ, ◌++◌, ◌+◌, ◌<◌, ◌∙◌, ◌∷◌, ◌≡◌, ◌≤◌}
 use Rattle.std.proofs.lemmas.Bool.{false≢true}
 use Rattle.csdn_core.specs.declared.terms.Sort.{Sort}
 use Rattle.csdn_core.specs.declared.terms.Sort.TheVariants.{Pr}
@@ -7,13 +7,13 @@ use Rattle.csdn_core.specs.declared.terms.Term.{Term}
 use Rattle.csdn_core.specs.declared.terms.Term.TheVariants.{Const, Port}
 use Rattle.csdn_core.specs.declared.program.Parts.{Parts}
 use Rattle.csdn_core.specs.declared.program.Constant.{Constant}
-use Rattle.std.proofs.lemmas.List.{length-map, length-take-le, map-append, take-append-drop, take_all, take_min, take_more}
+use Rattle.std.proofs.lemmas.List.{length-map, length-take-le, map-append, take-append-drop, take_more}
 use Rattle.std.specs.Prelude.{drop, take}
 use Rattle.csdn_core.specs.Same.{same_sort, same_term}
 use Rattle.csdn_core.proofs.Same.{same_sort-refl}
 use Rattle.decision_laws.specs.Copies.{index_of}
-use Rattle.decision_laws.specs.Forms.{one_if}
-use Rattle.decision_laws.specs.Vocabulary.{constants_from, names_of, numerals_of, sort_of_constant, sort_or}
+use Rattle.decision_laws.specs.Vocabulary.{sort_of_constant, sort_or}
+use Rattle.fol_forms.specs.Constants.{constants_from, names_of, numerals_of}
 
 append_step : (b : Bool) (n m p q : ℕ) → cond b 0 (suc n) ≡ suc m → (n ≡ m → p ≡ m + q) → cond b 0 (suc p) ≡ suc m + q
 append_step true n m p q e h = absurd (omega arith)
@@ -55,18 +55,6 @@ module _ (k : ℕ) (ks : List ℕ) where
       ap (λ z. index_of (Port k) (map Port z)) (sym (take-append-drop (i + 1) ks)) ∙ ap (index_of (Port k)) (map-append Port (take (i + 1) ks) (drop (i + 1) ks))
       ∙ index_of-first (Port k) (map Port (take (i + 1) ks)) (map Port (drop (i + 1) ks)) (omega (arith, here, long)) ∙ here ∙ omega arith
 
-few_step : (b : Bool) → cond b 1 0 ≤ 1
-few_step true = omega arith
-few_step false = omega arith
-
-counted_step : (b : Bool) (x : Term) (xs : List Term) (n : ℕ) → length xs ≡ n → length (cond b (x ∷ xs) xs) ≡ n + cond b 1 0
-counted_step true x xs n e = omega (arith, e)
-counted_step false x xs n e = omega (arith, e)
-
-counted_rest : (b : Bool) (x : Term) (xs ys : List Term) (m : ℕ) → length xs ≡ length ys + m → length (cond b (x ∷ xs) xs) ≡ length (cond b (x ∷ ys) ys) + m
-counted_rest true x xs ys m e = omega (arith, e)
-counted_rest false x xs ys m e = e
-
 not_step : (b : Bool) (t x : Term) (xs : List Term) → same_term t x ≡ false → index_of t xs ≡ length xs → index_of t (cond b (x ∷ xs) xs) ≡ length (cond b (x ∷ xs) xs)
 not_step true t x xs n e = ap (λ c. cond c 0 (suc (index_of t xs))) n ∙ ap suc e
 not_step false t x xs n e = e
@@ -82,21 +70,6 @@ first_here false t x xs rest e q = absurd (false≢true e)
 later_here : (b : Bool) (t x : Term) (xs rest ys : List Term) → same_term t x ≡ false → index_of t (xs ++ rest) ≡ length ys → index_of t (cond b (x ∷ xs) xs ++ rest) ≡ length (cond b (x ∷ ys) ys)
 later_here true t x xs rest ys q e = ap (λ c. cond c 0 (suc (index_of t (xs ++ rest)))) q ∙ ap suc e
 later_here false t x xs rest ys q e = e
-
--- one constant more
-pub counted_more : (s : Sort) (k : ℕ) (cs : List Constant) (c : Constant) → length (constants_from s k (cs ++ c ∷ [])) ≡ length (constants_from s k cs) + one_if c.sort s
-counted_more s k [] c = counted_step (same_sort c.sort s) (Const (record { 0 = k })) [] 0 refl
-counted_more s k (d ∷ ds) c = counted_rest (same_sort d.sort s) (Const (record { 0 = k })) (constants_from s (suc k) (ds ++ c ∷ [])) (constants_from s (suc k) ds) (one_if c.sort s) (counted_more s (suc k) ds c)
-
--- one constant more is looked at
-pub counted_next : (s : Sort) (cs : List Constant) (i : ℕ) (d : Constant) → i < length cs → length (constants_from s 0 (take (i + 1) cs)) ≡ length (constants_from s 0 (take i cs)) + one_if (get_or cs i d).sort s
-counted_next s cs i d l = ap (λ z. length (constants_from s 0 z)) (take_more cs i d l) ∙ counted_more s 0 (take i cs) (get_or cs i d)
-
-pub one_if-few : (s t : Sort) → one_if s t ≤ 1
-one_if-few s t = few_step (same_sort s t)
-
-pub all_counted : (s : Sort) (cs : List Constant) (n i : ℕ) → i ≡ length (take (min n (length cs)) cs) → length (constants_from s 0 (take i (take (min n (length cs)) cs))) ≡ length (constants_from s 0 (take n cs))
-all_counted s cs n i e = ap (λ z. length (constants_from s 0 z)) (take_all i (take (min n (length cs)) cs) (omega (arith, e)) ∙ take_min n cs)
 
 -- Where a constant stands among the names of its sort.
 

@@ -1,5 +1,5 @@
 -- The network and state of a fair judgement, with the numbers that its classes get.
-use Rattle.std.proofs.Common.{AllPairs, Bool, not, Contains, List, None, Option, Some, [], ap, arith, cond, eq-eqb, eqb-true, false, inl, inr, length, map, nat_eq, refl, slice_get, slice_index, slice_index_or, subst, suc, sym, true, zero, ℕ, ◌&&◌, ◌+◌, ◌<◌, ◌∙◌, ◌∷◌, ◌≡◌, ◌≤◌, ◌≢◌}
+use Rattle.std.proofs.Common.{AllPairs, Bool, not, Contains, List, Option, Some, [], ap, arith, cond, eq-eqb, eqb-true, false, inl, inr, length, map, nat_eq, refl, slice_get, slice_index, slice_index_or, subst, suc, sym, true, zero, ℕ, ◌&&◌, ◌+◌, ◌<◌, ◌∙◌, ◌∷◌, ◌≡◌, ◌≤◌, ◌≢◌}
 use Rattle.std.proofs.lemmas.Bool.{and_from, and_parts, false≢true}
 use Rattle.std.specs.List.{list_any}
 use Rattle.csdn_core.specs.declared.terms.Sort.{Sort}
@@ -14,25 +14,26 @@ use Rattle.csdn_core.specs.declared.program.Constant.{Constant}
 use Rattle.csdn_core.specs.declared.program.Relation.{Relation}
 use Rattle.csdn_core.specs.declared.syntax.Formula.{Formula}
 use Rattle.csdn_core.specs.Network.{HaveElements, IsNetwork, Network, State, IsStaticTuple, StaticRow, elements, holds_in, is_fixed, is_fixed_in, is_static_row, same_cells, same_pred}
-use Rattle.std.specs.Prelude.{is_some, option_map}
+use Rattle.std.specs.Prelude.{option_map}
 use Rattle.std.proofs.lemmas.List.Elements.{All-contains}
 use Rattle.std.proofs.lemmas.List.{length-map}
 use Rattle.std.proofs.lemmas.Option.{slice_get_within}
 use Rattle.std.specs.Cmp.{both_ways}
-use Rattle.csdn_core.specs.Same.{same_sort}
-use Rattle.csdn_core.proofs.Same.{same_sort-refl, same_pred-refl, same_cells-refl}
+use Rattle.csdn_core.proofs.Same.{same_pred-refl, same_cells-refl}
 use Rattle.decision_laws.proofs.Basics.{any_from, any_gives, in_place, index_of-below}
 use Rattle.decision_laws.proofs.Distinct.{apart_at, filter_distinct, length-places, map_distinct, member_at, places_distinct, counted_off}
 use Rattle.decision_laws.proofs.Downward.{law_down}
-use Rattle.decision_laws.proofs.Lists.{contains_in, filter_in, flat_in, in_both, in_contains, in_filter, in_flat, in_left, in_map, in_term, in_tuples, kept_first, kept_later, map_in, tuple_in}
+use Rattle.decision_laws.proofs.Lists.{filter_in, in_filter, in_term, in_tuples, tuple_in}
 use Rattle.decision_laws.proofs.Numbering.{IsReadable, class_below, class_first, first_of-alike, first_of-below, first_of-same, first_of_in, is_readable, numbering_of, numeral_below}
-use Rattle.decision_laws.proofs.Words.{is_vocabulary}
+use Rattle.decision_laws.proofs.Words.{is_vocabulary, constant_has}
 use Rattle.decision_laws.specs.Classes.{AreOfJudgement, IsNumbering, Meaning, all_tuples, class_elements, classes_of, constant_value, first_of, is_static, ListTheSame, network_of, number, sizes, state_of, static_rows, true_tuples, values_of, position_in}
 use Rattle.decision_laws.specs.Copies.{AreAlike, AreBelow, Equation, Fact, IsFair, Tuple, index_of, known, numeral_place}
-use Rattle.decision_laws.specs.Forms.{Form}
-use Rattle.decision_laws.specs.Laws.{IsJudgement, IsSentence, IsTrueIn, form_of}
-use Rattle.decision_laws.specs.Clauses.{AreDistinct}
-use Rattle.decision_laws.specs.Vocabulary.{IsIn, all_relations, constants_from, has_term, numerals_of, places_from, sort_or, sorts_or, uses, vocabulary}
+use Rattle.decision_laws.specs.Laws.{IsJudgement, IsSentence, IsTrueIn}
+use Rattle.decision_laws.specs.Vocabulary.{all_relations, has_term, places_from, sort_or, sorts_or, uses, vocabulary}
+use Rattle.fol_forms.specs.Forms.{Form, form_of}
+use Rattle.fol_forms.specs.Constants.{constants_from, numerals_of}
+use Rattle.csdn_core.specs.Members.{AreDistinct, IsIn}
+use Rattle.csdn_core.proofs.Members.{contains_in, flat_in, in_both, in_contains, in_flat, in_left, in_map, map_in}
 
 -- Lists of declarations.
 
@@ -40,22 +41,6 @@ get_some : {X : Type 0} (xs : List X) (k : ℕ) → k < length xs → (x : X) ×
 get_some [] k l = absurd (omega arith)
 get_some (y ∷ ys) zero l = (y, refl)
 get_some (y ∷ ys) (suc k) l = get_some ys k (omega arith)
-
-abbrev constant_or : Constant → Option Constant → Constant
-constant_or c None = c
-constant_or c (Some d) = d
-
--- each declared constant is a name of its sort
-pub constant_has : (s : Sort) (k : ℕ) (cs : List Constant) (i : ℕ) (c : Constant) → slice_get cs i ≡ Some c → c.sort ≡ s → IsIn (Const (record { 0 = k + i })) (constants_from s k cs)
-constant_has s k [] i c e q = absurd (false≢true (ap is_some e))
-constant_has s k (d ∷ ds) zero c e q =
-    let z : k + 0 ≡ k = omega arith in
-    kept_first (same_sort d.sort s) (Const (record { 0 = k + 0 })) (Const (record { 0 = k })) (constants_from s (suc k) ds)
-    (ap (λ y. same_sort y s) (ap (λ o. (constant_or d o).sort) e ∙ q) ∙ same_sort-refl s) (ap (λ y. Const (record { 0 = y })) z)
-constant_has s k (d ∷ ds) (suc i) c e q =
-    let z : suc k + i ≡ k + suc i = omega arith in
-    kept_later (same_sort d.sort s) (Const (record { 0 = k + suc i })) (Const (record { 0 = k })) (constants_from s (suc k) ds)
-    (subst (λ y. IsIn (Const (record { 0 = y })) (constants_from s (suc k) ds)) z (constant_has s (suc k) ds i c e q))
 
 index_map : (g : ℕ → ℕ) (i m k : ℕ) → k < m → slice_index (map g (places_from i m)) k ≡ g (i + k)
 index_map g i zero k l = absurd (omega arith)

@@ -10,9 +10,9 @@ use Rattle.decision_laws.proofs.Basics.{IsVocabulary, any_from, in_place, index_
 use Rattle.decision_laws.proofs.Distinct.{enough_left, filter_distinct, length-places, member_at, no_more, places_distinct, position_in-below, position_in-one, same_place}
 use Rattle.decision_laws.proofs.Lists.{filter_in, in_filter}
 use Rattle.decision_laws.specs.Classes.{IsNumbering, class_number, classes_of, first_from, first_of, free_numbers, numeral_among, numeral_of, port_number, position_in, unnumbered}
-use Rattle.decision_laws.specs.Clauses.{AreDistinct}
 use Rattle.decision_laws.specs.Copies.{Equation, Fact, IsFair, known, numeral_place}
-use Rattle.decision_laws.specs.Vocabulary.{IsIn, Vocabulary, places_from}
+use Rattle.decision_laws.specs.Vocabulary.{Vocabulary, places_from}
+use Rattle.csdn_core.specs.Members.{AreDistinct, IsIn}
 
 step_same : (b c : Bool) (i x y : ℕ) → b ≡ c → x ≡ y → cond b i x ≡ cond c i y
 step_same b c i x y e f = ap₂ (λ z w. cond z i w) e f

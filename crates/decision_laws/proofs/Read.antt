@@ -5,7 +5,7 @@ use Rattle.csdn_core.specs.declared.terms.Sort.{Sort}
 use Rattle.csdn_core.specs.declared.terms.Sort.TheVariants.{Ho, Pr, Sw}
 use Rattle.csdn_core.specs.declared.terms.Pred.{Pred}
 use Rattle.decision_laws.proofs.Basics.{any_gives, all_from, signed-same, in_place, place_in}
-use Rattle.decision_laws.proofs.Lists.{in_flat, in_left, in_map, in_right, tuple_in}
+use Rattle.decision_laws.proofs.Lists.{tuple_in}
 use Rattle.decision_laws.specs.Classes.{all_tuples}
 use Rattle.decision_laws.specs.Clauses.{chain_clause, chain_clauses, either_clauses, equality_clauses, is_chain, is_numeral, may_meet, member_clause, no, node_clauses, numeral_clauses, replace_clause, replace_clauses, replace_from, same_clauses, size, sum_from, top, whole_clauses, yes}
 use Rattle.std.specs.List.{list_any}
@@ -14,7 +14,9 @@ use Rattle.csdn_core.proofs.Same.{same_sort-is}
 use Rattle.csdn_core.specs.Truth.{same_truth}
 use Rattle.clause_log.specs.Literals.{signed, Literal, clause_true, literal_true}
 use Rattle.decision_laws.specs.Copies.{AreAlike, AreBelow, Both, Copy, Each, Either, Equation, Fact, IsFair, Known, Leaf, Tuple, judge, numeral_place}
-use Rattle.decision_laws.specs.Vocabulary.{IsIn, Vocabulary, places_from}
+use Rattle.decision_laws.specs.Vocabulary.{Vocabulary, places_from}
+use Rattle.csdn_core.specs.Members.{IsIn}
+use Rattle.csdn_core.proofs.Members.{in_flat, in_left, in_map, in_right}
 
 -- no truth value in it
 abbrev pub IsPlain : Copy → Type 0

@@ -7,8 +7,12 @@ use Rattle.csdn_core.specs.declared.terms.VarId.{VarId}
 use Rattle.csdn_core.specs.declared.terms.Sort.{Sort}
 use Rattle.csdn_core.specs.Truth.{Assignment, Structure, with_var}
 use Rattle.decision_laws.proofs.Basics.{IsStructure}
-use Rattle.decision_laws.specs.Forms.{And, Atom, Fixed, ForAll, ForSome, Form, Or, Same, all_by, and_by, fixed_of, form_truth, in_fragment, is_universal, need, one_if, or_by, simplified, some_by}
-use Rattle.decision_laws.specs.Vocabulary.{IsIn, Vocabulary, fits}
+use Rattle.decision_laws.specs.Vocabulary.{Vocabulary}
+use Rattle.decision_laws.proofs.Fits.{fits}
+use Rattle.fol_forms.specs.Forms.{And, Atom, Fixed, ForAll, ForSome, Form, Or, Same, form_truth, in_fragment, is_universal}
+use Rattle.fol_forms.specs.Constants.{need, one_if}
+use Rattle.decision_laws.specs.Simplified.{all_by, and_by, fixed_of, or_by, simplified, some_by}
+use Rattle.csdn_core.specs.Members.{IsIn}
 
 -- no truth value in it
 abbrev pub is_bare : Form → Bool

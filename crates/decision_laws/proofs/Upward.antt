@@ -12,8 +12,16 @@ use Rattle.decision_laws.proofs.Choice.{IsInside, choose, met_true}
 use Rattle.decision_laws.proofs.Simplify.{fits-simplified, form_truth-simplified, inside-simplified, need-simplified}
 use Rattle.decision_laws.specs.Classes.{Meaning, values_of}
 use Rattle.decision_laws.specs.Copies.{AreAlike, Equation, Fact, IsFair, Tuple, constants, copies_of, index_of, judge, known, numeral_place}
-use Rattle.decision_laws.specs.Forms.{Form, form_truth, simplified}
 use Rattle.decision_laws.specs.Vocabulary.{Vocabulary, has_term}
+use Rattle.fol_forms.specs.Forms.{Form, form_truth, form_of}
+use Rattle.decision_laws.specs.Simplified.{simplified}
+use Rattle.csdn_core.specs.declared.program.Parts.{Parts}
+use Rattle.csdn_core.specs.declared.syntax.Formula.{Formula}
+use Rattle.decision_laws.specs.Laws.{AgreesOnNames, IsJudgement, IsSentence, IsTrueIn, words}
+use Rattle.csdn_core.specs.Network.{IsNetwork, Network, State, structure}
+use Rattle.decision_laws.proofs.Words.{is_structure, form_is_true}
+use Rattle.decision_laws.proofs.Fitting.{is_closed}
+use Rattle.csdn_core.specs.declared.event.Packet.TheVariants.{Nothing}
 
 -- what the names denote, and some element for each further constant
 abbrev pub start : Vocabulary → Structure → (Sort → ℕ) → Meaning
@@ -72,3 +80,9 @@ judged voc f is m o h =
       met_true voc n m ρ (judgement_of voc m ρ) models (λ s a l. c.2 s a) g [] (known voc) tt (fits-simplified voc f [] is.closed) (inside-simplified f is.inside) (λ s. omega (arith, need-simplified f s)) c.3,
       (λ s t u ht hu. ap₂ nat_eq (sym (i.named s t ht)) (sym (i.named s u hu))),
     )
+
+-- a sentence that is true in a network and state has a judgement
+pub law_up : (P : Parts) (F : Formula) → IsSentence P F → (N : Network) (x : State) → IsNetwork P N → IsTrueIn P F N x → (j : Fact → Bool) × IsJudgement P F j × AgreesOnNames P F N x j
+law_up P F is N x net h =
+    let w = judged (words P F) (form_of F) (is_closed P F is) (structure P N x Nothing) (is_structure P (form_of F) N x net) (form_is_true P F N x h) in
+    (w.0, record { fair = w.1; agrees = w.2 }, w.3)

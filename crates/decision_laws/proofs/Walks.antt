@@ -7,8 +7,11 @@ use Rattle.decision_laws.proofs.Agree.{IsRanged, Models, assigned, atom_agrees, 
 use Rattle.decision_laws.proofs.Basics.{all_at, all_from, any_from, judge_each_at, judge_each_from, one_if-same, universal-need, universal_inside}
 use Rattle.decision_laws.specs.Classes.{Meaning}
 use Rattle.decision_laws.specs.Copies.{Fact, Scope, copies, judge}
-use Rattle.decision_laws.specs.Forms.{And, Atom, Fixed, ForAll, ForSome, Form, Or, Same, form_truth, in_fragment, is_universal, need, one_if, signed}
-use Rattle.decision_laws.specs.Vocabulary.{IsIn, Vocabulary, fits}
+use Rattle.decision_laws.specs.Vocabulary.{Vocabulary}
+use Rattle.decision_laws.proofs.Fits.{fits}
+use Rattle.fol_forms.specs.Forms.{And, Atom, Fixed, ForAll, ForSome, Form, Or, Same, form_truth, in_fragment, is_universal, signed}
+use Rattle.fol_forms.specs.Constants.{need, one_if}
+use Rattle.csdn_core.specs.Members.{IsIn}
 
 -- each element is that of a constant
 abbrev pub IsCovered : (Sort → ℕ) → Structure → Meaning → Type 0

@@ -1,5 +1,5 @@
 -- The vocabulary of a program's sentence, and its networks as structures.
-use Rattle.std.proofs.Common.{Bool, Contains, List, Some, [], ap, arith, cond, false, inl, inr, map, refl, slice_get, slice_index, subst, suc, sym, true, ℕ, ◌+◌, ◌∙◌, ◌∷◌, ◌≡◌, ◌⊎◌}
+use Rattle.std.proofs.Common.{Bool, Contains, List, Some, [], ap, arith, cond, false, inl, inr, map, refl, slice_get, slice_index, subst, suc, sym, true, ℕ, ◌+◌, ◌∙◌, ◌∷◌, ◌≡◌, ◌⊎◌, Option, None, zero}
 use Rattle.std.proofs.lemmas.Bool.{and_from, false≢true}
 use Rattle.csdn_core.specs.declared.terms.Sort.{Sort}
 use Rattle.csdn_core.specs.declared.terms.Sort.TheVariants.{Ho, Pr, Sw}
@@ -15,14 +15,17 @@ use Rattle.csdn_core.specs.Run.{no_values}
 use Rattle.std.proofs.lemmas.List.Elements.{All-contains}
 use Rattle.csdn_core.specs.Same.{same_sort}
 use Rattle.csdn_core.proofs.Same.{same_sort-refl, same_sort-is}
-use Rattle.decision_laws.proofs.Basics.{IsClosed, IsStructure, IsVocabulary}
-use Rattle.decision_laws.proofs.Lists.{contains_in, in_both, in_contains, in_map, in_right, in_term, map_in, term_in}
-use Rattle.decision_laws.proofs.NormalTruth.{form_truth-form_of}
-use Rattle.decision_laws.proofs.Upward.{judged}
-use Rattle.decision_laws.specs.Copies.{Fact}
-use Rattle.decision_laws.specs.Forms.{Form, form_truth}
-use Rattle.decision_laws.specs.Laws.{AgreesOnNames, IsJudgement, IsSentence, IsTrueIn, form_of, words}
-use Rattle.decision_laws.specs.Vocabulary.{IsIn, constants_from, has_term, numerals_of, sort_or, term_fits, vocabulary}
+use Rattle.decision_laws.proofs.Basics.{IsStructure, IsVocabulary}
+use Rattle.decision_laws.proofs.Lists.{in_term, term_in, kept_first, kept_later}
+use Rattle.decision_laws.specs.Laws.{IsTrueIn}
+use Rattle.decision_laws.specs.Vocabulary.{has_term, sort_or, vocabulary}
+use Rattle.decision_laws.proofs.Fits.{term_fits}
+use Rattle.fol_forms.specs.Forms.{Form, form_truth, form_of}
+use Rattle.fol_forms.specs.Constants.{constants_from, numerals_of}
+use Rattle.fol_forms.proofs.NormalTruth.{form_truth-form_of}
+use Rattle.csdn_core.specs.Members.{IsIn}
+use Rattle.csdn_core.proofs.Members.{contains_in, in_both, in_contains, in_map, in_right, map_in}
+use Rattle.std.specs.Prelude.{is_some}
 
 -- a term is a constant among these, which are numbered from k on, and has the sort
 abbrev pub IsAmong : Sort → ℕ → List Constant → Term → Type 0
@@ -60,6 +63,22 @@ abbrev is_port : Term → Bool
 is_port (Var v) = false
 is_port (Const c) = false
 is_port (Port k) = true
+
+abbrev constant_or : Constant → Option Constant → Constant
+constant_or c None = c
+constant_or c (Some d) = d
+
+-- each declared constant is a name of its sort
+pub constant_has : (s : Sort) (k : ℕ) (cs : List Constant) (i : ℕ) (c : Constant) → slice_get cs i ≡ Some c → c.sort ≡ s → IsIn (Const (record { 0 = k + i })) (constants_from s k cs)
+constant_has s k [] i c e q = absurd (false≢true (ap is_some e))
+constant_has s k (d ∷ ds) zero c e q =
+    let z : k + 0 ≡ k = omega arith in
+    kept_first (same_sort d.sort s) (Const (record { 0 = k + 0 })) (Const (record { 0 = k })) (constants_from s (suc k) ds)
+    (ap (λ y. same_sort y s) (ap (λ o. (constant_or d o).sort) e ∙ q) ∙ same_sort-refl s) (ap (λ y. Const (record { 0 = y })) z)
+constant_has s k (d ∷ ds) (suc i) c e q =
+    let z : suc k + i ≡ k + suc i = omega arith in
+    kept_later (same_sort d.sort s) (Const (record { 0 = k + suc i })) (Const (record { 0 = k })) (constants_from s (suc k) ds)
+    (subst (λ y. IsIn (Const (record { 0 = y })) (constants_from s (suc k) ds)) z (constant_has s (suc k) ds i c e q))
 
 module _ (P : Parts) (f : Form) where
   -- a name is a declared constant of its sort, or a numeral
@@ -116,15 +135,6 @@ module _ (P : Parts) (f : Form) where
         ];
   }
 
--- a sentence of the program, in its vocabulary
-pub is_closed : (P : Parts) (F : Formula) → IsSentence P F → IsClosed (words P F) (form_of F)
-is_closed P F is = record { vocabulary = is_vocabulary P (form_of F); closed = is.closed; inside = is.inside }
-
 -- the normal form is true in the structure of a network and state exactly where the sentence is
 pub form_is_true : (P : Parts) (F : Formula) (N : Network) (x : State) → IsTrueIn P F N x → form_truth (structure P N x Nothing) (form_of F) no_values ≡ true
 form_is_true P F N x h = form_truth-form_of (structure P N x Nothing) F no_values ∙ h
-
-pub law_up : (P : Parts) (F : Formula) → IsSentence P F → (N : Network) (x : State) → IsNetwork P N → IsTrueIn P F N x → (j : Fact → Bool) × IsJudgement P F j × AgreesOnNames P F N x j
-law_up P F is N x net h =
-    let w = judged (words P F) (form_of F) (is_closed P F is) (structure P N x Nothing) (is_structure P (form_of F) N x net) (form_is_true P F N x h) in
-    (w.0, record { fair = w.1; agrees = w.2 }, w.3)

@@ -10,9 +10,10 @@ use Rattle.csdn_core.specs.declared.event.Packet.TheVariants.{Nothing}
 use Rattle.csdn_core.specs.declared.program.Parts.{Parts}
 use Rattle.csdn_core.specs.declared.program.Constant.{Constant}
 use Rattle.csdn_core.specs.Network.{StaticRow, Network, State, elements, same_cells, same_pred, is_fixed, holds_in}
-use Rattle.decision_laws.specs.Forms.{Form}
-use Rattle.decision_laws.specs.Vocabulary.{Vocabulary, IsIn, vocabulary, places_from}
+use Rattle.decision_laws.specs.Vocabulary.{Vocabulary, vocabulary, places_from}
 use Rattle.decision_laws.specs.Copies.{Fact, Tuple, Equation, AreBelow, index_of, numeral_place, constants}
+use Rattle.fol_forms.specs.Forms.{Form}
+use Rattle.csdn_core.specs.Members.{IsIn}
 
 -- the element that each constant stands for
 abbrev pub Meaning : Type 0

@@ -7,9 +7,10 @@ use Rattle.std.specs.List.{list_any}
 use Rattle.csdn_core.specs.Same.{same_sort}
 use Rattle.csdn_core.specs.Truth.{same_truth}
 use Rattle.clause_log.specs.Literals.{Literal}
-use Rattle.decision_laws.specs.Vocabulary.{Vocabulary, IsIn, places_from}
+use Rattle.decision_laws.specs.Vocabulary.{Vocabulary, places_from}
 use Rattle.decision_laws.specs.Copies.{Fact, Tuple, Equation, Copy, Known, Leaf, Both, Either, Each, numeral_place, AreBelow}
 use Rattle.decision_laws.specs.Classes.{all_tuples}
+use Rattle.csdn_core.specs.Members.{IsIn}
 
 -- an atom, and its negation
 abbrev pub yes : ℕ → Literal
@@ -17,11 +18,6 @@ yes x = record { positive = true; atom = x }
 
 abbrev pub no : ℕ → Literal
 no x = record { positive = false; atom = x }
-
--- no item stands twice in the list
-abbrev pub AreDistinct : {X : Type 0} → List X → Type 0
-AreDistinct [] = Unit {0}
-AreDistinct (x ∷ xs) = (IsIn x xs → ⊥) × AreDistinct xs
 
 -- the sum of m terms from i on
 abbrev pub sum_from : (ℕ → ℕ) → ℕ → ℕ → ℕ

@@ -7,8 +7,11 @@ use Rattle.csdn_core.specs.declared.terms.Sort.TheVariants.{Sw, Pr}
 use Rattle.csdn_core.specs.declared.terms.Term.{Term}
 use Rattle.csdn_core.specs.declared.terms.Term.TheVariants.{Var, Const, Port}
 use Rattle.csdn_core.specs.declared.terms.Pred.{Pred}
-use Rattle.decision_laws.specs.Forms.{Form, Fixed, Atom, Same, And, Or, ForAll, ForSome, signed, one_if, need, simplified}
-use Rattle.decision_laws.specs.Vocabulary.{Vocabulary, IsIn, find_or, places_from}
+use Rattle.decision_laws.specs.Vocabulary.{Vocabulary, find_or, places_from}
+use Rattle.fol_forms.specs.Forms.{Form, Fixed, Atom, Same, And, Or, ForAll, ForSome, signed}
+use Rattle.fol_forms.specs.Constants.{one_if, need}
+use Rattle.decision_laws.specs.Simplified.{simplified}
+use Rattle.csdn_core.specs.Members.{IsIn}
 
 -- A constant is a sort and a place: the declared ones come first, for the ports then the numerals, then those that the
 -- `exists` need.

@@ -1,5 +1,5 @@
 -- What connects networks and states with judgements, and judgements with clauses.
-use Rattle.std.specs.Prelude.{◌≡◌, ℕ, suc, ◌+◌, ◌-◌, ◌==◌, Bool, true, List, [], IsTrue}
+use Rattle.std.specs.Prelude.{◌≡◌, ℕ, suc, ◌+◌, ◌-◌, ◌==◌, Bool, List, IsTrue}
 use Rattle.csdn_core.specs.declared.terms.Sort.{Sort}
 use Rattle.csdn_core.specs.declared.terms.Term.{Term}
 use Rattle.csdn_core.specs.declared.event.Packet.TheVariants.{Nothing}
@@ -8,27 +8,23 @@ use Rattle.csdn_core.specs.declared.syntax.Formula.{Formula}
 use Rattle.csdn_core.specs.Truth.{value, truth}
 use Rattle.csdn_core.specs.Network.{Network, State, structure, IsNetwork}
 use Rattle.csdn_core.specs.Run.{no_values}
-use Rattle.decision_laws.specs.Forms.{Form, normal_form, in_fragment, simplified}
-use Rattle.decision_laws.specs.Vocabulary.{Vocabulary, IsIn, vocabulary, fits, has_term}
+use Rattle.csdn_core.specs.SortedIn.{IsSortedIn, no_rcv_this, no_scope}
+use Rattle.csdn_core.specs.WellSorted.{signature}
+use Rattle.decision_laws.specs.Vocabulary.{Vocabulary, vocabulary, has_term}
 use Rattle.decision_laws.specs.Copies.{Fact, Equation, Copy, index_of, copies_of, judge, IsFair}
-use Rattle.decision_laws.specs.Classes.{sizes}
 use Rattle.decision_laws.specs.Clauses.{all_clauses, Naming}
 use Rattle.clause_log.specs.Literals.{IsModel, Literal}
 use Rattle.decision_laws.specs.Numbers.{fact_count, fact_number, numbered_fact}
 use Rattle.decision_laws.specs.Weights.{weight}
 use Rattle.decision_laws.specs.Tied.{IsTied, name_of}
-
--- the normal form of a sentence
-abbrev pub form_of : Formula → Form
-form_of F = normal_form true F
+use Rattle.fol_forms.specs.Forms.{form_of, in_fragment}
+use Rattle.fol_forms.specs.Constants.{counts}
+use Rattle.decision_laws.specs.Simplified.{simplified}
+use Rattle.csdn_core.specs.Members.{IsIn}
 
 module _ (P : Parts) (F : Formula) where
   abbrev pub words : Vocabulary
   words = vocabulary P (form_of F)
-
-  -- how many constants each sort has
-  abbrev pub counts : Sort → ℕ
-  counts = sizes P (form_of F)
 
   abbrev pub sentence_copies : Copy
   sentence_copies = copies_of words (form_of F)
@@ -36,7 +32,7 @@ module _ (P : Parts) (F : Formula) where
   -- a sentence of the program in the fragment: well-sorted, with no free variable and without `rcv_this`, and in its normal
   -- form no `exists` stands under a `forall`
   pub record IsSentence : Type 0 where
-    pub closed : IsTrue (fits words [] (form_of F))
+    pub closed : IsSortedIn (signature P) no_rcv_this no_scope F
     pub inside : IsTrue (in_fragment (form_of F))
 
   -- the sentence is true in the network and state
@@ -49,7 +45,7 @@ module _ (P : Parts) (F : Formula) where
 
   -- a fair judgement that makes its copies true
   pub record IsJudgement (j : Fact → Bool) : Type 0 where
-    pub fair : IsFair words counts j
+    pub fair : IsFair words (counts P F) j
     pub agrees : IsTrue (judge j sentence_copies)
 
   -- it judges equations of declared constants and numerals as the network does
@@ -60,11 +56,11 @@ module _ (P : Parts) (F : Formula) where
 
   -- the numbers of atoms: from 1 on those of facts, and then those of the nodes of the copies
   abbrev pub naming : Naming
-  naming = record { num = λ f. suc (fact_number counts words f); first = suc (fact_count counts words); fact_at = λ x. numbered_fact counts words (x - 1) }
+  naming = record { num = λ f. suc (fact_number (counts P F) words f); first = suc (fact_count (counts P F) words); fact_at = λ x. numbered_fact (counts P F) words (x - 1) }
 
   -- how many atoms there are
   abbrev pub atoms : ℕ
-  atoms = fact_count counts words + weight counts (simplified (form_of F))
+  atoms = fact_count (counts P F) words + weight (counts P F) (simplified (form_of F))
 
   -- what each atom names
   abbrev pub name : ℕ → Copy
@@ -76,11 +72,11 @@ module _ (P : Parts) (F : Formula) where
 
   -- all clauses of the sentence
   abbrev pub clauses : List (List Literal)
-  clauses = all_clauses naming counts words sentence_copies
+  clauses = all_clauses naming (counts P F) words sentence_copies
 
   -- each of the clauses is tied to the sentence by these names of the atoms
   abbrev pub AreTiedBy : (ℕ → Copy) → List (List Literal) → Type 0
-  AreTiedBy names cs = (c : List Literal) → IsIn c cs → IsTied counts words sentence_copies names c
+  AreTiedBy names cs = (c : List Literal) → IsIn c cs → IsTied (counts P F) words sentence_copies names c
 
   -- clauses are tied to the sentence
   abbrev pub AreTied : List (List Literal) → Type 0

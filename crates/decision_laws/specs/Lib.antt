@@ -1,4 +1,4 @@
-pub mod Forms
+pub mod Simplified
 pub mod Vocabulary
 pub mod Copies
 pub mod Classes

@@ -1,8 +1,7 @@
 -- Clauses of a finite list that are there already, and how many are left.
 use Rattle.std.specs.Prelude.{ℕ, ◌-◌, Bool, List, length, IsFalse}
-use Rattle.decision_laws.specs.Vocabulary.{IsIn}
-use Rattle.decision_laws.specs.Clauses.{AreDistinct}
 use Rattle.clause_log.specs.Literals.{Literal, clause_true}
+use Rattle.csdn_core.specs.Members.{IsIn, AreDistinct}
 
 -- different clauses, each of the list
 pub record ArePart (whole cs : List (List Literal)) : Type 0 where

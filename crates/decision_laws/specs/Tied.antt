@@ -3,10 +3,11 @@ use Rattle.std.specs.Prelude.{◌≡◌, ◌≢◌, ◌⊎◌, ℕ, zero, suc, �
 use Rattle.csdn_core.specs.declared.terms.Sort.{Sort}
 use Rattle.csdn_core.specs.declared.terms.Sort.TheVariants.{Pr}
 use Rattle.csdn_core.specs.declared.terms.Pred.{Pred}
-use Rattle.decision_laws.specs.Vocabulary.{Vocabulary, IsIn}
+use Rattle.decision_laws.specs.Vocabulary.{Vocabulary}
 use Rattle.decision_laws.specs.Copies.{Fact, Tuple, Equation, Copy, Known, Leaf, Both, Either, Each, numeral_place}
 use Rattle.decision_laws.specs.Clauses.{Naming, nodes, IsOver, mirror}
 use Rattle.clause_log.specs.Literals.{Literal, negated}
+use Rattle.csdn_core.specs.Members.{IsIn}
 
 -- this atom number names a fact over the constants, or its mirror
 abbrev pub Names : (Sort → ℕ) → Vocabulary → (ℕ → Copy) → ℕ → Fact → Type 0

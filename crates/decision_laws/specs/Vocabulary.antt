@@ -1,11 +1,10 @@
 -- What a sentence is written with: the names of each sort, and the relations that it uses.
-use Rattle.std.specs.Prelude.{◌≡◌, ◌⊎◌, ℕ, zero, suc, ◌==◌, Bool, true, false, ◌&&◌, ◌||◌, List, [], ◌∷◌, ◌++◌, map, length, filter, if◌then◌else◌, Option, Some, None, slice_get}
+use Rattle.std.specs.Prelude.{ℕ, zero, suc, ◌==◌, Bool, false, ◌||◌, List, [], ◌∷◌, ◌++◌, map, length, filter, if◌then◌else◌, Option, Some, None, slice_get}
 use Rattle.std.specs.List.{list_any}
-use Rattle.csdn_core.specs.Same.{same_sort, same_term}
+use Rattle.csdn_core.specs.Same.{same_term}
 use Rattle.csdn_core.specs.declared.terms.Sort.{Sort}
-use Rattle.csdn_core.specs.declared.terms.Sort.TheVariants.{Sw, Ho, Pr}
+use Rattle.csdn_core.specs.declared.terms.Sort.TheVariants.{Sw}
 use Rattle.csdn_core.specs.declared.terms.Term.{Term}
-use Rattle.csdn_core.specs.declared.terms.Term.TheVariants.{Var, Const, Port}
 use Rattle.csdn_core.specs.declared.terms.Pred.{Pred}
 use Rattle.csdn_core.specs.declared.terms.Pred.TheVariants.{Stored, Ft, Sent}
 use Rattle.csdn_core.specs.declared.program.Parts.{Parts}
@@ -13,12 +12,8 @@ use Rattle.csdn_core.specs.declared.program.Constant.{Constant}
 use Rattle.csdn_core.specs.Network.{same_pred}
 use Rattle.csdn_core.specs.Sorted.{sorts_of}
 use Rattle.csdn_core.specs.WellSorted.{signature}
-use Rattle.decision_laws.specs.Forms.{Form, Fixed, Atom, Same, And, Or, ForAll, ForSome}
-
--- x is in the list
-abbrev pub IsIn : {X : Type 0} → X → List X → Type 0
-IsIn x [] = ⊥
-IsIn x (y ∷ ys) = (x ≡ y) ⊎ IsIn x ys
+use Rattle.fol_forms.specs.Forms.{Form, Fixed, Atom, Same, And, Or, ForAll, ForSome}
+use Rattle.fol_forms.specs.Constants.{names_of}
 
 abbrev pub has_term : Term → List Term → Bool
 has_term t ts = list_any (same_term t) ts
@@ -43,16 +38,6 @@ uses (Or p q) r = uses p r || uses q r
 uses (ForAll v s p) r = uses p r
 uses (ForSome v s p) r = uses p r
 
--- the constants of a sort among these, which are numbered from k on
-abbrev pub constants_from : Sort → ℕ → List Constant → List Term
-constants_from s k [] = []
-constants_from s k (c ∷ cs) = if same_sort c.sort s then Const (record { 0 = k }) ∷ constants_from s (suc k) cs else constants_from s (suc k) cs
-
-abbrev pub numerals_of : Sort → List ℕ → List Term
-numerals_of Sw ks = []
-numerals_of Ho ks = []
-numerals_of Pr ks = map Port ks
-
 abbrev pub sort_or : Option Constant → Sort
 sort_or None = Sw
 sort_or (Some c) = c.sort
@@ -70,10 +55,6 @@ places_from i (suc n) = i ∷ places_from (suc i) n
 abbrev pub all_relations : Parts → List Pred
 all_relations P = map (λ k. Stored (record { 0 = k })) (places_from 0 (length P.relations)) ++ Ft ∷ Sent ∷ []
 
--- the names of a sort of a program
-abbrev pub names_of : Parts → Sort → List Term
-names_of P s = constants_from s 0 P.constants ++ numerals_of s P.numerals
-
 -- the sort of a declared constant, by its number
 abbrev pub sort_of_constant : Parts → ℕ → Sort
 sort_of_constant P k = sort_or (slice_get P.constants k)
@@ -88,42 +69,7 @@ vocabulary P f = record {
   columns = λ r. sorts_or (sorts_of (signature P) r);
 }
 
--- the sort of a variable in scope, the innermost first
-abbrev pub is_bound : List (ℕ × Sort) → ℕ → Sort → Bool
-is_bound [] v s = false
-is_bound (p ∷ ps) v s = if v == p.0 then same_sort p.1 s else is_bound ps v s
-
 -- what the first pair with this number gives
 abbrev pub find_or : {X : Type 0} → X → List (ℕ × X) → ℕ → X
 find_or x [] v = x
 find_or x (p ∷ ps) v = if v == p.0 then p.1 else find_or x ps v
-
-module _ (voc : Vocabulary) where
-  -- a term of this sort: a variable in scope, a declared constant or a numeral
-  abbrev pub term_fits : List (ℕ × Sort) → Sort → Term → Bool
-  term_fits bound s (Var v) = is_bound bound v.0 s
-  term_fits bound s (Const c) = same_sort (voc.constant_sort c.0) s && has_term (Const c) (voc.names s)
-  term_fits bound s (Port k) = same_sort Pr s && has_term (Port k) (voc.names s)
-
-  -- one after another, and as many
-  abbrev pub terms_fit : List (ℕ × Sort) → List Sort → List Term → Bool
-  terms_fit bound [] [] = true
-  terms_fit bound [] (t ∷ ts) = false
-  terms_fit bound (s ∷ ss) [] = false
-  terms_fit bound (s ∷ ss) (t ∷ ts) = term_fits bound s t && terms_fit bound ss ts
-
-  -- the sort of a term
-  abbrev pub term_sort : List (ℕ × Sort) → Term → Sort
-  term_sort bound (Var v) = find_or Sw bound v.0
-  term_sort bound (Const c) = voc.constant_sort c.0
-  term_sort bound (Port k) = Pr
-
-  -- well-sorted, its variables among those in scope and its relations among the vocabulary's
-  abbrev pub fits : List (ℕ × Sort) → Form → Bool
-  fits bound (Fixed b) = true
-  fits bound (Atom sign r ts) = list_any (same_pred r) voc.relations && terms_fit bound (voc.columns r) ts
-  fits bound (Same sign t u) = term_fits bound (term_sort bound t) t && term_fits bound (term_sort bound t) u
-  fits bound (And p q) = fits bound p && fits bound q
-  fits bound (Or p q) = fits bound p && fits bound q
-  fits bound (ForAll v s p) = fits ((v.0, s) ∷ bound) p
-  fits bound (ForSome v s p) = fits ((v.0, s) ∷ bound) p

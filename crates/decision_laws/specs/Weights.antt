@@ -1,7 +1,7 @@
 -- How many nodes the copies of a form have, wherever they are made.
 use Rattle.std.specs.Prelude.{ℕ, zero, suc, ◌+◌, ◌*◌}
 use Rattle.csdn_core.specs.declared.terms.Sort.{Sort}
-use Rattle.decision_laws.specs.Forms.{Form, Fixed, Atom, Same, And, Or, ForAll, ForSome}
+use Rattle.fol_forms.specs.Forms.{Form, Fixed, Atom, Same, And, Or, ForAll, ForSome}
 
 -- those of n copies in one conjunction, each with w nodes
 abbrev pub each_weight : ℕ → ℕ → ℕ

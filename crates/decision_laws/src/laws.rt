@@ -1,29 +1,26 @@
 //! Laws as contracts of functions that do nothing.
-ghost use Rattle.std.specs.Prelude.{◌≡◌, ◌≢◌, ◌↔◌, ℕ, ◌+◌, ◌<◌, ◌==◌, Bool, true, List, [], ◌∷◌, ◌++◌, length, AllPairs, IsTrue};
+ghost use Rattle.std.specs.Prelude.{◌≡◌, ◌≢◌, ◌↔◌, ℕ, ◌+◌, ◌<◌, ◌==◌, Bool, true, List, [], ◌∷◌, ◌++◌, length, max, AllPairs, IsTrue};
+ghost use Rattle.std.specs.List.{list_all};
 ghost use Rattle.csdn_core.specs.declared.terms.Sort.{Sort as AnySort};
 ghost use Rattle.csdn_core.specs.declared.terms.Sort.TheVariants.{Pr};
 ghost use Rattle.csdn_core.specs.declared.program.Parts.{Parts as AnyParts};
 ghost use Rattle.csdn_core.specs.declared.syntax.Formula.{Formula as AnyFormula};
-ghost use Rattle.csdn_core.specs.Truth.{Structure, Assignment, truth};
 ghost use Rattle.csdn_core.specs.Network.{Network, State, IsNetwork, elements};
-ghost use Rattle.decision_laws.specs.Forms.{Form, form_truth, simplified};
-ghost use Rattle.decision_laws.specs.Vocabulary.{Vocabulary, IsIn, places_from};
+ghost use Rattle.csdn_core.specs.Members.{IsIn};
+ghost use Rattle.clause_log.specs.Literals.{IsModel, Literal, clause_true, is_clause};
+ghost use Rattle.clause_log.specs.Refutations.{Step, is_refutation};
+ghost use Rattle.fol_forms.specs.Forms.{Form, form_of};
+ghost use Rattle.fol_forms.specs.Constants.{counts, instances};
+ghost use Rattle.decision_laws.specs.Vocabulary.{Vocabulary, places_from};
 ghost use Rattle.decision_laws.specs.Copies.{AreBelow, Fact, Scope, copies, judge};
 ghost use Rattle.decision_laws.specs.Classes.{Meaning, AreOfJudgement, ListTheSame, number, network_of, state_of};
 ghost use Rattle.decision_laws.specs.Clauses.{size, IsNaming};
-ghost use Rattle.clause_log.specs.Literals.{IsModel, Literal, clause_true, is_clause};
-ghost use Rattle.clause_log.specs.Refutations.{Step, is_refutation};
-ghost use Rattle.std.specs.List.{list_all};
 ghost use Rattle.decision_laws.specs.Numbers.{tuple_count, tuple_of};
 ghost use Rattle.decision_laws.specs.Weights.{weight};
 ghost use Rattle.decision_laws.specs.Sublists.{ArePart, AreBroken, left_of};
 ghost use Rattle.decision_laws.specs.Example.{program, sentence, r, example_counts, example_copies, example_node_clauses, example_equality_clauses, example_judgement, example_network, small_program, contradiction, contradiction_clauses, contradiction_log};
-ghost use Rattle.decision_laws.specs.Laws.{form_of, words, counts, sentence_copies, IsSentence, IsTrueIn, HasNetwork, IsJudgement, AgreesOnNames, naming, name, judged, atoms, clauses, AreTied, AreTiedBy, HasModel};
-
-/// A normal form is true where its formula is.
-pub fn normal_forms_keep_truth()
-    ensures { (M : Structure) (F : AnyFormula) (e : Assignment) → form_truth M (form_of F) e ≡ truth M F e }
-{}
+ghost use Rattle.decision_laws.specs.Laws.{words, sentence_copies, IsSentence, IsTrueIn, HasNetwork, IsJudgement, AgreesOnNames, naming, name, judged, atoms, clauses, AreTied, AreTiedBy, HasModel};
+ghost use Rattle.decision_laws.specs.Simplified.{simplified};
 
 /// A sentence that is true in a network and state has a fair judgement of its copies.
 pub fn network_gives_judgement()
@@ -57,9 +54,11 @@ pub fn tied_clauses_have_models()
     ensures refuted { (P : AnyParts) (F : AnyFormula) → IsSentence P F → (cs : List (List Literal)) (steps : List Step) → AreTied P F cs → IsTrue (is_refutation cs steps) → HasNetwork P F → ⊥ }
 {}
 
-/// The copies of a form have as many nodes wherever they are made.
+/// The copies of a form have as many nodes wherever they are made: fewer than the instances of the sentence, so that one with at
+/// most 16,777,216 instances has at most 16,777,215 nodes.
 pub fn copies_have_weights()
-    ensures { (voc : Vocabulary) (n : AnySort → ℕ) (f : Form) (env : Scope) (base : AnySort → ℕ) → size (copies voc n f env base) ≡ weight n f }
+    ensures few { (P : AnyParts) (F : AnyFormula) → size (sentence_copies P F) < max 1 (instances (counts P F) (form_of F)) }
+    ensures weight { (voc : Vocabulary) (n : AnySort → ℕ) (f : Form) (env : Scope) (base : AnySort → ℕ) → size (copies voc n f env base) ≡ weight n f }
 {}
 
 /// The numbers of atoms need no table: each fact over the constants has one, which leads back. A number below the count of a

@@ -2,7 +2,7 @@
 //!
 //! A sentence is decided over finitely many constants: copies of it, judgements of their atoms and equations, clauses.
 //! The definitions stand in `specs/`; [`laws`] connects them with the truth of the sentence in networks and states, as
-//! contracts of functions that do nothing. [`names`] counts the names that a program has of a sort.
+//! contracts of functions that do nothing. [`names`] finds the places of names among the constants.
 //! `docs/DEFINITIONS.md` says the definitions in words, with an example.
 #![tactic(auto)]
 

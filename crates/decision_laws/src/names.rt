@@ -1,45 +1,14 @@
 //! The places of names among the constants of their sorts.
-ghost use Rattle.std.specs.Prelude.{◌≡◌, ◌≤◌, length, map, take};
-ghost use Rattle.decision_laws.specs.Forms.{one_if as one_if_same};
-ghost use Rattle.decision_laws.specs.Vocabulary.{constants_from, names_of, sort_of_constant};
-ghost use Rattle.decision_laws.specs.Copies.{index_of};
-ghost use Rattle.csdn_core.specs.declared.terms.Term.TheVariants.{Const as ConstTerm, Port as PortTerm};
+ghost use Rattle.std.specs.Prelude.{◌≡◌, ◌≤◌, length, map};
 ghost use Rattle.csdn_core.specs.declared.terms.Sort.TheVariants.{Pr as PortSort};
-ghost use Rattle.csdn_core.specs.Same.{same_sort};
+ghost use Rattle.csdn_core.specs.declared.terms.Term.TheVariants.{Const as ConstTerm, Port as PortTerm};
+ghost use Rattle.decision_laws.specs.Copies.{index_of};
+ghost use Rattle.decision_laws.specs.Vocabulary.{sort_of_constant};
+ghost use Rattle.fol_forms.specs.Constants.{names_of};
 
-use csdn_core::program::{Constant, Parts};
+use csdn_core::program::Parts;
 use csdn_core::terms::{ConstId, Sort};
-
-// Whether two sorts are the same.
-fn is_same_sort(a: Sort, b: Sort) -> bool
-    ensures { result ≡ same_sort a b }
-{
-    match a {
-        Sort::Sw => matches!(b, Sort::Sw),
-        Sort::Ho => matches!(b, Sort::Ho),
-        Sort::Pr => matches!(b, Sort::Pr),
-    }
-}
-
-/// One where the sorts are the same.
-pub fn one_if(a: Sort, b: Sort) -> usize
-    ensures { result ≡ one_if_same a b }
-{
-    if is_same_sort(a, b) { 1 } else { 0 }
-}
-
-// How many of the first constants have a sort.
-fn constants_before(constants: &[Constant], sort: Sort, stop: usize) -> usize
-    ensures count { result ≡ length (constants_from sort 0 (take stop constants.now)) }
-    ensures few { result ≤ length constants.now }
-{
-    let first = &constants[..stop.min(constants.len())];
-    let mut count = 0;
-    for constant in first {
-        count += one_if(constant.sort, sort);
-    }
-    count
-}
+use fol_forms::constants::constants_before;
 
 // The place of the first of some numerals that is this one.
 fn position(numerals: &[u16], numeral: u16) -> usize
@@ -52,18 +21,6 @@ fn position(numerals: &[u16], numeral: u16) -> usize
         }
     }
     numerals.len()
-}
-
-/// How many names a sort has.
-pub fn known(parts: &Parts, sort: Sort) -> usize
-    ensures { result ≡ length (names_of parts.now sort) }
-{
-    let constants = parts.constants.as_slice();
-    let declared = constants_before(constants, sort, constants.len());
-    match sort {
-        Sort::Pr => declared + parts.numerals.as_slice().len(),
-        _ => declared,
-    }
 }
 
 /// The sort of a declared constant.

@@ -1,5 +1,0 @@
-use Rattle.decision_laws.proofs.laws.normal_forms_keep_truth.Goals as goal
-use Rattle.decision_laws.proofs.NormalTruth.{form_truth-form_of}
-
-pub returns : goal.returns
-returns c = form_truth-form_of
