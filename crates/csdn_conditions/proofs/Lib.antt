@@ -12,3 +12,4 @@ mod ClosedConditions
 mod Inductive
 mod Complete
 pub mod Cases
+mod Examples

@@ -1,51 +1,48 @@
-//! Programs as texts, and the kinds and classes of their conditions, worked by hand from docs/DEFINITIONS.md.
+//! Programs as texts, the lines of their conditions and the truth of these in networks, worked by hand from
+//! docs/DEFINITIONS.md.
 #![tactic(auto)]
 
 ghost use Rattle.std.specs.Prelude.{◌≤◌};
 
-use csdn_conditions::class::{Class, condition_class};
+use condition_listing::{judge, list};
 use csdn_conditions::condition::condition;
-use csdn_conditions::kinds::{CondKind, condition_count, condition_kind};
+use csdn_conditions::kinds::condition_count;
 use csdn_core::program::Program;
 use csdn_core::syntax::Formula;
 use csdn_core::terms::{Sort, Term, VarId};
 use csdn_types_tests::resolved;
 use fol_forms::count::node_count;
 use fol_forms::instances::instance_count;
+use net_text::read_net;
 use sqlite_items::Boxed;
 use std::alloc::{AllocError, Global};
 
-/// A condition's kind and class.
-#[derive(Clone, Copy, Debug, PartialEq, Eq)]
-struct Listed {
-    kind: CondKind,
-    class: Class,
-}
-
-/// The conditions of a level in their order; none of a text that is no program.
-fn conditions_of(alloc: Global, text: &[u8], level: u8) -> Result<Vec<Listed>, AllocError>
+/// The lines of the conditions of a level; none of a text that is no program.
+fn lines_of(alloc: Global, text: &[u8], level: u8) -> Result<Vec<u8>, AllocError>
     requires { level ≤ 9 }
 {
-    let mut found = Vec::new(alloc);
-    if let Ok(Ok(program)) = resolved(alloc, text) {
-        for index in 0..condition_count(&program, level) {
-            let kind = condition_kind(&program, level, index);
-            let class = condition_class(alloc, &program, level, index)?;
-            found.push(Listed { kind, class })?;
-        }
+    match resolved(alloc, text) {
+        Ok(Ok(program)) => list(alloc, &program, level),
+        _ => Ok(Vec::new(alloc)),
     }
-    Ok(found)
 }
 
-/// The class of one condition of level 0; none where there is no such condition, or the text is no program.
-fn class_at(alloc: Global, text: &[u8], index: u32) -> Result<Option<Class>, AllocError> {
+/// The truth of a condition of level 0 in a network and state; nothing where there is no such condition, or a text is none.
+fn judged(alloc: Global, text: &[u8], net: &[u8], index: u32) -> Result<Vec<u8>, AllocError> {
     let Ok(Ok(program)) = resolved(alloc, text) else {
-        return Ok(None);
+        return Ok(Vec::new(alloc));
+    };
+    let Ok(case) = read_net(alloc, &program, net) else {
+        return Ok(Vec::new(alloc));
     };
     if index >= condition_count(&program, 0) {
-        return Ok(None);
+        return Ok(Vec::new(alloc));
     }
-    Ok(Some(condition_class(alloc, &program, 0, index)?))
+    let Some(state) = &case.state else {
+        return Ok(Vec::new(alloc));
+    };
+    let told = judge(alloc, &program, &case.network, state, 0, index)?;
+    Ok(told.text)
 }
 
 /// The counts of a sentence.
@@ -135,7 +132,7 @@ fn many_hosts(alloc: Global, constants: u8, variables: u8) -> Result<Vec<u8>, Al
 #[cfg(test)]
 mod tests {
     use super::*;
-    use csdn_conditions::kinds::EventKind;
+    use std::process::Abort;
     use std::test::Fail;
 
     const FIREWALL: &[u8] = b"rel tr(SW, HO);
@@ -165,47 +162,190 @@ mod tests {
           }
         }";
 
-    fn inside(kind: CondKind) -> Listed {
-        Listed {
-            kind,
-            class: Class::Inside,
-        }
-    }
+    /// What ends isn't seen, so that what was seen has no rule any more.
+    const KEPT: &[u8] = b"timeout 5; rel seen(SW, HO, HO, PR);
+        safety kept: forall S:SW, A:HO, B:HO, I:PR. seen(S, A, B, I) -> S.ft(A->B, I->prt(1));
+        pktIn(s, src->dst, i) { seen.insert(s, src, dst, i); s.install(src->dst, i->prt(1)); }";
 
-    /// The conditions of level 0 of a program with one safety invariant.
-    fn of_one_invariant() -> [Listed; 4] {
-        [
-            inside(CondKind::Network),
-            inside(CondKind::Init { k: 0, v: 0 }),
-            inside(CondKind::Step {
-                v: 0,
-                event: EventKind::PktIn,
-            }),
-            inside(CondKind::Step {
-                v: 0,
-                event: EventKind::PktFlow,
-            }),
-        ]
+    /// Who is known has a rule.
+    const KNOWN: &[u8] = b"timeout 5; rel known(HO);
+        safety ruled: forall A:HO. known(A) -> (exists S:SW, B:HO, I:PR, O:PR. S.ft(A->B, I->O));";
+
+    /// There is a packet.
+    const PACKET: &[u8] =
+        b"timeout 30; trans B: exists S:SW, X:HO, Y:HO, I:PR. S.rcv_this(X->Y, I);";
+
+    const UNINSTALLED: &[u8] =
+        b"safety none: forall S:SW, A:HO, B:HO, I:PR, O:PR. not S.ft(A->B, I->O);
+        pktIn(s, src->dst, i) { s.install(src->dst, i->i); s.uninstall(src->dst, i->i); }";
+
+    const INSTALLED: &[u8] =
+        b"safety none: forall S:SW, A:HO, B:HO, I:PR, O:PR. not S.ft(A->B, I->O);
+        pktIn(s, src->dst, i) { s.install(src->dst, i->i); }";
+
+    const OF_FIREWALL: &[u8] = b"0 network inside
+1 init 0 guarded inside
+2 step guarded pktIn inside
+3 step guarded pktFlow inside
+";
+
+    const OF_ONE_INVARIANT: &[u8] = b"0 network inside
+1 init 0 A inside
+2 step A pktIn inside
+3 step A pktFlow inside
+";
+
+    const LISTINGS: &[(&[u8], u8, &[u8])] = &[
+        (FIREWALL, 0, OF_FIREWALL),
+        (
+            b"rel armed(); safety A: not armed(); pktIn(s, src->dst, i) { skip; }",
+            0,
+            OF_ONE_INVARIANT,
+        ),
+        (
+            SWITCH,
+            0,
+            b"0 network inside\n1 trans no_black_hole pktIn inside\n2 trans no_black_hole pktFlow inside\n",
+        ),
+        // the order of a level
+        (
+            b"safety A: true; trans B: true; safety C: true; pktIn(s, a->b, i) { skip; }",
+            1,
+            b"0 network inside
+1 init 0 A inside
+2 init 0 C inside
+3 init 1 A inside
+4 init 1 C inside
+5 step A pktIn inside
+6 step A pktFlow inside
+7 step C pktIn inside
+8 step C pktFlow inside
+9 trans B pktIn inside
+10 trans B pktFlow inside
+",
+        ),
+        // .. and where rules end, expiries come last
+        (
+            b"timeout 9; rel armed(); safety A: not armed(); trans B: true; pktIn(s, a->b, i) { skip; }",
+            1,
+            b"0 network inside
+1 init 0 A inside
+2 init 1 A inside
+3 step A pktIn inside
+4 step A pktFlow inside
+5 step A expire inside
+6 trans B pktIn inside
+7 trans B pktFlow inside
+8 trans B expire inside
+",
+        ),
+        (
+            KEPT,
+            0,
+            b"0 network inside\n1 init 0 kept inside\n2 step kept pktIn inside\n3 step kept pktFlow inside\n4 step kept expire inside\n",
+        ),
+        // an `exists` under a `forall` in the hypothesis
+        (
+            KNOWN,
+            0,
+            b"0 network inside\n1 init 0 ruled inside\n2 step ruled pktIn outside\n3 step ruled pktFlow outside\n4 step ruled expire outside\n",
+        ),
+        (
+            PACKET,
+            0,
+            b"0 network inside\n1 trans B pktIn inside\n2 trans B pktFlow inside\n3 trans B expire inside\n",
+        ),
+        (
+            UNINSTALLED,
+            0,
+            b"0 network inside\n1 init 0 none inside\n2 step none pktIn inside\n3 step none pktFlow inside\n",
+        ),
+        (
+            b"static link(SW, PR, HO); topology T: forall S:SW. exists H:HO. link(S, prt(1), H);",
+            0,
+            b"0 network outside\n",
+        ),
+    ];
+
+    fn lists(
+        rt: &impl Abort,
+        alloc: Global,
+        rows: &[(&[u8], u8, &[u8])],
+    ) -> Result<(), AllocError> {
+        for (i, row) in rows.iter().enumerate() {
+            let level = if row.1 <= 9 { row.1 } else { 9 };
+            let found = lines_of(alloc, row.0, level)?;
+            assert!(rt; found.as_slice() == row.2, "row {i}");
+        }
+        Ok(())
     }
 
     #[test]
-    fn lists_the_conditions_of_a_firewall(rt: HostRuntime) -> Result<(), Fail> {
-        let found = conditions_of(rt.alloc(), FIREWALL, 0)?;
-        assert_eq!(rt; found.as_slice(), of_one_invariant().as_slice());
+    fn lists_conditions(rt: HostRuntime) -> Result<(), Fail> {
+        lists(&rt, rt.alloc(), LISTINGS)?;
+        Ok(())
+    }
+
+    const BROKEN: &[u8] = b"hypothesis true\ngoal false\n";
+
+    const MET: &[u8] = b"hypothesis true\ngoal true\n";
+
+    const NOT_ASKED: &[u8] = b"hypothesis false\ngoal true\n";
+
+    /// A condition of level 0 by its number, what its network holds beside one switch, two hosts and two ports, and its truth.
+    const JUDGEMENTS: &[(&[u8], u32, &[u8], &[u8])] = &[
+        // the rule of what was seen ends
+        (KEPT, 4, b"t seen 1 1 2 1\nft 1 1 2 1 1\n", BROKEN),
+        (KEPT, 4, b"ft 1 2 1 1 2\n", MET),
+        (KEPT, 4, b"t seen 1 1 2 1\n", NOT_ASKED),
+        // .. which neither packet does
+        (KEPT, 2, b"t seen 1 1 2 1\nft 1 1 2 1 1\n", MET),
+        (KEPT, 3, b"t seen 1 1 2 1\nft 1 1 2 1 1\n", MET),
+        // both rules of a match end, and those of another match stay
+        (KNOWN, 4, b"t known 1\nft 1 1 2 1 1\nft 1 1 2 1 2\n", BROKEN),
+        (KNOWN, 4, b"t known 1\nft 1 1 2 1 1\nft 1 1 1 1 1\n", MET),
+        // a flow has a packet, an expiry has none, and needs a rule
+        (PACKET, 2, b"ft 1 1 2 1 1\n", MET),
+        (PACKET, 3, b"ft 1 1 2 1 1\n", BROKEN),
+        (PACKET, 3, b"", MET),
+        // a rule that is put in and taken out again
+        (UNINSTALLED, 2, b"", MET),
+        (INSTALLED, 2, b"", BROKEN),
+    ];
+
+    fn judges(
+        rt: &impl Abort,
+        alloc: Global,
+        rows: &[(&[u8], u32, &[u8], &[u8])],
+    ) -> Result<(), AllocError> {
+        for (i, row) in rows.iter().enumerate() {
+            let mut net = b"vericon-net 1\nsw 1\nho 1 2\npr 1 2\nstate\n".to_vec(alloc)?;
+            net.extend_from_slice(row.2)?;
+            net.extend_from_slice(b"end\n")?;
+            let found = judged(alloc, row.0, &net, row.1)?;
+            assert!(rt; found.as_slice() == row.3, "row {i}");
+        }
+        Ok(())
+    }
+
+    #[test]
+    fn judges_conditions(rt: HostRuntime) -> Result<(), Fail> {
+        judges(&rt, rt.alloc(), JUDGEMENTS)?;
         Ok(())
     }
 
     // After a packet the negated goal needs a packet and the elements for which the invariant is false; the program names the
     // ports 1 and 2.
+    const COUNTS: &[(u64, [u64; 3], u64)] = &[
+        (4, [1, 1, 2], 0),
+        (33, [1, 2, 2], 70),
+        (91, [2, 4, 3], 91),
+        (33, [2, 4, 4], 72),
+    ];
+
     #[test]
     fn counts_the_conditions_of_a_firewall(rt: HostRuntime) -> Result<(), Fail> {
-        let wanted: [(u64, [u64; 3], u64); 4] = [
-            (4, [1, 1, 2], 0),
-            (33, [1, 2, 2], 70),
-            (91, [2, 4, 3], 91),
-            (33, [2, 4, 4], 72),
-        ];
-        for (index, (nodes, constants, instances)) in wanted.iter().enumerate() {
+        for (index, (nodes, constants, instances)) in COUNTS.iter().enumerate() {
             let found = counts_at(rt.alloc(), FIREWALL, index as u32)?;
             let counted = Counted {
                 nodes: *nodes,
@@ -217,122 +357,42 @@ mod tests {
         Ok(())
     }
 
-    #[test]
-    fn lists_the_conditions_of_a_program_without_arguments(rt: HostRuntime) -> Result<(), Fail> {
-        let text = b"rel armed(); safety A: not armed(); pktIn(s, src->dst, i) { skip; }";
-        let found = conditions_of(rt.alloc(), text, 0)?;
-        assert_eq!(rt; found.as_slice(), of_one_invariant().as_slice());
-        Ok(())
-    }
+    /// So many constants and variables, and the line of their one condition.
+    const HOSTS: &[(u8, u8, &[u8])] = &[
+        (8, 8, b"0 network inside\n"),
+        (9, 8, b"0 network instances 43046721\n"),
+        (6, 24, b"0 network instances 4738381338321616896\n"),
+        (7, 24, b"0 network instances 18446744073709551615\n"),
+    ];
 
     #[test]
-    fn lists_the_conditions_of_a_learning_switch(rt: HostRuntime) -> Result<(), Fail> {
-        let found = conditions_of(rt.alloc(), SWITCH, 0)?;
-        let wanted = [
-            inside(CondKind::Network),
-            inside(CondKind::Trans {
-                t: 0,
-                event: EventKind::PktIn,
-            }),
-            inside(CondKind::Trans {
-                t: 0,
-                event: EventKind::PktFlow,
-            }),
-        ];
-        assert_eq!(rt; found.as_slice(), wanted.as_slice());
-        Ok(())
-    }
-
-    #[test]
-    fn orders_the_kinds_of_a_level(rt: HostRuntime) -> Result<(), Fail> {
-        let text = b"safety A: true; trans B: true; safety C: true; pktIn(s, a->b, i) { skip; }";
-        let found = conditions_of(rt.alloc(), text, 1)?;
-        let wanted = [
-            CondKind::Network,
-            CondKind::Init { k: 0, v: 0 },
-            CondKind::Init { k: 0, v: 1 },
-            CondKind::Init { k: 1, v: 0 },
-            CondKind::Init { k: 1, v: 1 },
-            CondKind::Step {
-                v: 0,
-                event: EventKind::PktIn,
-            },
-            CondKind::Step {
-                v: 0,
-                event: EventKind::PktFlow,
-            },
-            CondKind::Step {
-                v: 1,
-                event: EventKind::PktIn,
-            },
-            CondKind::Step {
-                v: 1,
-                event: EventKind::PktFlow,
-            },
-            CondKind::Trans {
-                t: 0,
-                event: EventKind::PktIn,
-            },
-            CondKind::Trans {
-                t: 0,
-                event: EventKind::PktFlow,
-            },
-        ];
-        assert_eq!(rt; found.len(), wanted.len());
-        for (found, kind) in found.iter().zip(wanted.iter()) {
-            assert_eq!(rt; *found, inside(*kind));
-        }
-        Ok(())
-    }
-
-    #[test]
-    fn tells_why_a_condition_is_not_inside(rt: HostRuntime) -> Result<(), Fail> {
-        let alloc = rt.alloc();
-        let link =
-            b"static link(SW, PR, HO); topology T: forall S:SW. exists H:HO. link(S, prt(1), H);";
-        let cases: [(Vec<u8>, Class); 5] = [
-            (Vec::from_slice(alloc, link)?, Class::Outside),
-            (many_hosts(alloc, 8, 8)?, Class::Inside),
-            (many_hosts(alloc, 9, 8)?, Class::Instances(43_046_721)),
-            (
-                many_hosts(alloc, 6, 24)?,
-                Class::Instances(4_738_381_338_321_616_896),
-            ),
-            (many_hosts(alloc, 7, 24)?, Class::Instances(u64::MAX)),
-        ];
-        for (text, class) in &cases {
-            let found = conditions_of(alloc, text, 0)?;
-            assert_eq!(rt; found.len(), 1);
-            assert_eq!(rt;
-                found[0],
-                Listed {
-                    kind: CondKind::Network,
-                    class: *class
-                }
-            );
+    fn counts_copies(rt: HostRuntime) -> Result<(), Fail> {
+        for (i, row) in HOSTS.iter().enumerate() {
+            let text = many_hosts(rt.alloc(), row.0, row.1)?;
+            let found = lines_of(rt.alloc(), &text, 0)?;
+            assert!(rt; found.as_slice() == row.2, "row {i}");
         }
         Ok(())
     }
 
     // So many times `if`, each of which doubles the nodes of what follows: `step A pktIn` has 524,292 with 16 and 1,048,580
     // with 17.
-    fn class_of_step(alloc: Global, count: u8) -> Result<Option<Class>, AllocError> {
+    const DOUBLED: &[(u8, &[u8])] = &[
+        (16, OF_ONE_INVARIANT),
+        (
+            17,
+            b"0 network inside\n1 init 0 A inside\n2 step A pktIn nodes\n3 step A pktFlow inside\n",
+        ),
+    ];
+
+    #[test]
+    fn counts_nodes(rt: HostRuntime) -> Result<(), Fail> {
         let before = b"rel p(); safety A: not p(); pktIn(s, src->dst, i) { ";
-        let text = repeated(alloc, before, b"if p() { skip; } ", count, b"}")?;
-        class_at(alloc, &text, 2)
-    }
-
-    #[test]
-    fn counts_few_enough_nodes(rt: HostRuntime) -> Result<(), Fail> {
-        let class = class_of_step(rt.alloc(), 16)?;
-        assert_eq!(rt; class, Some(Class::Inside));
-        Ok(())
-    }
-
-    #[test]
-    fn counts_too_many_nodes(rt: HostRuntime) -> Result<(), Fail> {
-        let class = class_of_step(rt.alloc(), 17)?;
-        assert_eq!(rt; class, Some(Class::Nodes));
+        for (i, row) in DOUBLED.iter().enumerate() {
+            let text = repeated(rt.alloc(), before, b"if p() { skip; } ", row.0, b"}")?;
+            let found = lines_of(rt.alloc(), &text, 0)?;
+            assert!(rt; found.as_slice() == row.1, "row {i}");
+        }
         Ok(())
     }
 }

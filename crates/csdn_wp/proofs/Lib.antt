@@ -16,5 +16,6 @@ pub mod Preceding
 pub mod Arrival
 pub mod Flow
 pub mod Expiry
+pub mod Examples
 pub mod Programs
 pub mod Sentences
