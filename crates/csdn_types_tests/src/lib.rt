@@ -321,7 +321,7 @@ mod tests {
         right: &'static [u8],
         back: &'static [u8],
         /// The greatest number of them that is a program.
-        most: u16,
+        most: u8,
         /// Where the first that is one too many stands.
         at: usize,
     }
@@ -409,19 +409,12 @@ mod tests {
     /// So many are a program, and one more is one too many.
     fn counts(rt: &impl Abort, alloc: Global, limits: &[Limit]) -> Result<(), AllocError> {
         for limit in limits {
-            let within = told(alloc, &numbered(alloc, limit, limit.most)?)?;
-            assert!(rt;
-                within.as_str() == "a program",
-                "{} are {within}",
-                limit.most
-            );
-            let beyond = told(alloc, &numbered(alloc, limit, limit.most + 1)?)?;
+            let most = u16::from(limit.most);
+            let within = told(alloc, &numbered(alloc, limit, most)?)?;
+            assert!(rt; within.as_str() == "a program", "{most} are {within}");
+            let beyond = told(alloc, &numbered(alloc, limit, most + 1)?)?;
             let wanted = format!(in alloc; "TooMany {{ at: {} }}", limit.at)?;
-            assert!(rt;
-                beyond == wanted,
-                "one more than {} are {beyond}",
-                limit.most
-            );
+            assert!(rt; beyond == wanted, "one more than {most} are {beyond}");
         }
         Ok(())
     }

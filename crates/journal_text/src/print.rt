@@ -6,8 +6,8 @@ ghost use Rattle.text_lines.specs.Printed.{line_text};
 ghost use Rattle.journal_text.specs.JournalText.{are_notes, entry_words, header, is_entry, is_note, journal_format, journal_text, note_words};
 
 use crate::note::{Note, Notes};
-use csdn_history::entry::Entry;
 use csdn_core::program::Text;
+use csdn_history::entry::Entry;
 use sqlite_items::Items;
 use std::alloc::{AllocError, Global};
 use text_lines::{put_line, put_line_end, put_next_word, put_word};

@@ -4,7 +4,6 @@ use Rattle.std.specs.Str.{bytes_eq}
 use Rattle.std.proofs.lemmas.Bool.{and_parts}
 use Rattle.std.proofs.lemmas.Option.{same_Some}
 use Rattle.std.proofs.lemmas.List.Elements.{All-nil, All-push}
-use Rattle.fol_forms.proofs.NormalTruth.{same_truth-is}
 use Rattle.text_lines.specs.Text.{next, ended}
 use Rattle.text_lines.specs.Numbers.{number_of}
 use Rattle.text_lines.specs.Distinct.{are_distinct}
@@ -25,6 +24,11 @@ use Rattle.net_structs.proofs.Accepted.{there}
 use Rattle.net_text.specs.declared.refusal.Why.{Why}
 use Rattle.net_text.specs.declared.refusal.Why.TheVariants as why
 use Rattle.net_text.specs.Lines.{◌>>=◌, most, or_why, wants, elements_from, has_some, sort_of, relation_from, cells_of, tuple_of, flow_of, packet_of}
+
+same_truth-is : (a b : Bool) → same_truth a b ≡ true → a ≡ b
+same_truth-is true b is = sym is
+same_truth-is false true is = is
+same_truth-is false false is = refl
 
 -- ---- the parts of a chain that gives something
 

@@ -5,5 +5,4 @@ pub mod ReadBack
 pub mod GivenLines
 pub mod GivenCases
 pub mod AcceptedOrder
-pub mod OpenTruth
 pub mod ListedStates

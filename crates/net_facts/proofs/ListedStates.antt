@@ -21,12 +21,11 @@ use Rattle.csdn_core.specs.Network.{Network, State, elements, structure, holds_i
 use Rattle.csdn_core.specs.Run.{no_values}
 use Rattle.csdn_core.specs.Sorted.{sorts_of, flow_sorts}
 use Rattle.csdn_core.specs.WellSorted.{signature}
-use Rattle.csdn_core.proofs.Agreement.{sentence-same}
+use Rattle.csdn_core.specs.SortedIn.{any_relation}
+use Rattle.csdn_core.proofs.Agreement.{sentence-same, truth_sees, structure_of, structures_agree}
 use Rattle.net_structs.specs.declared.row.Row.{Row}
 use Rattle.net_structs.specs.Rows.{tuple_of, held}
-use Rattle.net_facts.specs.Cases.{IsKept, IsStateTuple}
-use Rattle.csdn_wp.specs.SortedIn.{any_relation}
-use Rattle.net_facts.proofs.OpenTruth.{formula-same}
+use Rattle.net_structs.specs.StateTuples.{IsKept, IsStateTuple}
 use Rattle.net_facts.specs.Listed.{HasTruthOfList}
 
 -- ---- tests of lists
@@ -268,5 +267,6 @@ module _ (P : Parts) (N : Network) (network : IsNetwork P N) (x : State) where
     same = λ packet place p sorted distinct.
         sentence-same P N network x mixed agrees packet place p sorted distinct ∙ ap (λ M. truth M p no_values) (same_structure packet);
     same_in_scope = λ packet Γ p sorted e keeps.
-        formula-same P N network x mixed agrees packet any_relation Γ p e sorted keeps ∙ ap (λ M. truth M p e) (same_structure packet);
+        truth_sees (signature P) any_relation (structure P N x packet) (structure P N mixed packet) (structure_of P N network x packet) (structures_agree P N network x mixed agrees packet any_relation)
+        Γ p e e sorted (record { there = keeps; same = λ v s is. refl }) ∙ ap (λ M. truth M p e) (same_structure packet);
   }

@@ -1,16 +1,13 @@
 -- Networks with a state and a packet, as a program has them.
-use Rattle.std.specs.Prelude.{◌≡◌, ◌<◌, ◌^◌, false, List, [], ◌∷◌, Option, Some, None, All}
+use Rattle.std.specs.Prelude.{◌<◌, ◌^◌, List, [], ◌∷◌, Option, Some, None, All}
 use Rattle.std.specs.Ordering.{nat_cmp}
 use Rattle.std.specs.List.Sorted.{IsStrictlySortedBy}
 use Rattle.csdn_core.specs.declared.terms.Sort.{Sort}
-use Rattle.csdn_core.specs.declared.terms.Pred.{Pred}
-use Rattle.csdn_core.specs.declared.terms.Pred.TheVariants.{Stored, Ft, Sent, RcvThis}
 use Rattle.csdn_core.specs.declared.event.Packet.{Packet}
 use Rattle.csdn_core.specs.declared.event.Packet.TheVariants.{Nothing, At}
 use Rattle.csdn_core.specs.declared.program.Parts.{Parts}
-use Rattle.csdn_core.specs.Network.{Network, elements, is_fixed, HaveElements, IsNetwork}
-use Rattle.csdn_core.specs.Sorted.{sorts_of, packet_sorts}
-use Rattle.csdn_core.specs.WellSorted.{signature}
+use Rattle.csdn_core.specs.Network.{Network, elements, HaveElements, IsNetwork}
+use Rattle.csdn_core.specs.Sorted.{packet_sorts}
 use Rattle.net_structs.specs.declared.row.Row.{Row}
 use Rattle.net_structs.specs.declared.case.Case.{Case}
 use Rattle.net_structs.specs.Rows.{row_cmp}

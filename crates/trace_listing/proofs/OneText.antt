@@ -1,8 +1,7 @@
 -- A journal has one trace.
-use Rattle.std.proofs.Common.{◌≡◌, ◌∙◌, ap, sym, refl, ℕ, Bool, true, false, true≢false, List, ◌++◌, Option, Some, None}
+use Rattle.std.proofs.Common.{◌≡◌, ◌∙◌, ap, sym, refl, ℕ, false, true≢false, List, ◌++◌, Option, Some, None}
 use Rattle.csdn_core.specs.declared.program.Parts.{Parts}
 use Rattle.csdn_core.specs.Network.{Network, State}
-use Rattle.net_structs.specs.declared.row.Row.{Row}
 use Rattle.net_structs.specs.Rows.{held}
 use Rattle.net_structs.proofs.OneList.{one_list}
 use Rattle.net_text.specs.NetText.{net_text}
