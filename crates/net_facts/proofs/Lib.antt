@@ -6,3 +6,4 @@ pub mod GivenLines
 pub mod GivenCases
 pub mod AcceptedOrder
 pub mod ListedStates
+pub mod FiniteInduction

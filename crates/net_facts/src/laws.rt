@@ -1,10 +1,12 @@
 //! Laws of network texts.
-ghost use Rattle.std.specs.Prelude.{◌≡◌, ℕ, List, Result, Ok, IfOk, MatchResult};
+ghost use Rattle.std.specs.Prelude.{◌≡◌, ◌↔◌, ℕ, List, Result, Ok, IfOk, MatchResult};
 ghost use Rattle.std.specs.List.Sorted.{IsStrictlySortedBy};
 ghost use Rattle.std.specs.Ordering.{nat_cmp};
 ghost use Rattle.text_lines.specs.Machine.{reading};
 ghost use Rattle.csdn_core.specs.declared.terms.Sort.{Sort};
 ghost use Rattle.csdn_core.specs.declared.program.Parts.{Parts as AnyParts};
+ghost use Rattle.csdn_core.specs.Holds.{IsInductive};
+ghost use Rattle.csdn_conditions.specs.Among.{IsInductiveFinitely};
 ghost use Rattle.csdn_core.specs.Network.{IsNetwork, Network, State, elements};
 ghost use Rattle.csdn_core.specs.WellSorted.{IsWellSorted};
 ghost use Rattle.net_structs.specs.declared.case.Case.{Case as AnyCase};
@@ -41,4 +43,9 @@ pub fn accepted_networks_are_in_order()
 /// network's elements gives it, under each assignment of elements to the variables in scope.
 pub fn states_have_truth_of_lists()
     ensures { (P : AnyParts) (N : Network) → IsNetwork P N → (x : State) → HasTruthOfList P N x }
+{}
+
+/// A well-sorted program is n-inductive exactly where it is over the states of finitely many tuples.
+pub fn finite_states_suffice()
+    ensures { (P : AnyParts) → IsWellSorted P → (n : ℕ) → IsInductive n P ↔ IsInductiveFinitely n P }
 {}
