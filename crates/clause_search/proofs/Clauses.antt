@@ -86,7 +86,7 @@ keep_by : (test : Literal → Bool) (m : Literal) (ls : List Literal) (b : Bool)
 keep_by test m ls true h k = and_from (test m) (list_all test ls) h k
 keep_by test m ls false h k = k
 
-open_pass : (test : Literal → Bool) (f : Assignment) (c : List Literal) → list_all test c ≡ true → list_all test (open_literals f c) ≡ true
+pub open_pass : (test : Literal → Bool) (f : Assignment) (c : List Literal) → list_all test c ≡ true → list_all test (open_literals f c) ≡ true
 open_pass test f [] h = h
 open_pass test f (m ∷ ms) h =
     let p = and_parts (test m) (list_all test ms) h in
@@ -111,7 +111,7 @@ placed_passes test [] i c e h = absurd (none_some c (sym e))
 placed_passes test (k ∷ cs) zero c e h = ap test (sym (same_Some k c e)) ∙ (and_parts (test k) (list_all test cs) h).0
 placed_passes test (k ∷ cs) (suc i) c e h = placed_passes test cs i c e (and_parts (test k) (list_all test cs) h).1
 
-numbered_passes : (test : List Literal → Bool) (cs : List (List Literal)) (h : ℕ) (c : List Literal) → clause_at cs h ≡ Some c → list_all test cs ≡ true → test c ≡ true
+pub numbered_passes : (test : List Literal → Bool) (cs : List (List Literal)) (h : ℕ) (c : List Literal) → clause_at cs h ≡ Some c → list_all test cs ≡ true → test c ≡ true
 numbered_passes test cs zero c e k = absurd (none_some c (sym e))
 numbered_passes test cs (suc i) c e k = placed_passes test cs i c e k
 

@@ -82,10 +82,10 @@ unset_less f l (suc n) low high e =
           omega (arith, now, rest))
     ]
 
-within_least : (atoms : ℕ) (l : Literal) → is_within atoms l ≡ true → 0 < l.atom
+pub within_least : (atoms : ℕ) (l : Literal) → is_within atoms l ≡ true → 0 < l.atom
 within_least atoms l h = ltb-true 0 l.atom (and_parts (nat_lt 0 l.atom) (nat_le l.atom atoms) h).0
 
-within_most : (atoms : ℕ) (l : Literal) → is_within atoms l ≡ true → l.atom ≤ atoms
+pub within_most : (atoms : ℕ) (l : Literal) → is_within atoms l ≡ true → l.atom ≤ atoms
 within_most atoms l h = leb-true l.atom atoms (and_parts (nat_lt 0 l.atom) (nat_le l.atom atoms) h).1
 
 -- each entry takes one of the atoms without a value

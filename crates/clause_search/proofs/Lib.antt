@@ -11,3 +11,4 @@ pub mod Clauses
 pub mod Models
 pub mod Turned
 pub mod Ties
+pub mod NameLaws

@@ -2,3 +2,4 @@ pub mod Outcomes
 pub mod Trails
 pub mod Cuts
 pub mod Searches
+pub mod Names

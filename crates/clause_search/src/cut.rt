@@ -39,14 +39,13 @@ pub struct Jump {
     pub literal: Lit,
 }
 
-// Opens those atoms of the clause that have not been seen. The answer is how many of them stand at this place
-// of the trail or behind it.
+// Opens those atoms of the clause that have not been seen. The answer is how many of them stand from the last
+// decision on.
 fn see(
     trail: &Trail,
     order: &mut Order,
     marks: &mut Marks,
     clause: &[Lit],
-    level: usize,
 ) -> Result<usize, AllocError>
     ensures { OnOk result ((a : ℕ) → mark_of marks.new a ≡ opened (mark_of marks.old) clause.now a) }
 {
@@ -56,7 +55,7 @@ fn see(
         if marks.is_unseen(l.atom()) {
             marks.open(*l)?;
             order.bump(l.atom());
-            if trail.place(l.atom()) >= level {
+            if trail.is_recent(l.atom()) {
                 count = count.saturating_add(1);
             }
         }
@@ -111,7 +110,7 @@ fn start(
     hints.clear();
     hints.push(conflict)?;
     match clause_at(clauses, log, conflict) {
-        Some(clause) => see(trail, order, marks, clause, trail.level()),
+        Some(clause) => see(trail, order, marks, clause),
         None => Ok(0),
     }
 }
@@ -135,7 +134,7 @@ fn resolve(
     marks.resolve(atom);
     hints.push(reason)?;
     match clause_at(clauses, log, reason) {
-        Some(clause) => see(trail, order, marks, clause, trail.level()),
+        Some(clause) => see(trail, order, marks, clause),
         None => Ok(0),
     }
 }
@@ -168,7 +167,7 @@ fn walk(
                     literal: l.negated(),
                 }));
             };
-            if open <= 1 {
+            if open <= 1 && trail.has_decision() {
                 if let Some(place) = way_back(earlier, marks) {
                     return Ok(Some(Jump {
                         place,

@@ -5,6 +5,7 @@ mod clause;
 mod cut;
 mod marks;
 mod model;
+mod names;
 mod order;
 mod outcome;
 mod propagate;

@@ -4,6 +4,7 @@ ghost use Rattle.std.specs.Prelude.{IfOk};
 ghost use Rattle.clause_search.specs.Outcomes.{Answers};
 
 use crate::model::valuation_of;
+use crate::names::{is_dense, named_log, named_valuation, names_of, small_clauses};
 use crate::outcome::Outcome;
 use crate::trail::Trail;
 use crate::turn::{Tools, Turn, advance};
@@ -17,7 +18,42 @@ use std::alloc::{AllocError, Global};
 /// the clause of the first point through which all its reasons go is learned: it is logged, and forces a literal
 /// where the trail is then cut short. Nothing that was learned is forgotten. The search may take time and memory
 /// that are exponential in the number of atoms that clauses name.
+///
+/// Atoms cost what they cost however far apart they are: where they are few in a wide range, small ones stand for
+/// them during the search.
 pub fn solve(alloc: Global, clauses: &Clauses) -> Result<Outcome, AllocError>
+    ensures { IfOk result (λ o. Answers clauses.now o) }
+{
+    if is_dense(clauses) {
+        solve_dense(alloc, clauses)
+    } else {
+        solve_sparse(alloc, clauses)
+    }
+}
+
+// The same by small atoms.
+fn solve_sparse(alloc: Global, clauses: &Clauses) -> Result<Outcome, AllocError>
+    ensures { IfOk result (λ o. Answers clauses.now o) }
+{
+    let most = clauses.atoms();
+    let names = names_of(alloc, clauses)?;
+    let small = small_clauses(alloc, clauses, &names)?;
+    // Its contract says that each clause is one over the small atoms.
+    small.atoms();
+    match solve_dense(alloc, &small)? {
+        Outcome::Model(valuation) => {
+            let named = named_valuation(alloc, &valuation, &names, most)?;
+            Ok(Outcome::Model(named))
+        }
+        Outcome::Refuted(log) => {
+            let named = named_log(alloc, &log, &names, most)?;
+            Ok(Outcome::Refuted(named))
+        }
+    }
+}
+
+// The same with tables by atom.
+fn solve_dense(alloc: Global, clauses: &Clauses) -> Result<Outcome, AllocError>
     ensures { IfOk result (λ o. Answers clauses.now o) }
 {
     // Its contract says that each clause is one over the atoms, which the trail's entries rest on.

@@ -122,11 +122,16 @@ impl Trail {
         }
     }
 
-    /// The place of the last decision, or 0.
-    pub fn level(&self) -> usize {
+    /// Whether a literal was decided.
+    pub fn has_decision(&self) -> bool {
+        !self.decisions.is_empty()
+    }
+
+    /// Whether the atom's entry is the last decision's or stands behind it.
+    pub fn is_recent(&self, atom: u64) -> bool {
         match self.decisions.last() {
-            Some(place) => *place,
-            None => 0,
+            Some(place) => *place <= self.place(atom),
+            None => false,
         }
     }
 }

@@ -4,7 +4,7 @@ use Rattle.clause_search.specs.Trails.{values_of}
 use Rattle.clause_search.specs.Searches.{Turns}
 use Rattle.clause_search.proofs.Growth.{bounded}
 use Rattle.clause_search.proofs.Models.{model_by}
-use Rattle.clause_search.proofs.search.solve.Goals as goal
+use Rattle.clause_search.proofs.search.solve_dense.Goals as goal
 
 pub turns-smaller : goal.turns-smaller
 turns-smaller c =
