@@ -29,7 +29,7 @@ def pigeons(birds):
 
 
 def colours(edges):
-    nodes = edges * 10 // 22
+    nodes = edges // 2
     given = [chance.randrange(3) for _ in range(nodes)]
     has = lambda node, colour: node * 3 + colour + 1
     clauses = [[has(node, colour) for colour in range(3)] for node in range(nodes)]

@@ -1,6 +1,7 @@
 -- What is said of all blocks of a log text.
-use Rattle.std.specs.Prelude.{◌≡◌, ℕ, Bool, List, [], ◌∷◌, ◌++◌, Result, Ok, Err}
+use Rattle.std.specs.Prelude.{◌≡◌, ℕ, Bool, List, [], ◌∷◌, ◌++◌, Some, Result, Ok, Err}
 use Rattle.std.specs.List.{list_all}
+use Rattle.clause_log.specs.Refutations.{Step}
 use Rattle.text_lines.specs.Machine.{reading}
 use Rattle.log_text.specs.LogText.{log_format}
 use Rattle.log_text.specs.declared.block.Block.{Block}
@@ -30,3 +31,7 @@ abbrev pub Lists : List ℕ → Result Listing LogRefusal → Type 0
 Lists bytes (Ok l) = IsListing bytes l.text.items l.all_accepted
 Lists bytes (Err (Line n)) = reading log_format bytes ≡ Err (record { number = n; reason = tt })
 Lists bytes (Err Memory) = Unit {0}
+
+-- the block with this log
+abbrev pub with_log : Block → List Step → Block
+with_log b log = record b { log = Some log }

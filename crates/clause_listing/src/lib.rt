@@ -4,8 +4,10 @@
 //! `specs/Answers.antt` says what is said of a block, and `specs/Listings.antt` of a text.
 #![tactic(auto)]
 
+mod laws;
 mod listing;
 mod named;
 mod print;
 
+pub use laws::answers_are_accepted;
 pub use listing::{Listing, list};

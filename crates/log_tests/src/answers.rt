@@ -141,3 +141,67 @@ fn a_text_with_a_bad_line_has_no_listing(rt: HostRuntime) {
         assert_eq!(rt; first_bad_line(rt.alloc(), text), Some(number));
     }
 }
+
+// Six birds in five holes: atom 5 * (p - 1) + h says that bird p is in hole h.
+fn birds(alloc: Global) -> Result<Vec<u8>, Fail> {
+    let mut lines = b"atoms 30\n".to_vec(alloc)?;
+    for bird in 0..6u64 {
+        let first = 5 * bird;
+        let line = format!(in alloc;
+            "c {} {} {} {} {} 0\n",
+            first + 1,
+            first + 2,
+            first + 3,
+            first + 4,
+            first + 5
+        )?;
+        lines.extend_from_slice(line.as_bytes())?;
+    }
+    for hole in 1..6u64 {
+        for bird in 0..6u64 {
+            for other in 0..bird {
+                let line = format!(in alloc; "c -{} -{} 0\n", 5 * bird + hole, 5 * other + hole)?;
+                lines.extend_from_slice(line.as_bytes())?;
+            }
+        }
+    }
+    Ok(lines)
+}
+
+// Twenty pairs, on which nothing hangs, and all signs of two more atoms.
+fn pairs(alloc: Global) -> Result<Vec<u8>, Fail> {
+    let mut lines = b"atoms 42\n".to_vec(alloc)?;
+    for pair in 0..20u64 {
+        let line = format!(in alloc; "c {} {} 0\n", 2 * pair + 1, 2 * pair + 2)?;
+        lines.extend_from_slice(line.as_bytes())?;
+    }
+    lines.extend_from_slice(b"c 41 42 0\nc 41 -42 0\nc -41 42 0\nc -41 -42 0\n")?;
+    Ok(lines)
+}
+
+fn line_count(text: &[u8]) -> usize {
+    let mut count = 0usize;
+    for byte in text {
+        if *byte == b'\n' {
+            count = count.saturating_add(1);
+        }
+    }
+    count
+}
+
+#[test]
+fn what_is_learned_of_birds_in_holes_is_accepted(rt: HostRuntime) -> Result<(), Fail> {
+    let lines = birds(rt.alloc())?;
+    assert!(rt; is_as_wanted(rt.alloc(), &lines, Wanted::Refuted)?);
+    Ok(())
+}
+
+// A search that learns gives two steps, whichever atoms are decided first.
+#[test]
+fn choices_on_which_no_conflict_hangs_cost_no_step(rt: HostRuntime) -> Result<(), Fail> {
+    let lines = pairs(rt.alloc())?;
+    assert!(rt; is_as_wanted(rt.alloc(), &lines, Wanted::Refuted)?);
+    let answer = listed(rt.alloc(), &lines, b"")?;
+    assert_eq!(rt; line_count(&answer), 3);
+    Ok(())
+}
