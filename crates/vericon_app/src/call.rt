@@ -1,5 +1,5 @@
 //! The call of a command that uses no network.
-ghost use Rattle.std.specs.Prelude.{◌≡◌, ◌≤◌, ◌⊎◌, ℕ, List, map, string_bytes, IfOk};
+ghost use Rattle.std.specs.Prelude.{◌≡◌, ◌≤◌, ◌⊎◌, ℕ, false, List, map, string_bytes, IfOk};
 ghost use Rattle.vericon_app.specs.Status.{code_of};
 ghost use Rattle.vericon_app.specs.Words.{form_of};
 ghost use Rattle.vericon_app.specs.Lines.{memory_text};
@@ -60,6 +60,7 @@ fn run_command<F: Files>(
 
 /// Writes a text. The answer is the status where all of it was written.
 fn finish<S: Sink>(out: &mut S, text: &[u8], status: Status) -> u8
+    requires { S.has_failed out.old ≡ false }
     ensures finishes { Finishes text.now (code_of status) (S.written out.old) (S.written out.new) (S.faults out.old) (S.faults out.new) result }
     ensures later { S.faults out.old ≤ S.faults out.new }
 {
@@ -71,6 +72,7 @@ fn finish<S: Sink>(out: &mut S, text: &[u8], status: Status) -> u8
 
 /// Says that there was no memory for the call.
 pub fn no_memory<S: Sink>(out: &mut S) -> u8
+    requires { S.has_failed out.old ≡ false }
     ensures finishes { Finishes memory_text 7 (S.written out.old) (S.written out.new) (S.faults out.old) (S.faults out.new) result }
     ensures later { S.faults out.old ≤ S.faults out.new }
 {
@@ -95,6 +97,7 @@ pub fn check_call<F: Files, S: Sink>(
     files: &mut F,
     out: &mut S,
 ) -> u8
+    requires { S.has_failed out.old ≡ false }
     // what is written, and its status
     ensures output { HasLeft (Output (form_of (map string_bytes words.now)) (inputs_of F.told F.read_faults files.old files.new)) (S.written out.old) (S.written out.new) (S.faults out.old) (S.faults out.new) result }
     // a yes: the program is inductive, and holds its invariants in every network and every run

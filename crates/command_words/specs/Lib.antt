@@ -1,0 +1,4 @@
+pub mod Kinds
+pub mod Options
+pub mod Call
+pub mod Calls
