@@ -1,5 +1,5 @@
 -- Which words are of a kind.
-use Rattle.std.specs.Prelude.{ℕ, Bool, true, false, ◌&&◌, nat_le, List, [], ◌∷◌, Option, Some, None}
+use Rattle.std.specs.Prelude.{ℕ, Bool, true, false, nat_le, if◌then◌else◌, List, [], ◌∷◌, Option, Some, None}
 use Rattle.text_lines.specs.Numbers.{number_of}
 use Rattle.command_words.specs.declared.table.Kind.{Kind}
 use Rattle.command_words.specs.declared.table.Kind.TheVariants.{Text, Number, NotYet}
@@ -18,9 +18,8 @@ fits Text word = true
 fits (Number least most) word = is_at_least least (number_of most word)
 fits NotYet word = false
 
--- there is a word for each kind, and it is of that kind
-abbrev pub all_fit : List Kind → List (List ℕ) → Bool
-all_fit [] [] = true
-all_fit [] (word ∷ words) = false
-all_fit (kind ∷ kinds) [] = false
-all_fit (kind ∷ kinds) (word ∷ words) = fits kind word && all_fit kinds words
+-- the words behind those that are of the kinds, one by one; none where one of them isn't
+abbrev pub behind_kinds : List Kind → List (List ℕ) → Option (List (List ℕ))
+behind_kinds [] words = Some words
+behind_kinds (kind ∷ kinds) [] = None
+behind_kinds (kind ∷ kinds) (word ∷ words) = if fits kind word then behind_kinds kinds words else None

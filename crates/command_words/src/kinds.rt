@@ -1,6 +1,6 @@
 //! Which words are of a kind.
-ghost use Rattle.std.specs.Prelude.{◌≡◌, map, string_bytes};
-ghost use Rattle.command_words.specs.Kinds.{any_number, fits as word_fits, all_fit as words_fit};
+ghost use Rattle.std.specs.Prelude.{◌≡◌, map, string_bytes, option_map};
+ghost use Rattle.command_words.specs.Kinds.{any_number, fits as word_fits, behind_kinds as words_behind};
 
 use crate::table::Kind;
 use text_lines::read_number;
@@ -29,17 +29,21 @@ pub fn fits(kind: Kind, word: &str) -> bool
     }
 }
 
-/// Whether there is a word for each kind, and is of it.
-pub fn all_fit(kinds: &[Kind], words: &[String]) -> bool
-    ensures { result ≡ words_fit kinds.now (map string_bytes words.now) }
+/// The words behind those that are of these kinds, one by one; `None`, where one of them isn't.
+pub fn behind_kinds<'a>(kinds: &[Kind], words: &'a [String]) -> Option<&'a [String]>
+    ensures { option_map (λ behind. map string_bytes behind.now) result ≡ words_behind kinds.now (map string_bytes words.now) }
 {
-    match kinds {
-        [] => words.is_empty(),
-        [kind, kinds_left @ ..] => match words {
-            [] => false,
-            [word, words_left @ ..] => {
-                fits(*kind, word.as_str()) && all_fit(kinds_left, words_left)
-            }
-        },
+    let mut kinds_left = kinds;
+    let mut rest = words;
+    while let [kind, kinds_more @ ..] = kinds_left {
+        let [word, more @ ..] = rest else {
+            return None;
+        };
+        if !fits(*kind, word.as_str()) {
+            return None;
+        }
+        kinds_left = kinds_more;
+        rest = more;
     }
+    Some(rest)
 }

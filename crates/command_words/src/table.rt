@@ -13,7 +13,7 @@ pub enum Command {
 }
 
 /// What a word may be.
-#[derive(Clone, Copy, Debug, PartialEq, Eq)]
+#[derive(Clone, Copy)]
 pub enum Kind {
     /// Any word, as the name of a file.
     Text,
@@ -23,25 +23,19 @@ pub enum Kind {
     NotYet,
 }
 
-/// An option of a command.
-#[derive(Clone, Copy, Debug, PartialEq, Eq)]
-pub struct OptionRow {
-    pub word: &'static str,
-    /// What its value is.
-    pub value: Kind,
-}
+/// An option: its word, and what its value is.
+pub type OptionRow = (&'static str, Kind);
 
-/// A command.
-#[derive(Clone, Copy, Debug, PartialEq, Eq)]
-pub struct CommandRow {
-    pub word: &'static str,
-    pub command: Command,
-    pub options: &'static [OptionRow],
-    /// What its operands are, in their order.
-    pub operands: &'static [Kind],
-    /// What further operands are, of which all stand or none.
-    pub further: &'static [Kind],
-}
+/// A command: its word, its name, its options, its operands, and further operands, of which all stand or none.
+pub type CommandRow = (
+    &'static str,
+    Command,
+    &'static [OptionRow],
+    &'static [Kind],
+    &'static [Kind],
+);
+
+const FILE: Kind = Kind::Text;
 
 const LEVEL: Kind = Kind::Number { least: 0, most: 0 };
 
@@ -50,72 +44,23 @@ const INDEX: Kind = Kind::Number {
     most: 0xffff_ffff,
 };
 
-const STRENGTHEN: OptionRow = OptionRow {
-    word: "--strengthen",
-    value: Kind::NotYet,
-};
+const STRENGTHEN: OptionRow = ("--strengthen", Kind::NotYet);
 
-const LOG: OptionRow = OptionRow {
-    word: "--log",
-    value: Kind::NotYet,
-};
+const LOG: OptionRow = ("--log", Kind::NotYet);
 
 /// The commands that are served.
-pub const COMMANDS: &[CommandRow] = &[
-    // check [--strengthen N] [--log FILE] PROGRAM
-    CommandRow {
-        word: "check",
-        command: Command::Check,
-        options: &[STRENGTHEN, LOG],
-        operands: &[Kind::Text],
-        further: &[],
-    },
-    // show PROGRAM
-    CommandRow {
-        word: "show",
-        command: Command::Show,
-        options: &[],
-        operands: &[Kind::Text],
-        further: &[],
-    },
-    // eval PROGRAM NET [LEVEL INDEX]
-    CommandRow {
-        word: "eval",
-        command: Command::Eval,
-        options: &[],
-        operands: &[Kind::Text, Kind::Text],
-        further: &[LEVEL, INDEX],
-    },
-    // trace PROGRAM NET JOURNAL
-    CommandRow {
-        word: "trace",
-        command: Command::Trace,
-        options: &[],
-        operands: &[Kind::Text, Kind::Text, Kind::Text],
-        further: &[],
-    },
-    // conditions [--strengthen N] PROGRAM
-    CommandRow {
-        word: "conditions",
-        command: Command::Conditions,
-        options: &[STRENGTHEN],
-        operands: &[Kind::Text],
-        further: &[],
-    },
-    // clauses FILE
-    CommandRow {
-        word: "clauses",
-        command: Command::Clauses,
-        options: &[],
-        operands: &[Kind::Text],
-        further: &[],
-    },
-    // frames FILE
-    CommandRow {
-        word: "frames",
-        command: Command::Frames,
-        options: &[],
-        operands: &[Kind::Text],
-        further: &[],
-    },
+pub const COMMANDS: [CommandRow; 7] = [
+    ("check", Command::Check, &[STRENGTHEN, LOG], &[FILE], &[]),
+    ("show", Command::Show, &[], &[FILE], &[]),
+    ("eval", Command::Eval, &[], &[FILE, FILE], &[LEVEL, INDEX]),
+    ("trace", Command::Trace, &[], &[FILE, FILE, FILE], &[]),
+    (
+        "conditions",
+        Command::Conditions,
+        &[STRENGTHEN],
+        &[FILE],
+        &[],
+    ),
+    ("clauses", Command::Clauses, &[], &[FILE], &[]),
+    ("frames", Command::Frames, &[], &[FILE], &[]),
 ];

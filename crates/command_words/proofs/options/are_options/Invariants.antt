@@ -1,9 +1,0 @@
-use Rattle.std.proofs.Common.{◌≡◌, length, map, string_bytes}
-use Rattle.command_words.specs.Options.{are_options}
-use Rattle.command_words.proofs.options.are_options.Given as goal
-
-abbrev pub invariant-loop-rest : goal.invariant-loop-rest
-invariant-loop-rest l = are_options l.rows (map string_bytes l.rest) ≡ are_options l.rows (map string_bytes l.options)
-
-abbrev pub decreases-loop-rest : goal.decreases-loop-rest
-decreases-loop-rest l = length l.rest
