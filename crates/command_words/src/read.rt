@@ -93,3 +93,6 @@ pub fn request_of(words: &[String]) -> Option<Request<'_>>
 {
     read_call(&COMMANDS, words)
 }
+
+#[cfg(test)]
+mod tests;
