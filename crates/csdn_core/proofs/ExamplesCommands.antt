@@ -35,6 +35,7 @@ P = record {
   trans = [];
   handlers = handler (Some 2) Skip ∷ handler None (Insert (rel 0) (x 1 ∷ [])) ∷ handler (Some 1) (Remove (rel 0) (x 1 ∷ [])) ∷ [];
   numerals = 1 ∷ 2 ∷ [];
+  timeout = None;
 }
 
 -- the constant h is host 2

@@ -53,6 +53,7 @@ P = record {
   trans = [];
   handlers = handler (Some 1) from_inside ∷ handler (Some 2) from_outside ∷ [];
   numerals = 1 ∷ 2 ∷ [];
+  timeout = None;
 }
 
 abbrev N : Network

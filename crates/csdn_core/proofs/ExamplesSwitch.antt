@@ -50,6 +50,7 @@ P = record {
   trans = invariant no_black_hole ∷ [];
   handlers = handler None learn ∷ [];
   numerals = [];
+  timeout = None;
 }
 
 -- two hosts and two ports

@@ -1,5 +1,5 @@
 -- Every state that a run reaches has finitely many tuples.
-use Rattle.std.proofs.Common.{◌≡◌, ◌∙◌, sym, subst, refl, ℕ, ◌==◌, Bool, true, false, not, ◌&&◌, ◌||◌, List, [], ◌∷◌, inl, inr, if◌then◌else◌, Option, Some, None}
+use Rattle.std.proofs.Common.{◌≡◌, ◌∙◌, sym, subst, refl, ap₂, ℕ, ◌==◌, Bool, true, false, not, ◌&&◌, ◌||◌, List, [], ◌∷◌, inl, inr, if◌then◌else◌, Option, Some, None}
 use Rattle.std.specs.List.{list_any}
 use Rattle.std.proofs.Math.Bool.{or_comm, or_assoc}
 use Rattle.std.proofs.lemmas.Bool.{and_parts}
@@ -10,17 +10,17 @@ use Rattle.csdn_core.specs.declared.terms.Pred.{Pred}
 use Rattle.csdn_core.specs.declared.terms.Pred.TheVariants.{Stored, Ft, Sent, RcvThis}
 use Rattle.csdn_core.specs.declared.terms.Sort.TheVariants.{Pr}
 use Rattle.csdn_core.specs.declared.event.Event.{Event}
-use Rattle.csdn_core.specs.declared.event.Event.TheVariants.{PktIn, PktFlow}
+use Rattle.csdn_core.specs.declared.event.Event.TheVariants.{PktIn, PktFlow, Expire}
 use Rattle.csdn_core.specs.declared.event.Packet.TheVariants.{Nothing}
 use Rattle.csdn_core.specs.declared.program.Parts.{Parts}
 use Rattle.csdn_core.specs.declared.program.Handler.{Handler}
 use Rattle.csdn_core.specs.declared.program.StartRow.{StartRow}
 use Rattle.csdn_core.specs.declared.syntax.Command.{Command}
-use Rattle.csdn_core.specs.declared.syntax.Command.TheVariants.{Skip, Insert, Remove, Install, Forward, Flood}
+use Rattle.csdn_core.specs.declared.syntax.Command.TheVariants.{Skip, Insert, Remove, Install, Uninstall, Forward, Flood}
 use Rattle.csdn_core.specs.Tree.{sequence, conditional, choice}
 use Rattle.csdn_core.specs.Truth.{Assignment, with_var, values}
 use Rattle.csdn_core.specs.Network.{Network, State, elements, structure, same_pred, same_cells}
-use Rattle.csdn_core.specs.Execution.{put, take_out, flooded, is_flood, tuple, Executes}
+use Rattle.csdn_core.specs.Execution.{put, take_out, take_out_match, flooded, is_flood, is_rule_of, tuple, Executes}
 use Rattle.csdn_core.specs.Run.{empty_state, no_values, initial, first_fit, for_packet, Handles, Step, Run}
 use Rattle.csdn_core.specs.Finite.{Tuple, state_of_tuples, IsFinite}
 
@@ -32,23 +32,16 @@ IsFinite-put x r cells finite = record {
   same = λ q ds. rw (finite.same q ds) (or_comm (state_of_tuples finite.tuples q ds) (same_pred q r && same_cells ds cells));
 }
 
--- one tuple fewer
+-- the tuples fewer that meet a test
 
-abbrev is_it : Pred → List ℕ → Pred → List ℕ → Bool
-is_it r cells q ds = same_pred q r && same_cells ds cells
+without : (Pred → List ℕ → Bool) → List Tuple → List Tuple
+without test [] = []
+without test (t ∷ ts) = if test t.rel t.cells then without test ts else (t ∷ without test ts)
 
-without : Pred → List ℕ → List Tuple → List Tuple
-without r cells [] = []
-without r cells (t ∷ ts) = if is_it r cells t.rel t.cells then without r cells ts else (t ∷ without r cells ts)
-
-is_it-same : (r q p : Pred) (cells ds es : List ℕ) → (same_pred q p && same_cells ds es) ≡ true → is_it r cells q ds ≡ is_it r cells p es
-is_it-same r q p cells ds es is =
+test-same : (test : Pred → List ℕ → Bool) (q p : Pred) (ds es : List ℕ) → (same_pred q p && same_cells ds es) ≡ true → test q ds ≡ test p es
+test-same test q p ds es is =
     let parts : (same_pred q p ≡ true) × (same_cells ds es ≡ true) = and_parts _ _ is in
-    let rel : q ≡ p = same_pred-is q p parts.0 in
-    let row : ds ≡ es = same_cells-is ds es parts.1 in
-    let A : Pred → Type 0 = λ a. is_it r cells q ds ≡ is_it r cells a ds in
-    let B : List ℕ → Type 0 = λ b. is_it r cells q ds ≡ is_it r cells p b in
-    subst B row (subst A rel refl)
+    ap₂ test (same_pred-is q p parts.0) (same_cells-is ds es parts.1)
 
 dropped : (here hit mine rest : Bool) (left : Bool) → (here ≡ true → hit ≡ mine) → (rest && not hit) ≡ left → ((here || rest) && not hit) ≡ (if mine then left else (here || left))
 dropped true true true true left same is = is
@@ -59,24 +52,30 @@ dropped true false false rest left same is = refl
 dropped false hit true rest left same is = is
 dropped false hit false rest left same is = is
 
-without-among : (r : Pred) (cells : List ℕ) (ts : List Tuple) (q : Pred) (ds : List ℕ) → (state_of_tuples ts q ds && not (is_it r cells q ds)) ≡ state_of_tuples (without r cells ts) q ds
+without-among : (test : Pred → List ℕ → Bool) (ts : List Tuple) (q : Pred) (ds : List ℕ) → (state_of_tuples ts q ds && not (test q ds)) ≡ state_of_tuples (without test ts) q ds
 unfolding without
-without-among r cells [] q ds = refl
-without-among r cells (t ∷ ts) q ds =
-    dropped (same_pred q t.rel && same_cells ds t.cells) (is_it r cells q ds) (is_it r cells t.rel t.cells) (state_of_tuples ts q ds) (state_of_tuples (without r cells ts) q ds)
-    (is_it-same r q t.rel cells ds t.cells) (without-among r cells ts q ds)
-    ∙ chosen (is_it r cells t.rel t.cells) t (without r cells ts) q ds
+without-among test [] q ds = refl
+without-among test (t ∷ ts) q ds =
+    dropped (same_pred q t.rel && same_cells ds t.cells) (test q ds) (test t.rel t.cells) (state_of_tuples ts q ds) (state_of_tuples (without test ts) q ds)
+    (test-same test q t.rel ds t.cells) (without-among test ts q ds)
+    ∙ chosen (test t.rel t.cells) t (without test ts) q ds
   where
     chosen : (b : Bool) (t : Tuple) (us : List Tuple) (q : Pred) (ds : List ℕ)
         → (if b then state_of_tuples us q ds else ((same_pred q t.rel && same_cells ds t.cells) || state_of_tuples us q ds)) ≡ state_of_tuples (if b then us else (t ∷ us)) q ds
     chosen true t us q ds = refl
     chosen false t us q ds = refl
 
-pub IsFinite-take_out : (x : State) (r : Pred) (cells : List ℕ) → IsFinite x → IsFinite (take_out x r cells)
-IsFinite-take_out x r cells finite = record {
-  tuples = without r cells finite.tuples;
-  same = λ q ds. rw (finite.same q ds) (without-among r cells finite.tuples q ds);
+IsFinite-without : (x : State) (test : Pred → List ℕ → Bool) → IsFinite x → IsFinite (λ q ds. x q ds && not (test q ds))
+IsFinite-without x test finite = record {
+  tuples = without test finite.tuples;
+  same = λ q ds. rw (finite.same q ds) (without-among test finite.tuples q ds);
 }
+
+pub IsFinite-take_out : (x : State) (r : Pred) (cells : List ℕ) → IsFinite x → IsFinite (take_out x r cells)
+IsFinite-take_out x r cells finite = IsFinite-without x (λ q ds. same_pred q r && same_cells ds cells) finite
+
+pub IsFinite-take_out_match : (x : State) (cells : List ℕ) → IsFinite x → IsFinite (take_out_match x cells)
+IsFinite-take_out_match x cells finite = IsFinite-without x (λ q ds. same_pred q Ft && is_rule_of cells ds) finite
 
 -- a flood
 
@@ -191,6 +190,7 @@ module _ (P : Parts) (N : Network) where
   IsFinite-executed (Insert r ts) e x y finite is = is_made (put x (Stored r) (tuple P N ts e x)) y is (IsFinite-put x (Stored r) (tuple P N ts e x) finite)
   IsFinite-executed (Remove r ts) e x y finite is = is_made (take_out x (Stored r) (tuple P N ts e x)) y is (IsFinite-take_out x (Stored r) (tuple P N ts e x) finite)
   IsFinite-executed (Install ts) e x y finite is = is_made (put x Ft (tuple P N ts e x)) y is (IsFinite-put x Ft (tuple P N ts e x) finite)
+  IsFinite-executed (Uninstall ts) e x y finite is = is_made (take_out x Ft (tuple P N ts e x)) y is (IsFinite-take_out x Ft (tuple P N ts e x) finite)
   IsFinite-executed (Forward ts) e x y finite is = is_made (put x Sent (tuple P N ts e x)) y is (IsFinite-put x Sent (tuple P N ts e x) finite)
   IsFinite-executed (Flood ts) e x y finite is = is_made (flooded x (elements N Pr) (tuple P N ts e x)) y is (IsFinite-flooded x (elements N Pr) (tuple P N ts e x) finite)
 
@@ -201,6 +201,7 @@ module _ (P : Parts) (N : Network) where
   pub IsFinite-step : (x : State) (event : Event) (y : State) → IsFinite x → Step P N x event y → IsFinite y
   IsFinite-step x (PktIn s a b i) y finite step = handled (first_fit P.handlers i) s a b i x y finite step.4
   IsFinite-step x (PktFlow s a b i o) y finite step = is_made (put x Sent (s ∷ a ∷ b ∷ i ∷ o ∷ [])) y step.6 (IsFinite-put x Sent (s ∷ a ∷ b ∷ i ∷ o ∷ []) finite)
+  IsFinite-step x (Expire s a b i) y finite step = is_made (take_out_match x (s ∷ a ∷ b ∷ i ∷ [])) y step.6 (IsFinite-take_out_match x (s ∷ a ∷ b ∷ i ∷ []) finite)
 
   pub IsFinite-run : (x : State) (events : List Event) (y : State) → IsFinite x → Run P N x events y → IsFinite y
   IsFinite-run x [] y finite is = is_made x y is finite

@@ -53,6 +53,10 @@ module _ (P : Parts) (N : Network) (e : Assignment) (x y : State) where
   unfolding Executes
   runs-Install ts is = is
 
+  pub runs-Uninstall : (ts : List Term) → y ≡ take_out x Ft (tuple P N ts e x) → Executes P N (c.Uninstall ts) e x y
+  unfolding Executes
+  runs-Uninstall ts is = is
+
   pub runs-Forward : (ts : List Term) → y ≡ put x Sent (tuple P N ts e x) → Executes P N (c.Forward ts) e x y
   unfolding Executes
   runs-Forward ts is = is
@@ -61,4 +65,4 @@ module _ (P : Parts) (N : Network) (e : Assignment) (x y : State) where
   unfolding Executes
   runs-Flood ts is = is
 
-pub ruleset runs = (runs-Skip, runs-Seq, runs-then, runs-else, runs-pick, runs-none, runs-Insert, runs-Remove, runs-Install, runs-Forward, runs-Flood)
+pub ruleset runs = (runs-Skip, runs-Seq, runs-then, runs-else, runs-pick, runs-none, runs-Insert, runs-Remove, runs-Install, runs-Uninstall, runs-Forward, runs-Flood)

@@ -12,6 +12,8 @@ pub mod Variables
 pub mod Names
 pub mod Numerals
 pub mod Sorted
+pub mod SortedIn
+pub mod Members
 pub mod WellSorted
 pub mod History
 pub mod Finite

@@ -42,6 +42,7 @@ command_numerals (choice v s p a b) = formula_numerals p ++ (command_numerals a 
 command_numerals (c.Insert r ts) = terms_numerals ts
 command_numerals (c.Remove r ts) = terms_numerals ts
 command_numerals (c.Install ts) = terms_numerals ts
+command_numerals (c.Uninstall ts) = terms_numerals ts
 command_numerals (c.Forward ts) = terms_numerals ts
 command_numerals (c.Flood ts) = terms_numerals ts
 

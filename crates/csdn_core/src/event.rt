@@ -1,4 +1,4 @@
-//! What happens in a network, and what a controller enters and answers.
+//! What happens in a network, and what an execution did.
 use sqlite_items::Items;
 
 /// An event of a network: one atomic step.
@@ -19,6 +19,13 @@ pub enum Event {
         i: u64,
         o: u64,
     },
+    /// The flow rules of one match end, after a time without packets.
+    Expire {
+        s: u64,
+        a: u64,
+        b: u64,
+        i: u64,
+    },
 }
 
 /// The packet of which formulas may speak: its switch, source, destination and ingress port.
@@ -26,26 +33,6 @@ pub enum Event {
 pub enum Packet {
     Nothing,
     At { s: u64, a: u64, b: u64, i: u64 },
-}
-
-/// What a controller's history records, with the seat and the session that brought it.
-#[derive(Clone, Copy, Debug, PartialEq, Eq)]
-pub enum Entry {
-    /// A switch joined.
-    Join {
-        seat: u32,
-        session: u32,
-        s: u64,
-    },
-    /// A packet came in.
-    Packet {
-        seat: u32,
-        session: u32,
-        s: u64,
-        a: u64,
-        b: u64,
-        i: u64,
-    },
 }
 
 /// What a flow rule fits: the packets of one switch with this source, destination and ingress port.
@@ -70,29 +57,12 @@ pub type Matches = Items<Match>;
 
 pub type Outs = Items<Out>;
 
-pub type Elements = Items<u64>;
-
-pub type Rules = Items<Rule>;
-
 /// What an execution did.
 #[derive(Drop)]
 pub struct Tally {
-    /// The matches whose set of output ports grew, in the order of their first change.
+    /// The matches whose set of output ports is another one than before, in the order of the first command that
+    /// changed it.
     pub changed: Matches,
     /// The forwards and floods in the order of the commands, each once at its first place.
-    pub outs: Outs,
-}
-
-/// A flow rule: all output ports of a match, rising.
-#[derive(Drop)]
-pub struct Rule {
-    pub key: Match,
-    pub ports: Elements,
-}
-
-/// What a controller answers to an entry.
-#[derive(Drop)]
-pub struct Reply {
-    pub rules: Rules,
     pub outs: Outs,
 }

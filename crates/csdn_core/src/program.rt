@@ -27,7 +27,6 @@ pub type Handlers = Items<Handler>;
 pub type Numerals = Items<u16>;
 
 /// What is done with a packet that comes in.
-#[derive(Drop)]
 pub struct Handler {
     /// The port that it is for; `None` for every port.
     pub port: Option<u16>,
@@ -40,6 +39,19 @@ pub struct Handler {
     /// Stands for the ingress port.
     pub i: VarId,
     pub body: Command,
+}
+
+impl Drop for Handler {
+    fn drop(self) {
+        let Handler {
+            port: _,
+            s: _,
+            a: _,
+            b: _,
+            i: _,
+            body: _body,
+        } = self;
+    }
 }
 
 /// A declared relation.
@@ -60,10 +72,18 @@ pub struct Constant {
 }
 
 /// An invariant and its name.
-#[derive(Drop)]
 pub struct Invariant {
     pub name: Text,
     pub formula: Formula,
+}
+
+impl Drop for Invariant {
+    fn drop(self) {
+        let Invariant {
+            name: _name,
+            formula: _formula,
+        } = self;
+    }
 }
 
 /// A tuple that a relation has at the start.
@@ -74,7 +94,6 @@ pub struct StartRow {
 }
 
 /// The parts of a program, each in the order of its text.
-#[derive(Drop)]
 pub struct Parts {
     pub relations: Relations,
     pub constants: Constants,
@@ -88,6 +107,24 @@ pub struct Parts {
     pub handlers: Handlers,
     /// All k with `prt(k)` in the program, rising and each once.
     pub numerals: Numerals,
+    /// After how many seconds without a packet the flow rules of a match end; `None` where they stay.
+    pub timeout: Option<u16>,
+}
+
+impl Drop for Parts {
+    fn drop(self) {
+        let Parts {
+            relations: _relations,
+            constants: _constants,
+            start: _start,
+            topology: _topology,
+            safety: _safety,
+            trans: _trans,
+            handlers: _handlers,
+            numerals: _numerals,
+            timeout: _,
+        } = self;
+    }
 }
 
 impl Parts {
@@ -104,6 +141,7 @@ impl Parts {
             trans: copy_each(alloc, self.trans.as_slice())?,
             handlers: copy_each(alloc, self.handlers.as_slice())?,
             numerals: Items::from_slice(alloc, self.numerals.as_slice())?,
+            timeout: self.timeout,
         })
     }
 }

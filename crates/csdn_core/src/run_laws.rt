@@ -6,12 +6,13 @@ ghost use Rattle.csdn_core.specs.declared.program.Parts.{Parts as AnyParts};
 ghost use Rattle.csdn_core.specs.declared.event.Packet.{Packet as AnyPacket};
 ghost use Rattle.csdn_core.specs.declared.terms.Place.{Place as AnyPlace};
 ghost use Rattle.csdn_core.specs.declared.syntax.Formula.{Formula as AnyFormula};
-ghost use Rattle.csdn_core.specs.Truth.{truth};
+ghost use Rattle.csdn_core.specs.Truth.{Structure, Assignment, truth};
 ghost use Rattle.csdn_core.specs.Network.{Network, State, structure, IsNetwork};
 ghost use Rattle.csdn_core.specs.Run.{initial, no_values, Run};
-ghost use Rattle.csdn_core.specs.Sorted.{IsSorted, bound_in};
+ghost use Rattle.csdn_core.specs.Sorted.{Signature, IsAllowed, IsSorted, bound_in};
+ghost use Rattle.csdn_core.specs.SortedIn.{Scope, IsSortedIn};
 ghost use Rattle.csdn_core.specs.WellSorted.{signature};
-ghost use Rattle.csdn_core.specs.Agreement.{AgreeOnElements};
+ghost use Rattle.csdn_core.specs.Agreement.{IsStructureOf, AgreeOn, AgreeInScope, AgreeOnElements};
 ghost use Rattle.csdn_core.specs.Holds.{Holds};
 ghost use Rattle.csdn_core.specs.History.{HoldsInAllHistories};
 ghost use Rattle.csdn_core.specs.Finite.{IsFinite};
@@ -26,6 +27,13 @@ pub fn holds_in_histories()
 /// Every state that a run reaches has finitely many tuples.
 pub fn reached_states_are_finite()
     ensures { (P : AnyParts) (N : Network) (events : List AnyEvent) (y : State) → Run P N (initial P N) events y → IsFinite y }
+{}
+
+/// Truth looks only at what a formula names: in two structures that have the same elements, constants and, in the
+/// relations that a well-sorted formula may name at its place, the same tuples of elements, and under two assignments that
+/// give the variables in scope the same elements of their sorts, the formula has the same truth.
+pub fn truth_sees_what_is_named()
+    ensures { (S : Signature) (place : AnyPlace) (M K : Structure) → IsStructureOf S M → AgreeOn S (IsAllowed S place) M K → (scope : Scope) (p : AnyFormula) (e d : Assignment) → IsSortedIn S (IsAllowed S place) scope p → AgreeInScope M scope e d → truth M p e ≡ truth K p d }
 {}
 
 /// Truth looks only at tuples of a network's elements: in two states that agree on them, a well-sorted sentence whose bound

@@ -36,6 +36,8 @@ pub enum Command {
     Remove(RelId, Terms),
     /// Puts five terms into the flow tables.
     Install(Terms),
+    /// Takes five terms out of the flow tables.
+    Uninstall(Terms),
     /// Puts five terms into the packets sent.
     Forward(Terms),
     /// Sends the packet of four terms from every port but its own.
@@ -105,6 +107,7 @@ impl Command {
             Command::Insert(rel, terms) => Command::Insert(*rel, terms.copy()),
             Command::Remove(rel, terms) => Command::Remove(*rel, terms.copy()),
             Command::Install(terms) => Command::Install(terms.copy()),
+            Command::Uninstall(terms) => Command::Uninstall(terms.copy()),
             Command::Forward(terms) => Command::Forward(terms.copy()),
             Command::Flood(terms) => Command::Flood(terms.copy()),
         })

@@ -1,5 +1,7 @@
 //! Sorts, terms, relations and the lists of terms that an atom takes.
 ghost use Rattle.std.specs.Prelude.{◌≡◌, ◌<◌, ◌≤◌, [], ◌∷◌, ◌++◌, length};
+ghost use Rattle.csdn_core.specs.Network.{same_pred};
+ghost use Rattle.csdn_core.specs.Same.{same_sort};
 
 use arrayvec::ArrayVec;
 use std::marker::Model;
@@ -14,6 +16,26 @@ pub enum Sort {
     /// Ports.
     Pr,
 }
+
+impl Sort {
+    /// Whether it is the same sort.
+    pub fn is_same(self, other: Sort) -> bool
+        ensures { result ≡ same_sort self other }
+    {
+        match (self, other) {
+            (Sort::Sw, Sort::Sw) => true,
+            (Sort::Ho, Sort::Ho) => true,
+            (Sort::Pr, Sort::Pr) => true,
+            _ => false,
+        }
+    }
+}
+
+/// The sorts of `ft` and `sent`: switch, source, destination, ingress port, egress port.
+pub const FLOW_SORTS: [Sort; 5] = [Sort::Sw, Sort::Ho, Sort::Ho, Sort::Pr, Sort::Pr];
+
+/// The most variables that may be in scope.
+pub const MOST_VARIABLES: usize = 24;
 
 /// The number of a variable. Each bound variable of a program has a number of its own.
 #[derive(Clone, Copy, Debug, PartialEq, Eq)]
@@ -46,6 +68,21 @@ pub enum Pred {
     Sent,
     /// The packet at hand: switch, source, destination, ingress port.
     RcvThis,
+}
+
+impl Pred {
+    /// Whether it is the same relation.
+    pub fn is_same(self, other: Pred) -> bool
+        ensures { result ≡ same_pred self other }
+    {
+        match (self, other) {
+            (Pred::Stored(r), Pred::Stored(q)) => r == q,
+            (Pred::Ft, Pred::Ft) => true,
+            (Pred::Sent, Pred::Sent) => true,
+            (Pred::RcvThis, Pred::RcvThis) => true,
+            _ => false,
+        }
+    }
 }
 
 /// Where a formula stands, which decides what relations it may name.

@@ -65,6 +65,10 @@ install_is : IsWord (codes "install") k.Install
 unfolding word_kind
 install_is = reserved (codes "install") k.Install refl (omega arith) refl
 
+uninstall_is : IsWord (codes "uninstall") k.Uninstall
+unfolding word_kind
+uninstall_is = reserved (codes "uninstall") k.Uninstall refl (omega arith) refl
+
 forward_is : IsWord (codes "forward") k.Forward
 unfolding word_kind
 forward_is = reserved (codes "forward") k.Forward refl (omega arith) refl
@@ -98,6 +102,7 @@ command_room d (raw_pick x s p a b) h = let e = command_room (d + 1) a h.1.1.0 i
 command_room d (c.Insert x us) h = h.0
 command_room d (c.Remove x us) h = h.0
 command_room d (c.Install ts) h = h.0
+command_room d (c.Uninstall ts) h = h.0
 command_room d (c.Forward ts) h = h.0
 command_room d (c.Flood ts) h = h.0
 
@@ -116,6 +121,7 @@ skip_is_skip (raw_pick x s p a b) h = absurd cc
 skip_is_skip (c.Insert x us) h = absurd cc
 skip_is_skip (c.Remove x us) h = absurd cc
 skip_is_skip (c.Install ts) h = absurd cc
+skip_is_skip (c.Uninstall ts) h = absurd cc
 skip_is_skip (c.Forward ts) h = absurd cc
 skip_is_skip (c.Flood ts) h = absurd cc
 
@@ -184,6 +190,18 @@ install_reads ts = single (c.Install ts) (λ i blanks most d h at.
       same = ap c.Install a.same;
     })
 
+uninstall_reads : (ts : RawFlow) → CommandReads (c.Uninstall ts)
+unfolding command_text CommandPrints bare_command
+uninstall_reads ts = single (c.Uninstall ts) (λ i blanks most d h at.
+    let start = at + length (32 ∷ i) in
+    let x : RawName = record { at = start; text = ts.switch.text } in
+    let a = flow_again x ts h.0 h.1 (start + length ts.switch.text + 1 + 9) in
+    record {
+      value = _;
+      line = by _ (inr (inr (inr (inl refl)))) (gaps (32 ∷ i) at blanks (before (name_line ts.switch h.0 h.1.0) refl (symbol dot_is h.0 (before (by _ (inr (inr (inr (inl refl)))) (word (codes "uninstall") uninstall_is h.0 refl (final a.line))) refl (symbol semicolon_is h.0 (gap 10 refl nil))))));
+      same = ap c.Uninstall a.same;
+    })
+
 forward_reads : (ts : RawFlow) → CommandReads (c.Forward ts)
 unfolding command_text CommandPrints bare_command
 forward_reads ts = single (c.Forward ts) (λ i blanks most d h at.
@@ -192,7 +210,7 @@ forward_reads ts = single (c.Forward ts) (λ i blanks most d h at.
     let a = flow_again x ts h.0 h.1 (start + length ts.switch.text + 1 + 7) in
     record {
       value = _;
-      line = by _ (inr (inr (inr (inl refl)))) (gaps (32 ∷ i) at blanks (before (name_line ts.switch h.0 h.1.0) refl (symbol dot_is h.0 (before (by _ (inr (inr (inr (inl refl)))) (word (codes "forward") forward_is h.0 refl (final a.line))) refl (symbol semicolon_is h.0 (gap 10 refl nil))))));
+      line = by _ (inr (inr (inr (inl refl)))) (gaps (32 ∷ i) at blanks (before (name_line ts.switch h.0 h.1.0) refl (symbol dot_is h.0 (before (by _ (inr (inr (inr (inr (inl refl))))) (word (codes "forward") forward_is h.0 refl (final a.line))) refl (symbol semicolon_is h.0 (gap 10 refl nil))))));
       same = ap c.Forward a.same;
     })
 
@@ -204,7 +222,7 @@ flood_reads ts = single (c.Flood ts) (λ i blanks most d h at.
     let a = packet_again x ts h.0 h.1 (start + length ts.switch.text + 1 + 5) in
     record {
       value = _;
-      line = by _ (inr (inr (inr (inl refl)))) (gaps (32 ∷ i) at blanks (before (name_line ts.switch h.0 h.1.0) refl (symbol dot_is h.0 (before (by _ (inr (inr (inr (inr (inl refl))))) (word (codes "flood") flood_is h.0 refl (final a.line))) refl (symbol semicolon_is h.0 (gap 10 refl nil))))));
+      line = by _ (inr (inr (inr (inl refl)))) (gaps (32 ∷ i) at blanks (before (name_line ts.switch h.0 h.1.0) refl (symbol dot_is h.0 (before (by _ (inr (inr (inr (inr (inr (inl refl)))))) (word (codes "flood") flood_is h.0 refl (final a.line))) refl (symbol semicolon_is h.0 (gap 10 refl nil))))));
       same = ap c.Flood a.same;
     })
 
@@ -254,6 +272,7 @@ opens_command i (raw_pick x s p a b) = refl
 opens_command i (c.Insert x us) = refl
 opens_command i (c.Remove x us) = refl
 opens_command i (c.Install ts) = refl
+opens_command i (c.Uninstall ts) = refl
 opens_command i (c.Forward ts) = refl
 opens_command i (c.Flood ts) = refl
 
@@ -280,5 +299,6 @@ command_reads (raw_pick x s p a b) = pick_reads x s p a b (command_reads a) (com
 command_reads (c.Insert x us) = insert_reads x us
 command_reads (c.Remove x us) = remove_reads x us
 command_reads (c.Install ts) = install_reads ts
+command_reads (c.Uninstall ts) = uninstall_reads ts
 command_reads (c.Forward ts) = forward_reads ts
 command_reads (c.Flood ts) = flood_reads ts

@@ -19,7 +19,7 @@ use Rattle.csdn_text.specs.declared.parts.FlowTerms.{FlowTerms}
 use Rattle.csdn_text.specs.declared.parts.PacketTerms.{PacketTerms}
 use Rattle.csdn_text.specs.declared.parts.Quantifier.{Quantifier}
 use Rattle.csdn_text.specs.declared.parts.Quantifier.TheVariants as q
-use Rattle.csdn_text.specs.Symbols.{Nonterminal, program, items, item, static_item, const_item, rel_item, invariant_item, invariant_kind, handler_item, handler_port, sorts, sort_list, more_sorts, sort, initial, rows, more_rows, row, terms, more_terms, name, term, port, formula, binds, more_binds, iff, iff_tail, implies, implies_tail, either, either_tail, both, both_tail, unary, atom, atom_rest, fact, flow, packet, block, commands, more_commands, command, branch, choice, otherwise, action, depth_of, Symbol, token, part, Value, Values, made, Rule}
+use Rattle.csdn_text.specs.Symbols.{Nonterminal, program, items, item, static_item, const_item, rel_item, invariant_item, invariant_kind, handler_item, handler_port, timeout_item, sorts, sort_list, more_sorts, sort, initial, rows, more_rows, row, terms, more_terms, name, term, port, formula, binds, more_binds, iff, iff_tail, implies, implies_tail, either, either_tail, both, both_tail, unary, atom, atom_rest, fact, flow, packet, block, commands, more_commands, command, branch, choice, otherwise, action, depth_of, Symbol, token, part, Value, Values, made, Rule}
 use Rattle.csdn_text.specs.Grammar.{joined, quantified, atom_of, command_of}
 use Rattle.csdn_text.specs.Derives.{Mark, tokens_of, IsRule, Derives}
 use Rattle.csdn_text.specs.Derives.Derives.{nothing, one, by_rule}
@@ -172,6 +172,7 @@ abbrev ActionPrints : Action → Type 0
 ActionPrints (a.Insert ts) = TermsPrint ts
 ActionPrints (a.Remove ts) = TermsPrint ts
 ActionPrints (a.Install ts) = FlowTermsPrint ts
+ActionPrints (a.Uninstall ts) = FlowTermsPrint ts
 ActionPrints (a.Forward ts) = FlowTermsPrint ts
 ActionPrints (a.Flood ts) = PacketTermsPrint ts
 
@@ -184,6 +185,7 @@ unfolding CommandPrints is_single
 action_prints most d x (a.Insert ts) h i j = (refl, (h, (i, j)))
 action_prints most d x (a.Remove ts) h i j = (refl, (h, (i, j)))
 action_prints most d x (a.Install ts) h i j = (refl, (h, (i, j)))
+action_prints most d x (a.Uninstall ts) h i j = (refl, (h, (i, j)))
 action_prints most d x (a.Forward ts) h i j = (refl, (h, (i, j)))
 action_prints most d x (a.Flood ts) h i j = (refl, (h, (i, j)))
 
@@ -235,6 +237,7 @@ Good most d rel_item v = ItemPrints most d v
 Good most d invariant_item v = ItemPrints most d v
 Good most d invariant_kind v = Unit {0}
 Good most d handler_item v = ItemPrints most d v
+Good most d timeout_item v = ItemPrints most d v
 Good most d handler_port v = PatternPrints v
 Good most d sorts v = Unit {0}
 Good most d sort_list v = Unit {0}
@@ -294,7 +297,8 @@ keeps most d item r (inr (inl e)) = subst (Keeps most d item) e (λ us g. g.0)
 keeps most d item r (inr (inr (inl e))) = subst (Keeps most d item) e (λ us g. g.0)
 keeps most d item r (inr (inr (inr (inl e)))) = subst (Keeps most d item) e (λ us g. g.0)
 keeps most d item r (inr (inr (inr (inr (inl e))))) = subst (Keeps most d item) e (λ us g. g.0)
-keeps most d item r (inr (inr (inr (inr (inr (a)))))) = absurd a
+keeps most d item r (inr (inr (inr (inr (inr (inl e)))))) = subst (Keeps most d item) e (λ us g. g.0)
+keeps most d item r (inr (inr (inr (inr (inr (inr (a))))))) = absurd a
 keeps most d static_item r (inl e) = subst (Keeps most d static_item) e (λ us g. (g.1.0.1, (tt, λ e. refl)))
 keeps most d static_item r (inr (a)) = absurd a
 keeps most d const_item r (inl e) = subst (Keeps most d const_item) e (λ us g. g.1.0.1)
@@ -309,6 +313,8 @@ keeps most d invariant_kind r (inr (inr (inl e))) = subst (Keeps most d invarian
 keeps most d invariant_kind r (inr (inr (inr (a)))) = absurd a
 keeps most d handler_item r (inl e) = subst (Keeps most d handler_item) e (λ us g. (g.1.1.0.1, (g.1.1.1.1.0.1, (g.1.1.1.1.1.1.0.1, (g.1.1.1.1.1.1.1.1.0, g.1.1.1.1.1.1.1.1.1.1.0)))))
 keeps most d handler_item r (inr (a)) = absurd a
+keeps most d timeout_item r (inl e) = subst (Keeps most d timeout_item) e (λ us g. g.1.0.1.0.number g.1.0.1.1)
+keeps most d timeout_item r (inr (a)) = absurd a
 keeps most d handler_port r (inl e) = subst (Keeps most d handler_port) e (λ us g. g.0.1)
 keeps most d handler_port r (inr (inl e)) = subst (Keeps most d handler_port) e (λ us g. g.0.1)
 keeps most d handler_port r (inr (inr (a))) = absurd a
@@ -422,7 +428,8 @@ keeps most d action r (inr (inl e)) = subst (Keeps most d action) e (λ us g. g.
 keeps most d action r (inr (inr (inl e))) = subst (Keeps most d action) e (λ us g. g.1.0)
 keeps most d action r (inr (inr (inr (inl e)))) = subst (Keeps most d action) e (λ us g. g.1.0)
 keeps most d action r (inr (inr (inr (inr (inl e))))) = subst (Keeps most d action) e (λ us g. g.1.0)
-keeps most d action r (inr (inr (inr (inr (inr (a)))))) = absurd a
+keeps most d action r (inr (inr (inr (inr (inr (inl e)))))) = subst (Keeps most d action) e (λ us g. g.1.0)
+keeps most d action r (inr (inr (inr (inr (inr (inr (a))))))) = absurd a
 
 fine_front : (ms ms' : List Mark) → AreFine (tokens_of (ms ++ ms')) → AreFine (tokens_of ms)
 fine_front [] ms' h = tt

@@ -1,6 +1,7 @@
 -- Each program that prints is read again from its text.
 use Rattle.std.proofs.Common.{◌≡◌, ℕ, ◌+◌, ◌≤◌, Bool, true, false, cond, List, [], ◌∷◌, ◌++◌, length, map, inl, inr, refl, sym, subst, ap, ap₂, ◌∙◌, append-nil, arith}
 use Rattle.std.specs.Prelude.{codes}
+use Rattle.csdn_core.specs.WellSorted.{IsNumeral}
 use Rattle.csdn_core.specs.declared.terms.Sort.{Sort}
 use Rattle.csdn_tokens.specs.declared.Kind.TheVariants as k
 use Rattle.csdn_tokens.specs.declared.Token.{Token}
@@ -18,6 +19,7 @@ use Rattle.csdn_tree.specs.declared.syntax.RawPattern.TheVariants.{Any as AnyPor
 use Rattle.csdn_tree.specs.declared.syntax.RawProgram.{RawProgram}
 use Rattle.csdn_tree.specs.declared.syntax.RawRelation.{RawRelation}
 use Rattle.csdn_tree.specs.declared.syntax.RawRow.{RawRow}
+use Rattle.csdn_tree.specs.declared.syntax.RawTimeout.{RawTimeout}
 use Rattle.csdn_text.specs.Symbols.{here, part, program, items, item as item_part, invariant_kind, handler_port, initial}
 use Rattle.csdn_text.specs.Derives.{Mark, tokens_of, Derives}
 use Rattle.csdn_text.specs.Derives.Derives.{nothing, one as one_token, by_rule}
@@ -33,7 +35,7 @@ use Rattle.csdn_print.specs.Programs.{initial_text, relation_text, pattern_text,
 use Rattle.csdn_print.specs.Placeless.{bare_name, bare_row, bare_pattern, bare_item, bare_program}
 use Rattle.csdn_print.proofs.Prints.{NamePrints, PatternPrints, RowsPrint, HandlerPrints, ItemPrints, ItemsPrint, Prints}
 use Rattle.csdn_print.proofs.Lexing.{opens, IsWord, reserved, open_is, close_is, begin_is, end_is, comma_is, colon_is, semicolon_is, equals_is}
-use Rattle.csdn_print.proofs.Lines.{Line, nil, gap, symbol, arrow, word, by, before, final}
+use Rattle.csdn_print.proofs.Lines.{Line, nil, gap, symbol, arrow, word, number, by, before, final}
 use Rattle.csdn_print.proofs.WordLines.{Again, name_line, port_line, sort_line, sorts_line, rows_again}
 use Rattle.csdn_print.proofs.FormulaTexts.{room_of}
 use Rattle.csdn_print.proofs.CommandTexts.{whole_formula, block_again, command_room, command_reads}
@@ -71,6 +73,10 @@ trans_is = reserved (codes "trans") k.Trans refl (omega arith) refl
 pktin_is : IsWord (codes "pktIn") k.PktIn
 unfolding word_kind
 pktin_is = reserved (codes "pktIn") k.PktIn refl (omega arith) refl
+
+timeout_is : IsWord (codes "timeout") k.Timeout
+unfolding word_kind
+timeout_is = reserved (codes "timeout") k.Timeout refl (omega arith) refl
 
 -- ---- items
 
@@ -136,7 +142,7 @@ invariant_from {d = d} {at = at} kind w x p h is first =
     let a = whole_formula p h (at + length w + 1 + length x.text + 1 + 1) in
     record {
       value = item.Invariant kind (record { at = at + length w + 1; text = x.text }) a.value;
-      line = by _ (inr (inr (inr (inr (inl refl))))) (final (by _ (inl refl) (before first refl (gap 32 refl (before (name_line x room is) refl (symbol colon_is room (gap 32 refl (before a.line refl (symbol semicolon_is room nil)))))))));
+      line = by _ (inr (inr (inr (inr (inr (inl refl)))))) (final (by _ (inl refl) (before first refl (gap 32 refl (before (name_line x room is) refl (symbol colon_is room (gap 32 refl (before a.line refl (symbol semicolon_is room nil)))))))));
       same = ap (item.Invariant kind (bare_name x)) a.same;
     }
 
@@ -166,11 +172,19 @@ handler_again {most} {d} h is at =
       same = let e = i.same in let e' = body.same in cc;
     }
 
+timeout_again : {most d : ℕ} (t : RawTimeout) → d ≤ most → IsNumeral t.seconds → (at : ℕ) → Again most d at item_part (item_text (item.Timeout t)) (SameItem (item.Timeout t))
+timeout_again t room is at = record {
+  value = item.Timeout (record { at = at; seconds = t.seconds });
+  line = by _ (inr (inr (inr (inr (inl refl))))) (final (by _ (inl refl) (word (codes "timeout") timeout_is room refl (gap 32 refl (number t.seconds is room refl (symbol semicolon_is room nil))))));
+  same = refl;
+}
+
 item_again : {most d : ℕ} (x : RawItem) → d ≤ most → ItemPrints most d x → (at : ℕ) → Again most d at item_part (item_text x) (SameItem x)
 item_again (item.Relation r) room is at = relation_again r room is.0 is.1.0 is.1.1 at
 item_again (item.Constant x s) room is at = const_again x s room is at
 item_again (item.Invariant kind x p) room is at = invariant_again kind x p is.1 is.0 at
 item_again (item.Handler h) room is at = handler_again h is at
+item_again (item.Timeout t) room is at = timeout_again t room is at
 
 items_again : {most d : ℕ} (xs : List RawItem) → d ≤ most → ItemsPrint most d xs → (at : ℕ) → Again most d at items (items_text xs) (λ vs. map bare_item vs ≡ map bare_item xs)
 items_again [] room are at = record { value = []; line = by _ (inr (inl refl)) nil; same = refl }

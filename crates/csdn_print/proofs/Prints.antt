@@ -74,6 +74,7 @@ is_single (raw_pick x s p a b) = true
 is_single (c.Insert x us) = true
 is_single (c.Remove x us) = true
 is_single (c.Install ts) = true
+is_single (c.Uninstall ts) = true
 is_single (c.Forward ts) = true
 is_single (c.Flood ts) = true
 
@@ -85,6 +86,7 @@ CommandPrints most d (raw_pick x s p a b) = NamePrints x × (Prints most d p × 
 CommandPrints most d (c.Insert x us) = (d ≤ most) × (NamePrints x × TermsPrint us)
 CommandPrints most d (c.Remove x us) = (d ≤ most) × (NamePrints x × TermsPrint us)
 CommandPrints most d (c.Install ts) = (d ≤ most) × FlowPrints ts
+CommandPrints most d (c.Uninstall ts) = (d ≤ most) × FlowPrints ts
 CommandPrints most d (c.Forward ts) = (d ≤ most) × FlowPrints ts
 CommandPrints most d (c.Flood ts) = (d ≤ most) × PacketPrints ts
 
@@ -105,6 +107,7 @@ ItemPrints most d (item.Relation r) = NamePrints r.name × (RowsPrint r.rows × 
 ItemPrints most d (item.Constant x s) = NamePrints x
 ItemPrints most d (item.Invariant kind x p) = NamePrints x × Prints most d p
 ItemPrints most d (item.Handler h) = HandlerPrints most d h
+ItemPrints most d (item.Timeout t) = IsNumeral t.seconds
 
 abbrev pub ItemsPrint : (most d : ℕ) → List RawItem → Type 0
 ItemsPrint most d [] = Unit {0}

@@ -19,6 +19,7 @@ is_skip (raw_pick x s p a b) = false
 is_skip (c.Insert x us) = false
 is_skip (c.Remove x us) = false
 is_skip (c.Install ts) = false
+is_skip (c.Uninstall ts) = false
 is_skip (c.Forward ts) = false
 is_skip (c.Flood ts) = false
 
@@ -40,5 +41,6 @@ command_text indent (raw_pick x s p a b) = indent · codes "pick " · x.text · 
 command_text indent (c.Insert x us) = indent · x.text · codes ".insert" · terms_text us · codes ";\n"
 command_text indent (c.Remove x us) = indent · x.text · codes ".remove" · terms_text us · codes ";\n"
 command_text indent (c.Install ts) = indent · ts.switch.text · codes ".install" · flow_text ts · codes ";\n"
+command_text indent (c.Uninstall ts) = indent · ts.switch.text · codes ".uninstall" · flow_text ts · codes ";\n"
 command_text indent (c.Forward ts) = indent · ts.switch.text · codes ".forward" · flow_text ts · codes ";\n"
 command_text indent (c.Flood ts) = indent · ts.switch.text · codes ".flood" · packet_text ts · codes ";\n"

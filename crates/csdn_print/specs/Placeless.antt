@@ -62,6 +62,7 @@ bare_command (raw_pick x s p a b) = c.Pick (bare_name x) s (bare_formula p) (bar
 bare_command (c.Insert x us) = c.Insert (bare_name x) (bare_terms us)
 bare_command (c.Remove x us) = c.Remove (bare_name x) (bare_terms us)
 bare_command (c.Install ts) = c.Install (bare_flow ts)
+bare_command (c.Uninstall ts) = c.Uninstall (bare_flow ts)
 bare_command (c.Forward ts) = c.Forward (bare_flow ts)
 bare_command (c.Flood ts) = c.Flood (bare_packet ts)
 
@@ -83,6 +84,7 @@ bare_item (item.Relation r) = item.Relation (bare_relation r)
 bare_item (item.Constant x s) = item.Constant (bare_name x) s
 bare_item (item.Invariant kind x p) = item.Invariant kind (bare_name x) (bare_formula p)
 bare_item (item.Handler h) = item.Handler (bare_handler h)
+bare_item (item.Timeout t) = item.Timeout (record { at = 0; seconds = t.seconds })
 
 -- the tree, places aside
 abbrev pub bare_program : RawProgram → RawProgram

@@ -1,5 +1,6 @@
 -- The text of a program: one item after another, each on lines of its own.
 use Rattle.std.specs.Prelude.{ℕ, if◌then◌else◌, List, [], ◌∷◌, codes, map}
+use Rattle.std.specs.Fmt.{decimal}
 use Rattle.csdn_tree.specs.declared.syntax.InvariantKind.{InvariantKind}
 use Rattle.csdn_tree.specs.declared.syntax.InvariantKind.TheVariants as v
 use Rattle.csdn_tree.specs.declared.syntax.RawItem.{RawItem}
@@ -38,6 +39,7 @@ item_text (item.Constant x s) = codes "const " · x.text · codes ":" · sort_te
 item_text (item.Invariant kind x p) = invariant_word kind · x.text · codes ": " · formula_text Nothing p · codes ";"
 item_text (item.Handler h) = codes "pktIn(" · h.switch.text · codes ", " · h.source.text · codes "->" · h.target.text · codes ", " · pattern_text h.ingress · codes ") "
     · block_text [] (command_text (inner []) h.body)
+item_text (item.Timeout t) = codes "timeout " · decimal t.seconds · codes ";"
 
 -- items one after another, each with the end of its line
 abbrev pub items_text : List RawItem → List ℕ

@@ -152,6 +152,10 @@ pub is_skip-Install : (ts : RawFlow) → is_skip (c.Install ts) ≡ false
 unfolding is_skip
 is_skip-Install ts = refl
 
+pub is_skip-Uninstall : (ts : RawFlow) → is_skip (c.Uninstall ts) ≡ false
+unfolding is_skip
+is_skip-Uninstall ts = refl
+
 pub is_skip-Forward : (ts : RawFlow) → is_skip (c.Forward ts) ≡ false
 unfolding is_skip
 is_skip-Forward ts = refl
@@ -187,6 +191,10 @@ command_text-Remove indent x us = refl
 pub command_text-Install : (indent : List ℕ) (ts : RawFlow) → command_text indent (c.Install ts) ≡ indent · ts.switch.text · codes ".install" · flow_text ts · codes ";\n"
 unfolding command_text
 command_text-Install indent ts = refl
+
+pub command_text-Uninstall : (indent : List ℕ) (ts : RawFlow) → command_text indent (c.Uninstall ts) ≡ indent · ts.switch.text · codes ".uninstall" · flow_text ts · codes ";\n"
+unfolding command_text
+command_text-Uninstall indent ts = refl
 
 pub command_text-Forward : (indent : List ℕ) (ts : RawFlow) → command_text indent (c.Forward ts) ≡ indent · ts.switch.text · codes ".forward" · flow_text ts · codes ";\n"
 unfolding command_text
@@ -276,6 +284,10 @@ pub bare_command-Install : (ts : RawFlow) → bare_command (c.Install ts) ≡ c.
 unfolding bare_command
 bare_command-Install ts = refl
 
+pub bare_command-Uninstall : (ts : RawFlow) → bare_command (c.Uninstall ts) ≡ c.Uninstall (bare_flow ts)
+unfolding bare_command
+bare_command-Uninstall ts = refl
+
 pub bare_command-Forward : (ts : RawFlow) → bare_command (c.Forward ts) ≡ c.Forward (bare_flow ts)
 unfolding bare_command
 bare_command-Forward ts = refl
@@ -286,6 +298,6 @@ bare_command-Flood ts = refl
 
 pub ruleset formula_steps = (level-True, level-False, level-Atom, level-Same, level-Flow, level-RcvThis, level-Not, level-And, level-Or, level-Implies, level-Iff, level-Forall, level-Exists, formula_text-True, formula_text-False, formula_text-Atom, formula_text-Same, formula_text-Flow, formula_text-RcvThis, formula_text-Not, formula_text-And, formula_text-Or, formula_text-Implies, formula_text-Iff, formula_text-Forall, formula_text-Exists)
 
-pub ruleset command_steps = (is_skip-Skip, is_skip-Seq, is_skip-If, is_skip-Pick, is_skip-Insert, is_skip-Remove, is_skip-Install, is_skip-Forward, is_skip-Flood, command_text-Skip, command_text-Seq, command_text-If, command_text-Pick, command_text-Insert, command_text-Remove, command_text-Install, command_text-Forward, command_text-Flood)
+pub ruleset command_steps = (is_skip-Skip, is_skip-Seq, is_skip-If, is_skip-Pick, is_skip-Insert, is_skip-Remove, is_skip-Install, is_skip-Uninstall, is_skip-Forward, is_skip-Flood, command_text-Skip, command_text-Seq, command_text-If, command_text-Pick, command_text-Insert, command_text-Remove, command_text-Install, command_text-Uninstall, command_text-Forward, command_text-Flood)
 
-pub ruleset bare_steps = (bare_formula-True, bare_formula-False, bare_formula-Atom, bare_formula-Same, bare_formula-Flow, bare_formula-RcvThis, bare_formula-Not, bare_formula-And, bare_formula-Or, bare_formula-Implies, bare_formula-Iff, bare_formula-Forall, bare_formula-Exists, bare_command-Skip, bare_command-Seq, bare_command-If, bare_command-Pick, bare_command-Insert, bare_command-Remove, bare_command-Install, bare_command-Forward, bare_command-Flood)
+pub ruleset bare_steps = (bare_formula-True, bare_formula-False, bare_formula-Atom, bare_formula-Same, bare_formula-Flow, bare_formula-RcvThis, bare_formula-Not, bare_formula-And, bare_formula-Or, bare_formula-Implies, bare_formula-Iff, bare_formula-Forall, bare_formula-Exists, bare_command-Skip, bare_command-Seq, bare_command-If, bare_command-Pick, bare_command-Insert, bare_command-Remove, bare_command-Install, bare_command-Uninstall, bare_command-Forward, bare_command-Flood)

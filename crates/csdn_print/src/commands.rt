@@ -28,6 +28,7 @@ fn is_skip(command: &RawCommand) -> bool
         RawCommand::Insert(_, _) => false,
         RawCommand::Remove(_, _) => false,
         RawCommand::Install(_) => false,
+        RawCommand::Uninstall(_) => false,
         RawCommand::Forward(_) => false,
         RawCommand::Flood(_) => false,
     }
@@ -153,6 +154,7 @@ pub fn put_command(
             terms.as_slice(),
         ),
         RawCommand::Install(flow) => put_flow_command(out, indent, b".install", flow),
+        RawCommand::Uninstall(flow) => put_flow_command(out, indent, b".uninstall", flow),
         RawCommand::Forward(flow) => put_flow_command(out, indent, b".forward", flow),
         RawCommand::Flood(packet) => put_flood(out, indent, packet),
     }

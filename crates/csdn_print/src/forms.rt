@@ -3,14 +3,14 @@ ghost use Rattle.std.specs.Prelude.{◌≡◌};
 ghost use Rattle.csdn_print.specs.Formulas as spec;
 
 /// The two quantifiers.
-#[derive(Clone, Copy, Debug)]
+#[derive(Clone, Copy)]
 pub enum Quantifier {
     All,
     Some,
 }
 
 /// What a formula stands behind: nothing of its own, or the names that a quantifier binds.
-#[derive(Clone, Copy, Debug)]
+#[derive(Clone, Copy)]
 pub enum Lead {
     Nothing,
     Binds(Quantifier),

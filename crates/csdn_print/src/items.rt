@@ -12,10 +12,10 @@ use crate::words::{put_bind, put_port, put_sorts, put_terms};
 use csdn_core::terms::Sort;
 use csdn_tree::names::RawName;
 use csdn_tree::syntax::{
-    InvariantKind, RawFormula, RawHandler, RawItem, RawPattern, RawRelation, RawRow,
+    InvariantKind, RawFormula, RawHandler, RawItem, RawPattern, RawRelation, RawRow, RawTimeout,
 };
 use std::alloc::{AllocError, Global};
-use text_lines::put_word;
+use text_lines::{put_number, put_word};
 
 fn put_more_rows(out: &mut Vec<u8>, mut rows: &[RawRow]) -> Result<(), AllocError>
     ensures { OnOk result (out.new.items ≡ out.old.items ++ words.more_listed (map (λ r. words.terms_text r.terms) rows.entry.now)) }
@@ -126,6 +126,14 @@ fn put_handler(alloc: Global, out: &mut Vec<u8>, handler: &RawHandler) -> Result
     put_block(alloc, out, b"", &handler.body)
 }
 
+fn put_timeout(out: &mut Vec<u8>, timeout: &RawTimeout) -> Result<(), AllocError>
+    ensures { OnOk result (out.new.items ≡ out.old.items ++ spec.item_text (item.Timeout timeout.now)) }
+{
+    put_word(out, b"timeout ")?;
+    put_number(out, u64::from(timeout.seconds))?;
+    put_word(out, b";")
+}
+
 /// An item, without the end of its line.
 pub fn put_item(alloc: Global, out: &mut Vec<u8>, raw: &RawItem) -> Result<(), AllocError>
     ensures { OnOk result (out.new.items ≡ out.old.items ++ spec.item_text raw.now) }
@@ -135,5 +143,6 @@ pub fn put_item(alloc: Global, out: &mut Vec<u8>, raw: &RawItem) -> Result<(), A
         RawItem::Constant(name, sort) => put_constant(out, name, *sort),
         RawItem::Invariant(kind, name, formula) => put_invariant(out, *kind, name, formula),
         RawItem::Handler(handler) => put_handler(alloc, out, handler),
+        RawItem::Timeout(timeout) => put_timeout(out, timeout),
     }
 }

@@ -82,12 +82,16 @@ fn prints_parentheses_where_a_level_is_below_the_needed_one(rt: HostRuntime) -> 
 
 #[test]
 fn prints_one_item_a_line_and_blocks_two_spaces_deeper(rt: HostRuntime) -> Result<(), Fail> {
-    let cases: [(&[u8], &[u8]); 10] = [
+    let cases: [(&[u8], &[u8]); 11] = [
         (
             b"rel armed(); safety A: not armed(); pktIn(s, src->dst, i) { skip; }",
             b"rel armed();\nsafety A: not armed();\npktIn(s, src->dst, i) {\n  skip;\n}\n",
         ),
         (b"rel r(HO) = {};", b"rel r(HO);\n"),
+        (
+            b"rel r(); timeout  65280 ; pktIn(s,a->b,i){s.uninstall(a->b,i->prt(1));}",
+            b"rel r();\ntimeout 65280;\npktIn(s, a->b, i) {\n  s.uninstall(a->b, i->prt(1));\n}\n",
+        ),
         (
             b"rel p(); rel q(); safety A: (p() and q()) or not (p() -> q());",
             b"rel p();\nrel q();\nsafety A: p() and q() or not (p() -> q());\n",

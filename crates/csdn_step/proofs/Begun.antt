@@ -1,5 +1,5 @@
 -- Where a handler's execution begins.
-use Rattle.std.proofs.Common.{◌≡◌, ◌∙◌, ap, ap₂, ℕ, List, [], ◌∷◌, ◌++◌}
+use Rattle.std.proofs.Common.{◌≡◌, ◌∙◌, ap, ℕ, List, [], ◌∷◌, ◌++◌}
 use Rattle.csdn_core.specs.declared.event.Match.{Match}
 use Rattle.csdn_core.specs.declared.event.Out.{Out}
 use Rattle.csdn_core.specs.declared.event.Tally.{Tally}
@@ -19,11 +19,14 @@ use Rattle.csdn_step.specs.Courses.{Course, drafted, from_state}
 abbrev course_of : State → List Match → List Out → Course
 course_of x changed outs = record { state = x; changed = changed; outs = outs }
 
+-- nothing is told yet
+pub begun : (draft : Draft) (tally : Tally) → tally.changed ≡ [] → tally.outs ≡ [] → drafted draft tally ≡ from_state (standing draft)
+begun draft tally none_changed no_outs =
+    ap (λ (changed : List Match). course_of (standing draft) changed tally.outs) none_changed ∙ ap (course_of (standing draft) []) no_outs
+
 -- a draft in which nothing is done yet
-pub begun : (draft : Draft) (tally : Tally) (rows : List Row) → draft ≡ record { state = rows; gone = []; added = [] } → tally.changed ≡ [] → tally.outs ≡ [] → drafted draft tally ≡ from_state (held rows)
-begun draft tally rows is none_changed no_outs =
-    ap₂ (λ (x : State) (changed : List Match). course_of x changed tally.outs) (ap standing is ∙ but-none (held rows)) none_changed
-    ∙ ap (course_of (held rows) []) no_outs
+pub fresh : (draft : Draft) (rows : List Row) → draft ≡ record { state = rows; gone = []; added = [] } → standing draft ≡ held rows
+fresh draft rows is = ap standing is ∙ but-none (held rows)
 
 abbrev with_pair : VarId → ℕ → List Pair → List Pair
 with_pair v m pairs = pairs ++ record { var = v; value = m } ∷ []

@@ -1,5 +1,6 @@
 pub mod Tuples
 pub mod Begun
+pub mod Outputs
 pub mod Leasts
 pub mod Floods
 pub mod Parts

@@ -11,6 +11,7 @@ use Rattle.csdn_core.specs.declared.terms.Sort.TheVariants.{Pr}
 use Rattle.csdn_core.specs.declared.terms.Pred.{Pred}
 use Rattle.csdn_core.specs.declared.terms.Pred.TheVariants.{Stored, Ft, Sent, RcvThis}
 use Rattle.csdn_core.specs.declared.terms.Place.TheVariants.{Handler as InHandler}
+use Rattle.csdn_core.specs.declared.event.Event.TheVariants.{PktIn}
 use Rattle.csdn_core.specs.declared.event.Packet.TheVariants.{Nothing}
 use Rattle.csdn_core.specs.declared.program.Parts.{Parts}
 use Rattle.csdn_core.specs.declared.program.Handler.{Handler}
@@ -27,7 +28,7 @@ use Rattle.csdn_core.specs.Sorted.{Bind, IsSorted, IsAllowed}
 use Rattle.csdn_core.specs.WellSorted.{OwnPacket, IsCommand, IsWellSorted, signature, own_packet, handler_binds}
 use Rattle.csdn_step.specs.declared.setting.Sending.TheVariants.{Kept, Left}
 use Rattle.csdn_step.specs.Least.{least}
-use Rattle.csdn_step.specs.Courses.{Course, executed, chosen, handled, from_state, quieted, with_sent_of, installed, forwarded, flooded_on}
+use Rattle.csdn_step.specs.Courses.{Course, executed, chosen, handled, fired, from_state, quieted, with_sent_of, installed, uninstalled, forwarded, flooded_on, settled}
 use Rattle.csdn_step.proofs.Room.{of_fit}
 
 if_quiet : (x : State) (t u : Bool) (a b k l : Course) → t ≡ u → a ≡ quieted x k → b ≡ quieted x l → (if t then a else b) ≡ quieted x (if u then k else l)
@@ -67,6 +68,15 @@ module _ (x : State) where
       at (Stored q) ds = refl
       at Ft ds = refl
       at Sent ds = or-false (x Sent ds)
+      at RcvThis ds = refl
+
+  take-Ft : (y : State) (cells : List ℕ) → take_out (with_sent_of x y) Ft cells ≡ with_sent_of x (take_out y Ft cells)
+  take-Ft y cells = fun_ext (λ q. fun_ext (λ ds. at q ds))
+    where
+      at : (q : Pred) (ds : List ℕ) → take_out (with_sent_of x y) Ft cells q ds ≡ with_sent_of x (take_out y Ft cells) q ds
+      at (Stored q) ds = refl
+      at Ft ds = refl
+      at Sent ds = and-true (x Sent ds)
       at RcvThis ds = refl
 
   put-Sent : (y : State) (cells : List ℕ) → with_sent_of x y ≡ with_sent_of x (put y Sent cells)
@@ -145,6 +155,9 @@ module _ (P : Parts) (N : Network) (x : State) where
   executed-left own Γ (c.Install ts) e w sorted =
       ap (installed (quieted x w)) (values-left w.state e ts)
       ∙ ap (λ y. made y (installed w (tuple P N ts e w.state))) (put-Ft x w.state (tuple P N ts e w.state))
+  executed-left own Γ (c.Uninstall ts) e w sorted =
+      ap (uninstalled (quieted x w)) (values-left w.state e ts)
+      ∙ ap (λ y. made y (uninstalled w (tuple P N ts e w.state))) (take-Ft x w.state (tuple P N ts e w.state))
   executed-left own Γ (c.Forward ts) e w sorted =
       ap (forwarded Left (quieted x w)) (values-left w.state e ts)
       ∙ ap (λ y. made y (forwarded Kept w (tuple P N ts e w.state))) (put-Sent x w.state (tuple P N ts e w.state))
@@ -157,7 +170,8 @@ module _ (P : Parts) (N : Network) (x : State) where
   handled-left (Some g) sorted s a b i w = executed-left (own_packet g) (handler_binds g) g.body (for_packet g s a b i) w (sorted g refl)
 
   -- a packet leaves `sent` as it is, and all else as it would be
-  pub quiet : IsWellSorted P → (s a b i : ℕ) → handled P N Left (first_fit P.handlers i) s a b i (from_state x) ≡ quieted x (handled P N Kept (first_fit P.handlers i) s a b i (from_state x))
+  pub quiet : IsWellSorted P → (s a b i : ℕ) → fired P N Left (PktIn s a b i) (from_state x) ≡ quieted x (fired P N Kept (PktIn s a b i) (from_state x))
   quiet sorted s a b i =
-      ap (handled P N Left (first_fit P.handlers i) s a b i) (sym (ap from_state (itself x)))
-      ∙ handled-left (first_fit P.handlers i) (λ g is. of_fit (λ h. IsCommand (signature P) (own_packet h) (handler_binds h) h.body) P.handlers i g sorted.handlers is) s a b i (from_state x)
+      ap (settled N.ports x)
+      (ap (handled P N Left (first_fit P.handlers i) s a b i) (sym (ap from_state (itself x)))
+      ∙ handled-left (first_fit P.handlers i) (λ g is. of_fit (λ h. IsCommand (signature P) (own_packet h) (handler_binds h) h.body) P.handlers i g sorted.handlers is) s a b i (from_state x))

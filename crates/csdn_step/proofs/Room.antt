@@ -37,6 +37,7 @@ module _ (S : Signature) where
   command_fits own Γ (c.Insert r ts) sorted few = omega arith
   command_fits own Γ (c.Remove r ts) sorted few = omega arith
   command_fits own Γ (c.Install ts) sorted few = omega arith
+  command_fits own Γ (c.Uninstall ts) sorted few = omega arith
   command_fits own Γ (c.Forward ts) sorted few = omega arith
   command_fits own Γ (c.Flood ts) sorted few = omega arith
 

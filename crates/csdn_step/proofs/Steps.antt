@@ -1,12 +1,14 @@
 -- What is executed with the least elements is an execution.
 use Rattle.std.proofs.Common.{◌≡◌, ◌∙◌, sym, ap, refl, subst, inl, inr, ◌⊎◌, ℕ, ◌&&◌, zero, suc, ◌<◌, min, Bool, true, false, if◌then◌else◌, List, [], ◌∷◌, Contains, IsTrue, IsFalse, arith}
-use Rattle.std.specs.Prelude.{Option, Some, None}
+use Rattle.std.specs.Prelude.{Option, Some, None, is_some}
+use Rattle.std.specs.List.{list_any}
+use Rattle.csdn_core.specs.declared.terms.Pred.TheVariants.{Ft}
 use Rattle.std.proofs.lemmas.Bool.{and_parts, cases_lt}
 use Rattle.general_facts.proofs.Lists.{contains_later}
 use Rattle.csdn_core.specs.declared.program.Parts.{Parts}
 use Rattle.csdn_core.specs.declared.program.Handler.{Handler}
 use Rattle.csdn_core.specs.declared.event.Event.{Event}
-use Rattle.csdn_core.specs.declared.event.Event.TheVariants.{PktIn, PktFlow}
+use Rattle.csdn_core.specs.declared.event.Event.TheVariants.{PktIn, PktFlow, Expire}
 use Rattle.csdn_core.specs.declared.syntax.Command.{Command}
 use Rattle.csdn_core.specs.declared.syntax.Command.TheVariants as c
 use Rattle.csdn_core.specs.Tree.{sequence, conditional, choice}
@@ -20,6 +22,7 @@ use Rattle.csdn_step.specs.declared.setting.Sending.TheVariants.{Kept}
 use Rattle.csdn_step.specs.Least.{least, lesser}
 use Rattle.csdn_step.specs.Courses.{Course, executed, chosen, handled, fired, from_state}
 use Rattle.csdn_step.specs.Answers.{is_of_network, is_enabled}
+use Rattle.csdn_step.proofs.Outputs.{found}
 
 -- the lesser is one of the two
 
@@ -95,6 +98,7 @@ module _ (P : Parts) (N : Network) where
   executes (c.Insert r ts) e w = refl
   executes (c.Remove r ts) e w = refl
   executes (c.Install ts) e w = refl
+  executes (c.Uninstall ts) e w = refl
   executes (c.Forward ts) e w = refl
   executes (c.Flood ts) e w = refl
 
@@ -103,7 +107,7 @@ module _ (P : Parts) (N : Network) where
   handles (Some h) s a b i w = executes h.body (for_packet h s a b i) w
 
   -- where nothing is to be refused, an event is a step to the state that it comes to
-  pub steps : (event : Event) (x : State) → is_of_network N event ≡ true → is_enabled x event ≡ true → Step P N x event (fired P N Kept event (from_state x)).state
+  pub steps : (event : Event) (x : State) → is_of_network N event ≡ true → is_enabled P N x event ≡ true → Step P N x event (fired P N Kept event (from_state x)).state
   steps (PktIn s a b i) x known enabled =
       let at_s = and_parts (has N.switches s) (has N.hosts a && (has N.hosts b && has N.ports i)) known in
       let at_a = and_parts (has N.hosts a) (has N.hosts b && has N.ports i) at_s.1 in
@@ -115,3 +119,9 @@ module _ (P : Parts) (N : Network) where
       let at_b = and_parts (has N.hosts b) (has N.ports i && has N.ports o) at_a.1 in
       let at_i = and_parts (has N.ports i) (has N.ports o) at_b.1 in
       (there N.switches s at_s.0, there N.hosts a at_a.0, there N.hosts b at_b.0, there N.ports i at_i.0, there N.ports o at_i.1, enabled, refl)
+  steps (Expire s a b i) x known enabled =
+      let at_s = and_parts (has N.switches s) (has N.hosts a && (has N.hosts b && has N.ports i)) known in
+      let at_a = and_parts (has N.hosts a) (has N.hosts b && has N.ports i) at_s.1 in
+      let at_b = and_parts (has N.hosts b) (has N.ports i) at_a.1 in
+      let may = and_parts (is_some P.timeout) (list_any (λ o. x Ft (s ∷ a ∷ b ∷ i ∷ o ∷ [])) N.ports) enabled in
+      (there N.switches s at_s.0, there N.hosts a at_a.0, there N.hosts b at_b.0, there N.ports i at_b.1, may.0, found (λ o. x Ft (s ∷ a ∷ b ∷ i ∷ o ∷ [])) N.ports may.1, refl)

@@ -16,6 +16,7 @@ command_depth c.Skip = 0
 command_depth (c.Insert r ts) = 0
 command_depth (c.Remove r ts) = 0
 command_depth (c.Install ts) = 0
+command_depth (c.Uninstall ts) = 0
 command_depth (c.Forward ts) = 0
 command_depth (c.Flood ts) = 0
 

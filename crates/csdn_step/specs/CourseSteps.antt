@@ -16,7 +16,7 @@ use Rattle.csdn_core.specs.Network.{Network, elements}
 use Rattle.csdn_core.specs.Execution.{put, take_out, is_true, tuple}
 use Rattle.csdn_step.specs.declared.setting.Sending.{Sending}
 use Rattle.csdn_step.specs.Least.{least}
-use Rattle.csdn_step.specs.Courses.{Course, executed, chosen, with_state, installed, forwarded, flooded_on}
+use Rattle.csdn_step.specs.Courses.{Course, executed, chosen, with_state, installed, uninstalled, forwarded, flooded_on}
 
 module _ (P : Parts) (N : Network) (sending : Sending) (e : Assignment) (w : Course) where
   pub executed-Skip : executed P N sending c.Skip e w ≡ w
@@ -47,6 +47,10 @@ module _ (P : Parts) (N : Network) (sending : Sending) (e : Assignment) (w : Cou
   unfolding executed
   executed-Install ts = refl
 
+  pub executed-Uninstall : (ts : List Term) → executed P N sending (c.Uninstall ts) e w ≡ uninstalled w (tuple P N ts e w.state)
+  unfolding executed
+  executed-Uninstall ts = refl
+
   pub executed-Forward : (ts : List Term) → executed P N sending (c.Forward ts) e w ≡ forwarded sending w (tuple P N ts e w.state)
   unfolding executed
   executed-Forward ts = refl
@@ -55,4 +59,4 @@ module _ (P : Parts) (N : Network) (sending : Sending) (e : Assignment) (w : Cou
   unfolding executed
   executed-Flood ts = refl
 
-pub ruleset course_steps = (executed-Skip, executed-Seq, executed-If, executed-Pick, executed-Insert, executed-Remove, executed-Install, executed-Forward, executed-Flood)
+pub ruleset course_steps = (executed-Skip, executed-Seq, executed-If, executed-Pick, executed-Insert, executed-Remove, executed-Install, executed-Uninstall, executed-Forward, executed-Flood)

@@ -1,10 +1,10 @@
 -- What an execution comes to that takes the least element at each `pick`, with what it is counted to have done.
-use Rattle.std.specs.Prelude.{ℕ, ◌==◌, Bool, true, false, ◌&&◌, if◌then◌else◌, List, [], ◌∷◌, ◌++◌, Option, Some, None}
+use Rattle.std.specs.Prelude.{ℕ, ◌==◌, Bool, true, false, not, ◌&&◌, if◌then◌else◌, filter, List, [], ◌∷◌, ◌++◌, Option, Some, None}
 use Rattle.std.specs.List.{list_any}
 use Rattle.csdn_core.specs.declared.terms.Sort.TheVariants.{Pr}
 use Rattle.csdn_core.specs.declared.terms.Pred.TheVariants.{Stored, Ft, Sent, RcvThis}
 use Rattle.csdn_core.specs.declared.event.Event.{Event}
-use Rattle.csdn_core.specs.declared.event.Event.TheVariants.{PktIn, PktFlow}
+use Rattle.csdn_core.specs.declared.event.Event.TheVariants.{PktIn, PktFlow, Expire}
 use Rattle.csdn_core.specs.declared.event.Match.{Match}
 use Rattle.csdn_core.specs.declared.event.Out.{Out}
 use Rattle.csdn_core.specs.declared.event.Out.TheVariants.{Port, Flood as Flooding}
@@ -12,11 +12,11 @@ use Rattle.csdn_core.specs.declared.event.Tally.{Tally}
 use Rattle.csdn_core.specs.declared.program.Parts.{Parts}
 use Rattle.csdn_core.specs.declared.program.Handler.{Handler}
 use Rattle.csdn_core.specs.declared.syntax.Command.{Command}
-use Rattle.csdn_core.specs.declared.syntax.Command.TheVariants.{Skip, Insert, Remove, Install, Forward, Flood}
+use Rattle.csdn_core.specs.declared.syntax.Command.TheVariants.{Skip, Insert, Remove, Install, Uninstall, Forward, Flood}
 use Rattle.csdn_core.specs.Tree.{sequence, conditional, choice}
 use Rattle.csdn_core.specs.Truth.{Assignment, with_var}
 use Rattle.csdn_core.specs.Network.{Network, State, elements}
-use Rattle.csdn_core.specs.Execution.{put, take_out, flooded, is_true, tuple}
+use Rattle.csdn_core.specs.Execution.{put, take_out, take_out_match, flooded, is_true, tuple}
 use Rattle.csdn_core.specs.Run.{first_fit, for_packet}
 use Rattle.net_structs.specs.declared.row.Row.{Row}
 use Rattle.net_structs.specs.Rows.{held}
@@ -29,7 +29,7 @@ use Rattle.csdn_step.specs.Least.{least}
 -- a state, and what was done on the way to it
 pub record Course : Type 0 where
   pub state : State
-  -- the matches whose outputs grew, in the order of their first change
+  -- the matches whose outputs were changed, in the order of the first command that changed them
   pub changed : List Match
   -- the forwards and floods in the order of the commands, each once at its first place
   pub outs : List Out
@@ -69,6 +69,14 @@ installed w cells = record {
   outs = w.outs;
 }
 
+-- a match loses an output where the tuple is in `ft` before
+abbrev pub uninstalled : Course → List ℕ → Course
+uninstalled w cells = record {
+  state = take_out w.state Ft cells;
+  changed = if w.state Ft cells then with_match w.changed cells else w.changed;
+  outs = w.outs;
+}
+
 abbrev pub forwarded : Sending → Course → List ℕ → Course
 forwarded sending w cells = record {
   state = sent_to sending w.state (put w.state Sent cells);
@@ -86,6 +94,26 @@ flooded_on sending ports w cells = record {
 abbrev pub with_state : Course → State → Course
 with_state w x = record { state = x; changed = w.changed; outs = w.outs }
 
+-- whether a flow rule of the match sends from the port
+abbrev pub sends : State → Match → ℕ → Bool
+sends x m o = x Ft (m.s ∷ m.a ∷ m.b ∷ m.i ∷ o ∷ [])
+
+-- one of the two alone
+abbrev pub either_alone : Bool → Bool → Bool
+either_alone a b = if a then not b else b
+
+-- whether the match has another set of outputs, among these ports, in one state than in the other
+abbrev pub differs : List ℕ → State → State → Match → Bool
+differs ports x y m = list_any (λ o. either_alone (sends x m o) (sends y m o)) ports
+
+-- what was done since a state: of the matches that were changed, those whose outputs differ from before
+abbrev pub settled : List ℕ → State → Course → Course
+settled ports x w = record { state = w.state; changed = filter (λ m. differs ports x w.state m) w.changed; outs = w.outs }
+
+-- all flow rules of a match have ended
+abbrev pub expired : Course → Match → Course
+expired w m = record { state = take_out_match w.state (m.s ∷ m.a ∷ m.b ∷ m.i ∷ []); changed = m ∷ []; outs = w.outs }
+
 -- what follows from an element, or where there is none
 abbrev pub chosen : {X : Type 0} → Option ℕ → (ℕ → X) → X → X
 chosen (Some m) with_it without = with_it m
@@ -101,6 +129,7 @@ module _ (P : Parts) (N : Network) (sending : Sending) where
   executed (Insert r ts) e w = with_state w (put w.state (Stored r) (tuple P N ts e w.state))
   executed (Remove r ts) e w = with_state w (take_out w.state (Stored r) (tuple P N ts e w.state))
   executed (Install ts) e w = installed w (tuple P N ts e w.state)
+  executed (Uninstall ts) e w = uninstalled w (tuple P N ts e w.state)
   executed (Forward ts) e w = forwarded sending w (tuple P N ts e w.state)
   executed (Flood ts) e w = flooded_on sending (elements N Pr) w (tuple P N ts e w.state)
 
@@ -111,8 +140,9 @@ module _ (P : Parts) (N : Network) (sending : Sending) where
 
   -- what an event does
   abbrev pub fired : Event → Course → Course
-  fired (PktIn s a b i) w = handled (first_fit P.handlers i) s a b i w
+  fired (PktIn s a b i) w = settled N.ports w.state (handled (first_fit P.handlers i) s a b i w)
   fired (PktFlow s a b i o) w = with_state w (put w.state Sent (s ∷ a ∷ b ∷ i ∷ o ∷ []))
+  fired (Expire s a b i) w = expired w (record { s = s; a = a; b = b; i = i })
 
 -- nothing is done yet
 abbrev pub from_state : State → Course

@@ -11,7 +11,7 @@ ghost use Rattle.csdn_core.specs.Execution.{is_true as is_true_in, put, flooded,
 ghost use Rattle.net_structs.specs.Binds.{assignment};
 ghost use Rattle.net_structs.specs.Depth.{depth};
 ghost use Rattle.csdn_step.specs.CommandDepth.{command_depth};
-ghost use Rattle.csdn_step.specs.Courses.{drafted, executed, flooded_on, forwarded, installed, sent_to, with_state};
+ghost use Rattle.csdn_step.specs.Courses.{drafted, executed, flooded_on, forwarded, installed, sent_to, uninstalled, with_state};
 ghost use Rattle.csdn_step.specs.Least.{first_of, least};
 ghost use Rattle.csdn_step.specs.Drafts.{standing, start_of};
 
@@ -75,6 +75,18 @@ fn install(draft: &mut Draft, tally: &mut Tally, cells: &Cells) -> Result<(), Al
 {
     let is_new = draft.insert(Pred::Ft, cells)?;
     if is_new {
+        list_match(&mut tally.changed, cells)?;
+    }
+    Ok(())
+}
+
+#[tactic(auto)]
+fn uninstall(draft: &mut Draft, tally: &mut Tally, cells: &Cells) -> Result<(), AllocError>
+    ensures done { OnOk result (drafted draft.new tally.new ≡ uninstalled (drafted draft.old tally.old) cells.now) }
+    ensures start { start_of draft.new ≡ start_of draft.old }
+{
+    let was_there = draft.remove(Pred::Ft, cells)?;
+    if was_there {
         list_match(&mut tally.changed, cells)?;
     }
     Ok(())
@@ -177,11 +189,16 @@ pub fn execute(
         }
         Command::Remove(rel, terms) => {
             let cells = cells_of(setting, draft, env, terms);
-            draft.remove(Pred::Stored(*rel), &cells)
+            draft.remove(Pred::Stored(*rel), &cells)?;
+            Ok(())
         }
         Command::Install(terms) => {
             let cells = cells_of(setting, draft, env, terms);
             install(draft, tally, &cells)
+        }
+        Command::Uninstall(terms) => {
+            let cells = cells_of(setting, draft, env, terms);
+            uninstall(draft, tally, &cells)
         }
         Command::Forward(terms) => {
             let cells = cells_of(setting, draft, env, terms);

@@ -10,8 +10,10 @@ mod draft;
 mod events;
 mod sends;
 mod setting;
+mod settle;
 mod start;
 mod tallies;
 
-pub use events::{StepRefusal, fire, fire_quiet};
+pub use draft::Draft;
+pub use events::{StepRefusal, begin, begin_quiet, fire, fire_quiet};
 pub use start::initial;

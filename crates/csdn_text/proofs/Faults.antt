@@ -1,5 +1,5 @@
 -- Where the predictive parse meets a fault, no program begins so; and what was taken before begins one.
-use Rattle.std.proofs.Common.{◌≡◌, ℕ, ◌+◌, ◌≤◌, ◌<◌, List, [], ◌∷◌, ◌++◌, true, false, refl, sym, subst, ap, ◌∙◌, append_assoc, arith}
+use Rattle.std.proofs.Common.{◌≡◌, ℕ, ◌≤◌, ◌<◌, List, [], ◌∷◌, ◌++◌, refl, sym, subst, ap, ◌∙◌, append_assoc, arith}
 use Rattle.std.proofs.lemmas.Bool.{false≢true}
 use Rattle.csdn_tokens.specs.declared.Kind.{Kind}
 use Rattle.csdn_tokens.specs.declared.Kind.TheVariants as k

@@ -4,7 +4,7 @@ use Rattle.csdn_tokens.specs.declared.Kind.{Kind}
 use Rattle.csdn_tokens.specs.declared.Kind.TheVariants as k
 use Rattle.csdn_tokens.specs.declared.Token.{Token}
 use Rattle.csdn_text.specs.declared.parts.Quantifier.{Quantifier}
-use Rattle.csdn_text.specs.Symbols.{Nonterminal, program, items, item, static_item, const_item, rel_item, invariant_item, invariant_kind, handler_item, handler_port, sorts, sort_list, more_sorts, sort, initial, rows, more_rows, row, terms, more_terms, name, term, port, formula, binds, more_binds, iff, iff_tail, implies, implies_tail, either, either_tail, both, both_tail, unary, atom, atom_rest, fact, flow, packet, block, commands, more_commands, command, branch, choice, otherwise, action, Level, here, deeper, depth_of, Symbol, token, part, Values, made, Rule}
+use Rattle.csdn_text.specs.Symbols.{Nonterminal, program, items, item, static_item, const_item, rel_item, invariant_item, invariant_kind, handler_item, handler_port, timeout_item, sorts, sort_list, more_sorts, sort, initial, rows, more_rows, row, terms, more_terms, name, term, port, formula, binds, more_binds, iff, iff_tail, implies, implies_tail, either, either_tail, both, both_tail, unary, atom, atom_rest, fact, flow, packet, block, commands, more_commands, command, branch, choice, otherwise, action, Level, here, deeper, depth_of, Symbol, token, part, Values, made, Rule}
 use Rattle.csdn_text.specs.Grammar.{rules}
 use Rattle.csdn_text.specs.Derives.{Mark, IsRule, Derives}
 use Rattle.csdn_text.specs.Derives.Derives.{nothing, one, by_rule}
@@ -94,6 +94,9 @@ a_command = (first_of (rules command).led (rules command).last, inl refl, (λ d.
 
 a_otherwise : Some otherwise
 a_otherwise = ((rules otherwise).last, inr (inl refl), empty)
+
+a_timeout_item : Some timeout_item
+a_timeout_item = ((rules timeout_item).last, inl refl, (λ d. tok k.Timeout here (tok k.Number here (tok k.Semicolon here (empty d)))))
 
 a_const_item : Some const_item
 a_const_item = ((rules const_item).last, inl refl, (λ d. tok k.Const here (use_it a_name (tok k.Colon here (use_it a_sort (tok k.Semicolon here (empty d)))))))
@@ -190,6 +193,7 @@ some_of invariant_item = a_invariant_item
 some_of invariant_kind = a_invariant_kind
 some_of handler_item = a_handler_item
 some_of handler_port = a_handler_port
+some_of timeout_item = a_timeout_item
 some_of sorts = a_sorts
 some_of sort_list = a_sort_list
 some_of more_sorts = a_more_sorts

@@ -2,7 +2,7 @@
 use Rattle.std.proofs.Common.{◌≡◌, List, [], ◌∷◌, ◌++◌, Bool, true, false, not, ◌&&◌, cond, refl}
 use Rattle.csdn_tokens.specs.declared.Kind.{Kind}
 use Rattle.csdn_tokens.specs.declared.Kind.TheVariants as k
-use Rattle.csdn_text.specs.Symbols.{Nonterminal, program, items, item, static_item, const_item, rel_item, invariant_item, invariant_kind, handler_item, handler_port, sorts, sort_list, more_sorts, sort, initial, rows, more_rows, row, terms, more_terms, name, term, port, formula, binds, more_binds, iff, iff_tail, implies, implies_tail, either, either_tail, both, both_tail, unary, atom, atom_rest, fact, flow, packet, block, commands, more_commands, command, branch, choice, otherwise, action, Symbol, token, part, Rule}
+use Rattle.csdn_text.specs.Symbols.{Nonterminal, program, items, item, static_item, const_item, rel_item, invariant_item, invariant_kind, handler_item, handler_port, timeout_item, sorts, sort_list, more_sorts, sort, initial, rows, more_rows, row, terms, more_terms, name, term, port, formula, binds, more_binds, iff, iff_tail, implies, implies_tail, either, either_tail, both, both_tail, unary, atom, atom_rest, fact, flow, packet, block, commands, more_commands, command, branch, choice, otherwise, action, Symbol, token, part, Rule}
 use Rattle.csdn_text.specs.Grammar.{rules}
 use Rattle.csdn_text.specs.Machine.{first}
 use Rattle.csdn_text.proofs.Sets.{within, apart}
@@ -29,13 +29,14 @@ nullable _ = false
 abbrev pub follow : Nonterminal → List Kind
 follow program = k.Stop ∷ []
 follow items = k.Stop ∷ []
-follow item = k.Static ∷ k.Const ∷ k.Rel ∷ k.PktIn ∷ k.Topology ∷ k.Safety ∷ k.Trans ∷ k.Stop ∷ []
-follow static_item = k.Static ∷ k.Const ∷ k.Rel ∷ k.PktIn ∷ k.Topology ∷ k.Safety ∷ k.Trans ∷ k.Stop ∷ []
-follow const_item = k.Static ∷ k.Const ∷ k.Rel ∷ k.PktIn ∷ k.Topology ∷ k.Safety ∷ k.Trans ∷ k.Stop ∷ []
-follow rel_item = k.Static ∷ k.Const ∷ k.Rel ∷ k.PktIn ∷ k.Topology ∷ k.Safety ∷ k.Trans ∷ k.Stop ∷ []
-follow invariant_item = k.Static ∷ k.Const ∷ k.Rel ∷ k.PktIn ∷ k.Topology ∷ k.Safety ∷ k.Trans ∷ k.Stop ∷ []
+follow item = k.Static ∷ k.Const ∷ k.Rel ∷ k.PktIn ∷ k.Timeout ∷ k.Topology ∷ k.Safety ∷ k.Trans ∷ k.Stop ∷ []
+follow static_item = k.Static ∷ k.Const ∷ k.Rel ∷ k.PktIn ∷ k.Timeout ∷ k.Topology ∷ k.Safety ∷ k.Trans ∷ k.Stop ∷ []
+follow const_item = k.Static ∷ k.Const ∷ k.Rel ∷ k.PktIn ∷ k.Timeout ∷ k.Topology ∷ k.Safety ∷ k.Trans ∷ k.Stop ∷ []
+follow rel_item = k.Static ∷ k.Const ∷ k.Rel ∷ k.PktIn ∷ k.Timeout ∷ k.Topology ∷ k.Safety ∷ k.Trans ∷ k.Stop ∷ []
+follow invariant_item = k.Static ∷ k.Const ∷ k.Rel ∷ k.PktIn ∷ k.Timeout ∷ k.Topology ∷ k.Safety ∷ k.Trans ∷ k.Stop ∷ []
 follow invariant_kind = k.Name ∷ []
-follow handler_item = k.Static ∷ k.Const ∷ k.Rel ∷ k.PktIn ∷ k.Topology ∷ k.Safety ∷ k.Trans ∷ k.Stop ∷ []
+follow handler_item = k.Static ∷ k.Const ∷ k.Rel ∷ k.PktIn ∷ k.Timeout ∷ k.Topology ∷ k.Safety ∷ k.Trans ∷ k.Stop ∷ []
+follow timeout_item = k.Static ∷ k.Const ∷ k.Rel ∷ k.PktIn ∷ k.Timeout ∷ k.Topology ∷ k.Safety ∷ k.Trans ∷ k.Stop ∷ []
 follow handler_port = k.Close ∷ []
 follow sorts = k.Semicolon ∷ k.Equals ∷ []
 follow sort_list = k.Close ∷ []
@@ -67,7 +68,7 @@ follow atom_rest = k.And ∷ k.Or ∷ k.Arrow ∷ k.Both ∷ k.Semicolon ∷ k.C
 follow fact = k.And ∷ k.Or ∷ k.Arrow ∷ k.Both ∷ k.Semicolon ∷ k.Close ∷ k.Begin ∷ []
 follow flow = k.And ∷ k.Or ∷ k.Arrow ∷ k.Both ∷ k.Semicolon ∷ k.Close ∷ k.Begin ∷ []
 follow packet = k.And ∷ k.Or ∷ k.Arrow ∷ k.Both ∷ k.Semicolon ∷ k.Close ∷ k.Begin ∷ []
-follow block = k.Static ∷ k.Const ∷ k.Rel ∷ k.PktIn ∷ k.Topology ∷ k.Safety ∷ k.Trans ∷ k.Stop ∷ k.Else ∷ k.Skip ∷ k.Name ∷ k.If ∷ k.Pick ∷ k.End ∷ []
+follow block = k.Static ∷ k.Const ∷ k.Rel ∷ k.PktIn ∷ k.Timeout ∷ k.Topology ∷ k.Safety ∷ k.Trans ∷ k.Stop ∷ k.Else ∷ k.Skip ∷ k.Name ∷ k.If ∷ k.Pick ∷ k.End ∷ []
 follow commands = k.End ∷ []
 follow more_commands = k.End ∷ []
 follow command = k.Skip ∷ k.Name ∷ k.If ∷ k.Pick ∷ k.End ∷ []
@@ -134,6 +135,7 @@ all_predictive invariant_item = refl
 all_predictive invariant_kind = refl
 all_predictive handler_item = refl
 all_predictive handler_port = refl
+all_predictive timeout_item = refl
 all_predictive sorts = refl
 all_predictive sort_list = refl
 all_predictive more_sorts = refl

@@ -8,7 +8,7 @@ use Rattle.csdn_tokens.specs.declared.Token.{Token}
 use Rattle.csdn_tree.specs.declared.syntax.RawProgram.{RawProgram}
 use Rattle.csdn_text.specs.declared.TextRefusal.{TextRefusal}
 use Rattle.csdn_text.specs.declared.TextRefusal.TheVariants.{Memory, TooLong, BadByte, BadName, BadNumber, Unexpected, TooDeep}
-use Rattle.csdn_text.specs.Symbols.{Nonterminal, Level, Value, Values, Symbol, part, program}
+use Rattle.csdn_text.specs.Symbols.{Nonterminal, Level, Value, Values, Symbol, part}
 use Rattle.csdn_text.specs.Derives.{Mark, tokens_of, Derives}
 use Rattle.csdn_text.specs.Derives.Derives.{nothing, one, by_rule}
 use Rattle.csdn_text.specs.Machine.{Takes, Fails, limit, refused_at, next_in}

@@ -17,6 +17,7 @@ use Rattle.csdn_tree.specs.declared.syntax.RawFormula.TheVariants as f
 use Rattle.csdn_tree.specs.declared.syntax.RawItem.TheVariants as i
 use Rattle.csdn_tree.specs.declared.syntax.RawPacket.{RawPacket}
 use Rattle.csdn_tree.specs.declared.syntax.RawPattern.TheVariants as p
+use Rattle.csdn_tree.specs.declared.syntax.RawTimeout.{RawTimeout}
 use Rattle.csdn_text.specs.declared.parts.Action.{Action}
 use Rattle.csdn_text.specs.declared.parts.Action.TheVariants as a
 use Rattle.csdn_text.specs.declared.parts.AtomRest.{AtomRest}
@@ -25,7 +26,7 @@ use Rattle.csdn_text.specs.declared.parts.FlowTerms.{FlowTerms}
 use Rattle.csdn_text.specs.declared.parts.PacketTerms.{PacketTerms}
 use Rattle.csdn_text.specs.declared.parts.Quantifier.{Quantifier}
 use Rattle.csdn_text.specs.declared.parts.Quantifier.TheVariants as q
-use Rattle.csdn_text.specs.Symbols.{Nonterminal, program, items, item, static_item, const_item, rel_item, invariant_item, invariant_kind, handler_item, handler_port, sorts, sort_list, more_sorts, sort, initial, rows, more_rows, row, terms, more_terms, name, term, port, formula, binds, more_binds, iff, iff_tail, implies, implies_tail, either, either_tail, both, both_tail, unary, atom, atom_rest, fact, flow, packet, block, commands, more_commands, command, branch, choice, otherwise, action, here, deeper, Symbol, token, part, Value, Makes, Rule, Rules}
+use Rattle.csdn_text.specs.Symbols.{Nonterminal, program, items, item, static_item, const_item, rel_item, invariant_item, invariant_kind, handler_item, handler_port, timeout_item, sorts, sort_list, more_sorts, sort, initial, rows, more_rows, row, terms, more_terms, name, term, port, formula, binds, more_binds, iff, iff_tail, implies, implies_tail, either, either_tail, both, both_tail, unary, atom, atom_rest, fact, flow, packet, block, commands, more_commands, command, branch, choice, otherwise, action, here, deeper, Symbol, token, part, Value, Makes, Rule, Rules}
 
 -- a right side and its value
 abbrev pub rule : {n : Nonterminal} → (parts : List Symbol) → Makes parts (Value n) → Rule n
@@ -38,6 +39,10 @@ name_of x = record { at = x.at; text = x.text }
 -- the numeral of a word `prt` and a number
 abbrev pub numeral_of : Token → Token → RawNumeral
 numeral_of word number = record { at = word.at; number = number.number }
+
+-- the timeout of its word and a number
+abbrev pub timeout_of : Token → Token → RawTimeout
+timeout_of word number = record { at = word.at; seconds = number.number }
 
 -- a quantifier over one name
 abbrev pub quantified : Quantifier → RawName → Sort → RawFormula → RawFormula
@@ -69,6 +74,7 @@ abbrev pub command_of : RawName → Action → RawCommand
 command_of x (a.Insert ts) = c.Insert x ts
 command_of x (a.Remove ts) = c.Remove x ts
 command_of x (a.Install ts) = c.Install (flow_of x ts)
+command_of x (a.Uninstall ts) = c.Uninstall (flow_of x ts)
 command_of x (a.Forward ts) = c.Forward (flow_of x ts)
 command_of x (a.Flood ts) = c.Flood (packet_of x ts)
 
@@ -86,6 +92,7 @@ rules item = record {
       ∷ rule (part const_item here ∷ []) (λ x. x)
       ∷ rule (part rel_item here ∷ []) (λ x. x)
       ∷ rule (part handler_item here ∷ []) (λ x. x)
+      ∷ rule (part timeout_item here ∷ []) (λ x. x)
       ∷ [];
   last = rule (part invariant_item here ∷ []) (λ x. x);
 }
@@ -124,6 +131,10 @@ rules handler_item = record {
 rules handler_port = record {
   led = rule (part port here ∷ []) (λ n. p.Port n) ∷ [];
   last = rule (part name here ∷ []) (λ x. p.Any x);
+}
+rules timeout_item = record {
+  led = [];
+  last = rule (token k.Timeout here ∷ token k.Number here ∷ token k.Semicolon here ∷ []) (λ word number _. i.Timeout (timeout_of word number));
 }
 rules sorts = record {
   led = [];
@@ -294,6 +305,7 @@ rules action = record {
   led = rule (token k.Insert here ∷ part row here ∷ []) (λ _ x. a.Insert x.terms)
       ∷ rule (token k.Remove here ∷ part row here ∷ []) (λ _ x. a.Remove x.terms)
       ∷ rule (token k.Install here ∷ part flow here ∷ []) (λ _ ts. a.Install ts)
+      ∷ rule (token k.Uninstall here ∷ part flow here ∷ []) (λ _ ts. a.Uninstall ts)
       ∷ rule (token k.Forward here ∷ part flow here ∷ []) (λ _ ts. a.Forward ts)
       ∷ [];
   last = rule (token k.Flood here ∷ part packet here ∷ []) (λ _ ts. a.Flood ts);

@@ -5,7 +5,7 @@ use Rattle.csdn_tokens.specs.declared.Kind.TheVariants as k
 use Rattle.csdn_tokens.specs.declared.Token.{Token}
 use Rattle.csdn_text.specs.declared.TextRefusal.{TextRefusal}
 use Rattle.csdn_text.specs.declared.TextRefusal.TheVariants.{Memory, BadByte, BadName, BadNumber, Unexpected, TooDeep}
-use Rattle.csdn_text.specs.Symbols.{Nonterminal, program, items, item, static_item, const_item, rel_item, invariant_item, invariant_kind, handler_item, handler_port, sorts, sort_list, more_sorts, sort, initial, rows, more_rows, row, terms, more_terms, name, term, port, formula, binds, more_binds, iff, iff_tail, implies, implies_tail, either, either_tail, both, both_tail, unary, atom, atom_rest, fact, flow, packet, block, commands, more_commands, command, branch, choice, otherwise, action, Level, depth_of, Symbol, token, part, ValueOf, Values, made, Rule, same}
+use Rattle.csdn_text.specs.Symbols.{Nonterminal, program, items, item, static_item, const_item, rel_item, invariant_item, invariant_kind, handler_item, handler_port, timeout_item, sorts, sort_list, more_sorts, sort, initial, rows, more_rows, row, terms, more_terms, name, term, port, formula, binds, more_binds, iff, iff_tail, implies, implies_tail, either, either_tail, both, both_tail, unary, atom, atom_rest, fact, flow, packet, block, commands, more_commands, command, branch, choice, otherwise, action, Level, depth_of, Symbol, token, part, ValueOf, Values, made, Rule, same}
 use Rattle.csdn_text.specs.Grammar.{rules}
 
 -- where the next token stands
@@ -51,7 +51,7 @@ in_command = k.Skip ∷ k.Name ∷ k.If ∷ k.Pick ∷ []
 
 -- the kinds with which an item begins
 abbrev pub in_item : List Kind
-in_item = k.Static ∷ k.Const ∷ k.Rel ∷ k.PktIn ∷ k.Topology ∷ k.Safety ∷ k.Trans ∷ []
+in_item = k.Static ∷ k.Const ∷ k.Rel ∷ k.PktIn ∷ k.Timeout ∷ k.Topology ∷ k.Safety ∷ k.Trans ∷ []
 
 -- the sorts
 abbrev pub in_sort : List Kind
@@ -72,6 +72,7 @@ first rel_item = k.Rel ∷ []
 first invariant_item = k.Topology ∷ k.Safety ∷ k.Trans ∷ []
 first invariant_kind = k.Topology ∷ k.Safety ∷ k.Trans ∷ []
 first handler_item = k.PktIn ∷ []
+first timeout_item = k.Timeout ∷ []
 first handler_port = k.Prt ∷ k.Name ∷ []
 first sorts = k.Open ∷ []
 first sort_list = in_sort
@@ -110,7 +111,7 @@ first command = in_command
 first branch = k.If ∷ []
 first choice = k.Pick ∷ []
 first otherwise = k.Else ∷ []
-first action = k.Insert ∷ k.Remove ∷ k.Install ∷ k.Forward ∷ k.Flood ∷ []
+first action = k.Insert ∷ k.Remove ∷ k.Install ∷ k.Uninstall ∷ k.Forward ∷ k.Flood ∷ []
 
 abbrev pub begins : List Symbol → List Token → Bool
 begins [] ts = false

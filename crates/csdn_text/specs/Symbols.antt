@@ -33,6 +33,7 @@ pub data Nonterminal : Type 0 where
   invariant_kind : Nonterminal
   handler_item : Nonterminal
   handler_port : Nonterminal
+  timeout_item : Nonterminal
   sorts : Nonterminal
   sort_list : Nonterminal
   more_sorts : Nonterminal
@@ -84,6 +85,7 @@ Value invariant_item = RawItem
 Value invariant_kind = InvariantKind
 Value handler_item = RawItem
 Value handler_port = RawPattern
+Value timeout_item = RawItem
 Value sorts = List Sort
 Value sort_list = List Sort
 Value more_sorts = List Sort

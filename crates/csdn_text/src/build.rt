@@ -6,11 +6,11 @@ ghost use Rattle.csdn_text.specs.declared.TextRefusal.TheVariants.{Memory};
 ghost use Rattle.csdn_text.specs.Grammar as grammar;
 
 use crate::TextRefusal;
-use crate::parts::{Action, AtomRest, FlowTerms, PacketTerms, Quantifier};
+use crate::parts::Quantifier;
 use csdn_core::terms::Sort;
 use csdn_tokens::Token;
-use csdn_tree::names::{RawName, RawTerm};
-use csdn_tree::syntax::{RawCommand, RawFlow, RawFormula, RawPacket};
+use csdn_tree::names::RawName;
+use csdn_tree::syntax::{RawCommand, RawFormula};
 use sqlite_items::{Boxed, Items};
 use std::alloc::{AllocError, Global};
 
@@ -22,54 +22,6 @@ pub fn name_at(alloc: Global, word: &Token) -> Result<RawName, AllocError>
         at: word.at,
         text: Items::from_slice(alloc, word.text.as_slice())?,
     })
-}
-
-fn flow_of(switch: RawName, terms: FlowTerms) -> RawFlow
-    ensures { result ≡ grammar.flow_of switch terms }
-{
-    RawFlow {
-        switch,
-        source: terms.source,
-        target: terms.target,
-        ingress: terms.ingress,
-        egress: terms.egress,
-    }
-}
-
-fn packet_of(switch: RawName, terms: PacketTerms) -> RawPacket
-    ensures { result ≡ grammar.packet_of switch terms }
-{
-    RawPacket {
-        switch,
-        source: terms.source,
-        target: terms.target,
-        ingress: terms.ingress,
-    }
-}
-
-/// The atom of a name and what stands behind it.
-pub fn atom_of(name: RawName, rest: AtomRest) -> RawFormula
-    ensures { result ≡ grammar.atom_of name rest }
-{
-    match rest {
-        AtomRest::Row(terms) => RawFormula::Atom(name, terms),
-        AtomRest::Same(term) => RawFormula::Same(RawTerm::Name(name), term),
-        AtomRest::Flow(at, word, terms) => RawFormula::Flow(at, word, flow_of(name, terms)),
-        AtomRest::RcvThis(at, terms) => RawFormula::RcvThis(at, packet_of(name, terms)),
-    }
-}
-
-/// The command of a name and what is done with it.
-pub fn command_of(name: RawName, action: Action) -> RawCommand
-    ensures { result ≡ grammar.command_of name action }
-{
-    match action {
-        Action::Insert(terms) => RawCommand::Insert(name, terms),
-        Action::Remove(terms) => RawCommand::Remove(name, terms),
-        Action::Install(terms) => RawCommand::Install(flow_of(name, terms)),
-        Action::Forward(terms) => RawCommand::Forward(flow_of(name, terms)),
-        Action::Flood(terms) => RawCommand::Flood(packet_of(name, terms)),
-    }
 }
 
 pub fn negated(alloc: Global, inner: RawFormula) -> Result<RawFormula, TextRefusal>

@@ -4,7 +4,7 @@ ghost use Rattle.csdn_text.specs.Symbols.{here, part, block, commands, command, 
 ghost use Rattle.csdn_text.specs.Machine.{Parses, limit};
 
 use crate::TextRefusal;
-use crate::build::{branching, choosing, command_of, followed};
+use crate::build::{branching, choosing, followed};
 use crate::parser::Parser;
 use crate::parts::Action;
 use csdn_tokens::Kind;
@@ -65,7 +65,7 @@ impl<'a> Parser<'a> {
             self.take(Kind::Dot, depth)?;
             let action = self.action(alloc, depth)?;
             self.take(Kind::Semicolon, depth)?;
-            Ok(command_of(name, action))
+            Ok(action.command_of(name))
         }
     }
 
@@ -137,6 +137,10 @@ impl<'a> Parser<'a> {
             self.take(Kind::Install, depth)?;
             let flow = self.flow(alloc, depth)?;
             Ok(Action::Install(flow))
+        } else if self.next_is(Kind::Uninstall) {
+            self.take(Kind::Uninstall, depth)?;
+            let flow = self.flow(alloc, depth)?;
+            Ok(Action::Uninstall(flow))
         } else if self.next_is(Kind::Forward) {
             self.take(Kind::Forward, depth)?;
             let flow = self.flow(alloc, depth)?;

@@ -4,7 +4,7 @@ ghost use Rattle.csdn_text.specs.Symbols.{here, part, formula, binds, more_binds
 ghost use Rattle.csdn_text.specs.Machine.{Parses, limit};
 
 use crate::TextRefusal;
-use crate::build::{atom_of, conjoined, disjoined, equated, implied, negated, quantified};
+use crate::build::{conjoined, disjoined, equated, implied, negated, quantified};
 use crate::parser::Parser;
 use crate::parts::{AtomRest, Quantifier};
 use csdn_tokens::Kind;
@@ -189,7 +189,7 @@ impl<'a> Parser<'a> {
         } else {
             let name = self.name(alloc, depth)?;
             let rest = self.atom_rest(alloc, depth)?;
-            Ok(atom_of(name, rest))
+            Ok(rest.atom_of(name))
         }
     }
 

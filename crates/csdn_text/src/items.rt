@@ -1,13 +1,13 @@
 //! Items and the whole program.
 ghost use Rattle.std.specs.Prelude.{◌≡◌, ◌+◌, ◌≤◌, length, OnOk};
-ghost use Rattle.csdn_text.specs.Symbols.{here, part, program, item, static_item, const_item, rel_item, invariant_item, invariant_kind, handler_item, handler_port, initial};
+ghost use Rattle.csdn_text.specs.Symbols.{here, part, program, item, static_item, const_item, rel_item, invariant_item, invariant_kind, handler_item, handler_port, timeout_item, initial};
 ghost use Rattle.csdn_text.specs.Machine.{Parses, limit};
 
 use crate::TextRefusal;
 use crate::parser::Parser;
 use csdn_tokens::Kind;
 use csdn_tree::syntax::{
-    InvariantKind, RawHandler, RawItem, RawPattern, RawProgram, RawRelation, RawRows,
+    InvariantKind, RawHandler, RawItem, RawPattern, RawProgram, RawRelation, RawRows, RawTimeout,
 };
 use sqlite_items::Items;
 use std::alloc::Global;
@@ -30,6 +30,9 @@ impl<'a> Parser<'a> {
             Ok(whole)
         } else if self.begins(Kind::PktIn) {
             let whole = self.handler_item(alloc, depth)?;
+            Ok(whole)
+        } else if self.begins(Kind::Timeout) {
+            let whole = self.timeout_item(depth)?;
             Ok(whole)
         } else {
             let whole = self.invariant_item(alloc, depth)?;
@@ -114,6 +117,20 @@ impl<'a> Parser<'a> {
             self.take(Kind::Trans, depth)?;
             Ok(InvariantKind::Trans)
         }
+    }
+
+    /// `timeout number;`.
+    pub fn timeout_item(&mut self, depth: usize) -> Result<RawItem, TextRefusal>
+        ensures parses { Parses depth (part timeout_item here) self.old self.new result }
+        ensures shorter { OnOk result (length self.new + 1 ≤ length self.old) }
+    {
+        let word = self.take(Kind::Timeout, depth)?;
+        let number = self.take(Kind::Number, depth)?;
+        self.take(Kind::Semicolon, depth)?;
+        Ok(RawItem::Timeout(RawTimeout {
+            at: word.at,
+            seconds: number.number,
+        }))
     }
 
     /// `pktIn(switch, source -> target, ingress) block`.

@@ -78,6 +78,7 @@ impl<'a> Parser<'a> {
             || self.next_is(Kind::Const)
             || self.next_is(Kind::Rel)
             || self.next_is(Kind::PktIn)
+            || self.next_is(Kind::Timeout)
             || self.next_is(Kind::Topology)
             || self.next_is(Kind::Safety)
             || self.next_is(Kind::Trans)

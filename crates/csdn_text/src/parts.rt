@@ -1,16 +1,18 @@
 //! What stands for parts of the grammar for which the tree has no node of their own.
-use csdn_tree::names::{RawTerm, RawTerms};
-use csdn_tree::syntax::FlowWord;
+ghost use Rattle.std.specs.Prelude.{◌≡◌};
+ghost use Rattle.csdn_text.specs.Grammar as grammar;
+
+use csdn_tree::names::{RawName, RawTerm, RawTerms};
+use csdn_tree::syntax::{FlowWord, RawCommand, RawFlow, RawFormula, RawPacket};
 
 /// Whether a name is bound by `forall` or by `exists`.
-#[derive(Clone, Copy, Debug)]
+#[derive(Clone, Copy)]
 pub enum Quantifier {
     All,
     Some,
 }
 
 /// `(source -> target, ingress -> egress)`.
-#[derive(Drop)]
 pub struct FlowTerms {
     pub source: RawTerm,
     pub target: RawTerm,
@@ -18,16 +20,75 @@ pub struct FlowTerms {
     pub egress: RawTerm,
 }
 
+impl Drop for FlowTerms {
+    fn drop(self) {
+        let FlowTerms {
+            source: _source,
+            target: _target,
+            ingress: _ingress,
+            egress: _egress,
+        } = self;
+    }
+}
+
+impl FlowTerms {
+    /// These terms behind a switch.
+    fn flow_of(self, switch: RawName) -> RawFlow
+        ensures { result ≡ grammar.flow_of switch self }
+    {
+        let FlowTerms {
+            source,
+            target,
+            ingress,
+            egress,
+        } = self;
+        RawFlow {
+            switch,
+            source,
+            target,
+            ingress,
+            egress,
+        }
+    }
+}
+
 /// `(source -> target, ingress)`.
-#[derive(Drop)]
 pub struct PacketTerms {
     pub source: RawTerm,
     pub target: RawTerm,
     pub ingress: RawTerm,
 }
 
+impl Drop for PacketTerms {
+    fn drop(self) {
+        let PacketTerms {
+            source: _source,
+            target: _target,
+            ingress: _ingress,
+        } = self;
+    }
+}
+
+impl PacketTerms {
+    /// These terms behind a switch.
+    fn packet_of(self, switch: RawName) -> RawPacket
+        ensures { result ≡ grammar.packet_of switch self }
+    {
+        let PacketTerms {
+            source,
+            target,
+            ingress,
+        } = self;
+        RawPacket {
+            switch,
+            source,
+            target,
+            ingress,
+        }
+    }
+}
+
 /// What stands behind the name with which an atom begins.
-#[derive(Drop)]
 pub enum AtomRest {
     /// `(terms)`
     Row(RawTerms),
@@ -39,12 +100,66 @@ pub enum AtomRest {
     RcvThis(usize, PacketTerms),
 }
 
+impl Drop for AtomRest {
+    fn drop(self) {
+        match self {
+            AtomRest::Row(_terms) => {}
+            AtomRest::Same(_term) => {}
+            AtomRest::Flow(_at, _word, _terms) => {}
+            AtomRest::RcvThis(_at, _terms) => {}
+        }
+    }
+}
+
+impl AtomRest {
+    /// The atom of a name and what stands behind it.
+    pub fn atom_of(self, name: RawName) -> RawFormula
+        ensures { result ≡ grammar.atom_of name self }
+    {
+        match self {
+            AtomRest::Row(terms) => RawFormula::Atom(name, terms),
+            AtomRest::Same(term) => RawFormula::Same(RawTerm::Name(name), term),
+            AtomRest::Flow(at, word, terms) => RawFormula::Flow(at, word, terms.flow_of(name)),
+            AtomRest::RcvThis(at, terms) => RawFormula::RcvThis(at, terms.packet_of(name)),
+        }
+    }
+}
+
 /// What is done with the name with which a command begins.
-#[derive(Drop)]
 pub enum Action {
     Insert(RawTerms),
     Remove(RawTerms),
     Install(FlowTerms),
+    Uninstall(FlowTerms),
     Forward(FlowTerms),
     Flood(PacketTerms),
+}
+
+impl Drop for Action {
+    fn drop(self) {
+        match self {
+            Action::Insert(_terms) => {}
+            Action::Remove(_terms) => {}
+            Action::Install(_terms) => {}
+            Action::Uninstall(_terms) => {}
+            Action::Forward(_terms) => {}
+            Action::Flood(_terms) => {}
+        }
+    }
+}
+
+impl Action {
+    /// The command of a name and what is done with it.
+    pub fn command_of(self, name: RawName) -> RawCommand
+        ensures { result ≡ grammar.command_of name self }
+    {
+        match self {
+            Action::Insert(terms) => RawCommand::Insert(name, terms),
+            Action::Remove(terms) => RawCommand::Remove(name, terms),
+            Action::Install(terms) => RawCommand::Install(terms.flow_of(name)),
+            Action::Uninstall(terms) => RawCommand::Uninstall(terms.flow_of(name)),
+            Action::Forward(terms) => RawCommand::Forward(terms.flow_of(name)),
+            Action::Flood(terms) => RawCommand::Flood(terms.packet_of(name)),
+        }
+    }
 }

@@ -33,11 +33,9 @@ pub enum Kind {
     Insert,
     Remove,
     Install,
-    /// Reserved for a later version of the language; stands in no rule.
     Uninstall,
     Forward,
     Flood,
-    /// Reserved for a later version of the language; stands in no rule.
     Timeout,
     Ft,
     Sent,
@@ -81,7 +79,7 @@ pub enum Kind {
 }
 
 /// A token.
-#[derive(Debug, Drop)]
+#[derive(Drop)]
 pub struct Token {
     pub kind: Kind,
     /// Where its first byte stands, in bytes from the beginning of the text.
@@ -93,7 +91,7 @@ pub struct Token {
 }
 
 /// What stands at the front of a text, and how many bytes it has.
-#[derive(Clone, Copy, Debug)]
+#[derive(Clone, Copy)]
 pub enum Piece {
     /// Blanks, or a comment.
     Blank(usize),
@@ -147,7 +145,7 @@ pub const RESERVED: [(&[u8], Kind); 33] = [
 ];
 
 /// The classes of bytes that runs are made of.
-#[derive(Clone, Copy, Debug)]
+#[derive(Clone, Copy)]
 enum Class {
     Blank,
     Digit,

@@ -93,6 +93,10 @@ pub command_binders-Install : (w : RawFlow) → command_binders (c.Install w) �
 unfolding command_binders
 command_binders-Install w = refl
 
+pub command_binders-Uninstall : (w : RawFlow) → command_binders (c.Uninstall w) ≡ 0
+unfolding command_binders
+command_binders-Uninstall w = refl
+
 pub command_binders-Forward : (w : RawFlow) → command_binders (c.Forward w) ≡ 0
 unfolding command_binders
 command_binders-Forward w = refl
@@ -101,4 +105,4 @@ pub command_binders-Flood : (w : RawPacket) → command_binders (c.Flood w) ≡ 
 unfolding command_binders
 command_binders-Flood w = refl
 
-pub ruleset binder_steps = (binders-True, binders-False, binders-Atom, binders-Same, binders-Flow, binders-RcvThis, binders-Not, binders-And, binders-Or, binders-Implies, binders-Iff, binders-Forall, binders-Exists, command_binders-Skip, command_binders-Seq, command_binders-If, command_binders-Pick, command_binders-Insert, command_binders-Remove, command_binders-Install, command_binders-Forward, command_binders-Flood)
+pub ruleset binder_steps = (binders-True, binders-False, binders-Atom, binders-Same, binders-Flow, binders-RcvThis, binders-Not, binders-And, binders-Or, binders-Implies, binders-Iff, binders-Forall, binders-Exists, command_binders-Skip, command_binders-Seq, command_binders-If, command_binders-Pick, command_binders-Insert, command_binders-Remove, command_binders-Install, command_binders-Uninstall, command_binders-Forward, command_binders-Flood)

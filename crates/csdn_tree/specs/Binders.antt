@@ -33,6 +33,7 @@ command_binders (raw_pick name sort p a b) = (1 + binders p) + (command_binders 
 command_binders (c.Insert name us) = 0
 command_binders (c.Remove name us) = 0
 command_binders (c.Install w) = 0
+command_binders (c.Uninstall w) = 0
 command_binders (c.Forward w) = 0
 command_binders (c.Flood w) = 0
 
@@ -42,6 +43,7 @@ item_binders (item.Relation r) = 0
 item_binders (item.Constant name sort) = 0
 item_binders (item.Invariant kind name p) = binders p
 item_binders (item.Handler h) = 4 + command_binders h.body
+item_binders (item.Timeout t) = 0
 
 -- how many variables are bound
 unfoldable pub items_binders : List RawItem → ℕ

@@ -16,6 +16,7 @@ item_names (item.Relation r) = r.name.text ∷ []
 item_names (item.Constant name sort) = name.text ∷ []
 item_names (item.Invariant kind name p) = name.text ∷ []
 item_names (item.Handler h) = []
+item_names (item.Timeout t) = []
 
 -- the names of all declarations and invariants, in the order of the text
 abbrev pub items_names : List RawItem → List (List ℕ)
@@ -28,6 +29,15 @@ KeepsStatics (item.Relation r) = r.fixed ≡ true → r.rows ≡ []
 KeepsStatics (item.Constant name sort) = Unit {0}
 KeepsStatics (item.Invariant kind name p) = Unit {0}
 KeepsStatics (item.Handler h) = Unit {0}
+KeepsStatics (item.Timeout t) = Unit {0}
+
+-- the seconds of a `timeout` are a number of the language
+abbrev pub HasSeconds : RawItem → Type 0
+HasSeconds (item.Relation r) = Unit {0}
+HasSeconds (item.Constant name sort) = Unit {0}
+HasSeconds (item.Invariant kind name p) = Unit {0}
+HasSeconds (item.Handler h) = Unit {0}
+HasSeconds (item.Timeout t) = IsNumeral t.seconds
 
 pub record IsFromText (raw : RawProgram) : Type 0 where
   -- places rise in the order of the text
@@ -40,3 +50,5 @@ pub record IsFromText (raw : RawProgram) : Type 0 where
   pub numerals : All IsNumeral (items_numerals raw.items)
   -- the rows of relations are those of `rel` relations
   pub statics : All KeepsStatics raw.items
+  -- the seconds of timeouts are numbers
+  pub seconds : All HasSeconds raw.items

@@ -93,6 +93,10 @@ pub raw_commands-Install : (w : RawFlow) → raw_commands (c.Install w) ≡ 1
 unfolding raw_commands
 raw_commands-Install w = refl
 
+pub raw_commands-Uninstall : (w : RawFlow) → raw_commands (c.Uninstall w) ≡ 1
+unfolding raw_commands
+raw_commands-Uninstall w = refl
+
 pub raw_commands-Forward : (w : RawFlow) → raw_commands (c.Forward w) ≡ 1
 unfolding raw_commands
 raw_commands-Forward w = refl
@@ -101,4 +105,4 @@ pub raw_commands-Flood : (w : RawPacket) → raw_commands (c.Flood w) ≡ 1
 unfolding raw_commands
 raw_commands-Flood w = refl
 
-pub ruleset raw_node_steps = (raw_nodes-True, raw_nodes-False, raw_nodes-Atom, raw_nodes-Same, raw_nodes-Flow, raw_nodes-RcvThis, raw_nodes-Not, raw_nodes-And, raw_nodes-Or, raw_nodes-Implies, raw_nodes-Iff, raw_nodes-Forall, raw_nodes-Exists, raw_commands-Skip, raw_commands-Seq, raw_commands-If, raw_commands-Pick, raw_commands-Insert, raw_commands-Remove, raw_commands-Install, raw_commands-Forward, raw_commands-Flood)
+pub ruleset raw_node_steps = (raw_nodes-True, raw_nodes-False, raw_nodes-Atom, raw_nodes-Same, raw_nodes-Flow, raw_nodes-RcvThis, raw_nodes-Not, raw_nodes-And, raw_nodes-Or, raw_nodes-Implies, raw_nodes-Iff, raw_nodes-Forall, raw_nodes-Exists, raw_commands-Skip, raw_commands-Seq, raw_commands-If, raw_commands-Pick, raw_commands-Insert, raw_commands-Remove, raw_commands-Install, raw_commands-Uninstall, raw_commands-Forward, raw_commands-Flood)

@@ -30,5 +30,6 @@ raw_commands (raw_pick name sort p a b) = raw_commands a + raw_commands b + 1
 raw_commands (c.Insert name ts) = 1
 raw_commands (c.Remove name ts) = 1
 raw_commands (c.Install w) = 1
+raw_commands (c.Uninstall w) = 1
 raw_commands (c.Forward w) = 1
 raw_commands (c.Flood w) = 1

@@ -93,6 +93,10 @@ pub command_numerals-Install : (w : RawFlow) → command_numerals (c.Install w) 
 unfolding command_numerals
 command_numerals-Install w = refl
 
+pub command_numerals-Uninstall : (w : RawFlow) → command_numerals (c.Uninstall w) ≡ flow_numerals w
+unfolding command_numerals
+command_numerals-Uninstall w = refl
+
 pub command_numerals-Forward : (w : RawFlow) → command_numerals (c.Forward w) ≡ flow_numerals w
 unfolding command_numerals
 command_numerals-Forward w = refl
@@ -101,4 +105,4 @@ pub command_numerals-Flood : (w : RawPacket) → command_numerals (c.Flood w) �
 unfolding command_numerals
 command_numerals-Flood w = refl
 
-pub ruleset numeral_steps = (formula_numerals-True, formula_numerals-False, formula_numerals-Atom, formula_numerals-Same, formula_numerals-Flow, formula_numerals-RcvThis, formula_numerals-Not, formula_numerals-And, formula_numerals-Or, formula_numerals-Implies, formula_numerals-Iff, formula_numerals-Forall, formula_numerals-Exists, command_numerals-Skip, command_numerals-Seq, command_numerals-If, command_numerals-Pick, command_numerals-Insert, command_numerals-Remove, command_numerals-Install, command_numerals-Forward, command_numerals-Flood)
+pub ruleset numeral_steps = (formula_numerals-True, formula_numerals-False, formula_numerals-Atom, formula_numerals-Same, formula_numerals-Flow, formula_numerals-RcvThis, formula_numerals-Not, formula_numerals-And, formula_numerals-Or, formula_numerals-Implies, formula_numerals-Iff, formula_numerals-Forall, formula_numerals-Exists, command_numerals-Skip, command_numerals-Seq, command_numerals-If, command_numerals-Pick, command_numerals-Insert, command_numerals-Remove, command_numerals-Install, command_numerals-Uninstall, command_numerals-Forward, command_numerals-Flood)

@@ -49,6 +49,7 @@ command_numerals (raw_pick name sort p a b) = formula_numerals p ++ (command_num
 command_numerals (c.Insert name ts) = terms_numerals ts
 command_numerals (c.Remove name ts) = terms_numerals ts
 command_numerals (c.Install w) = flow_numerals w
+command_numerals (c.Uninstall w) = flow_numerals w
 command_numerals (c.Forward w) = flow_numerals w
 command_numerals (c.Flood w) = term_numerals w.source ++ (term_numerals w.target ++ term_numerals w.ingress)
 
@@ -65,6 +66,7 @@ item_numerals (item.Relation r) = rows_numerals r.rows
 item_numerals (item.Constant name sort) = []
 item_numerals (item.Invariant kind name p) = formula_numerals p
 item_numerals (item.Handler h) = port_numerals h.ingress ++ command_numerals h.body
+item_numerals (item.Timeout t) = []
 
 abbrev pub items_numerals : List RawItem → List ℕ
 items_numerals [] = []

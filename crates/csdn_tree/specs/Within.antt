@@ -44,6 +44,7 @@ CommandWithin from (raw_pick name sort p a b) to =
 CommandWithin from (c.Insert name ts) to = (from ≤ name.at) × TermsWithin (name.at + 1) ts to
 CommandWithin from (c.Remove name ts) to = (from ≤ name.at) × TermsWithin (name.at + 1) ts to
 CommandWithin from (c.Install w) to = TermsWithin from (Name w.switch ∷ w.source ∷ w.target ∷ w.ingress ∷ w.egress ∷ []) to
+CommandWithin from (c.Uninstall w) to = TermsWithin from (Name w.switch ∷ w.source ∷ w.target ∷ w.ingress ∷ w.egress ∷ []) to
 CommandWithin from (c.Forward w) to = TermsWithin from (Name w.switch ∷ w.source ∷ w.target ∷ w.ingress ∷ w.egress ∷ []) to
 CommandWithin from (c.Flood w) to = TermsWithin from (Name w.switch ∷ w.source ∷ w.target ∷ w.ingress ∷ []) to
 
@@ -62,6 +63,7 @@ ItemWithin from (item.Invariant kind name p) to = (from ≤ name.at) × Within (
 ItemWithin from (item.Handler h) to =
     (from ≤ h.at) × (h.at < h.switch.at) × (h.switch.at < h.source.at) × (h.source.at < h.target.at) × (h.target.at < port_place h.ingress)
     × CommandWithin (port_place h.ingress + 1) h.body to
+ItemWithin from (item.Timeout t) to = (from ≤ t.at) × (t.at < to)
 
 -- the places of a program rise in the order of the text
 unfoldable pub ItemsWithin : ℕ → List RawItem → ℕ → Type 0

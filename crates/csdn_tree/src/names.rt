@@ -5,10 +5,18 @@ use sqlite_items::Items;
 pub type Text = Items<u8>;
 
 /// A name, and where its first byte stands.
-#[derive(Drop)]
 pub struct RawName {
     pub at: usize,
     pub text: Text,
+}
+
+impl Drop for RawName {
+    fn drop(self) {
+        let RawName {
+            at: _at,
+            text: _text,
+        } = self;
+    }
 }
 
 /// `prt(number)`, and where its word `prt` stands.
@@ -19,10 +27,18 @@ pub struct RawNumeral {
     pub number: u16,
 }
 
-#[derive(Drop)]
 pub enum RawTerm {
     Name(RawName),
     Port(RawNumeral),
+}
+
+impl Drop for RawTerm {
+    fn drop(self) {
+        match self {
+            RawTerm::Name(_name) => {}
+            RawTerm::Port(_port) => {}
+        }
+    }
 }
 
 pub type RawTerms = Items<RawTerm>;

@@ -5,7 +5,6 @@ use csdn_core::terms::Sort;
 use sqlite_items::{Boxed, Items};
 
 /// `switch.word(source -> target, ingress -> egress)`.
-#[derive(Drop)]
 pub struct RawFlow {
     pub switch: RawName,
     pub source: RawTerm,
@@ -14,13 +13,35 @@ pub struct RawFlow {
     pub egress: RawTerm,
 }
 
+impl Drop for RawFlow {
+    fn drop(self) {
+        let RawFlow {
+            switch: _switch,
+            source: _source,
+            target: _target,
+            ingress: _ingress,
+            egress: _egress,
+        } = self;
+    }
+}
+
 /// `switch.word(source -> target, ingress)`.
-#[derive(Drop)]
 pub struct RawPacket {
     pub switch: RawName,
     pub source: RawTerm,
     pub target: RawTerm,
     pub ingress: RawTerm,
+}
+
+impl Drop for RawPacket {
+    fn drop(self) {
+        let RawPacket {
+            switch: _switch,
+            source: _source,
+            target: _target,
+            ingress: _ingress,
+        } = self;
+    }
 }
 
 /// A built-in relation of five terms.
@@ -60,6 +81,7 @@ pub enum RawCommand {
     Insert(RawName, RawTerms),
     Remove(RawName, RawTerms),
     Install(RawFlow),
+    Uninstall(RawFlow),
     Forward(RawFlow),
     Flood(RawPacket),
 }
@@ -74,7 +96,6 @@ pub struct RawRow {
 pub type RawRows = Items<RawRow>;
 
 /// `static NAME(sorts);` or `rel NAME(sorts) = {rows};`.
-#[derive(Drop)]
 pub struct RawRelation {
     pub name: RawName,
     pub sorts: Sorts,
@@ -84,15 +105,33 @@ pub struct RawRelation {
     pub rows: RawRows,
 }
 
+impl Drop for RawRelation {
+    fn drop(self) {
+        let RawRelation {
+            name: _name,
+            sorts: _sorts,
+            fixed: _fixed,
+            rows: _rows,
+        } = self;
+    }
+}
+
 /// The port of a handler: a variable, which fits every port, or one port.
-#[derive(Drop)]
 pub enum RawPattern {
     Any(RawName),
     Port(RawNumeral),
 }
 
+impl Drop for RawPattern {
+    fn drop(self) {
+        match self {
+            RawPattern::Any(_name) => {}
+            RawPattern::Port(_port) => {}
+        }
+    }
+}
+
 /// `pktIn(switch, source -> target, ingress) {body}`.
-#[derive(Drop)]
 pub struct RawHandler {
     /// Where `pktIn` stands.
     pub at: usize,
@@ -103,6 +142,19 @@ pub struct RawHandler {
     pub body: RawCommand,
 }
 
+impl Drop for RawHandler {
+    fn drop(self) {
+        let RawHandler {
+            at: _at,
+            switch: _switch,
+            source: _source,
+            target: _target,
+            ingress: _ingress,
+            body: _body,
+        } = self;
+    }
+}
+
 /// The three kinds of invariants.
 #[derive(Clone, Copy, Debug, PartialEq, Eq)]
 pub enum InvariantKind {
@@ -111,18 +163,43 @@ pub enum InvariantKind {
     Trans,
 }
 
-#[derive(Drop)]
+/// `timeout seconds;`, and where its word `timeout` stands.
+#[derive(Clone, Copy)]
+pub struct RawTimeout {
+    pub at: usize,
+    /// From 1 to 65,280.
+    pub seconds: u16,
+}
+
 pub enum RawItem {
     Relation(RawRelation),
     Constant(RawName, Sort),
     Invariant(InvariantKind, RawName, RawFormula),
     Handler(RawHandler),
+    Timeout(RawTimeout),
+}
+
+impl Drop for RawItem {
+    fn drop(self) {
+        match self {
+            RawItem::Relation(_relation) => {}
+            RawItem::Constant(_name, _sort) => {}
+            RawItem::Invariant(_kind, _name, _formula) => {}
+            RawItem::Handler(_handler) => {}
+            RawItem::Timeout(_timeout) => {}
+        }
+    }
 }
 
 pub type RawItems = Items<RawItem>;
 
 /// The tree of a program's text.
-#[derive(Drop)]
 pub struct RawProgram {
     pub items: RawItems,
+}
+
+impl Drop for RawProgram {
+    fn drop(self) {
+        let RawProgram { items: _items } = self;
+    }
 }

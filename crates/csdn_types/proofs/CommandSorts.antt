@@ -111,6 +111,7 @@ command_bound_in-typed s (raw_pick name sort p a b) =
 command_bound_in-typed s (c.Insert name us) = refl
 command_bound_in-typed s (c.Remove name us) = refl
 command_bound_in-typed s (c.Install w) = refl
+command_bound_in-typed s (c.Uninstall w) = refl
 command_bound_in-typed s (c.Forward w) = refl
 command_bound_in-typed s (c.Flood w) = refl
 
@@ -160,5 +161,6 @@ command_is_sorted S own s (raw_pick name sort p a b) part numerals free =
 command_is_sorted S own s (c.Insert name us) part numerals free = relation_is_write s S part name.at us (relation_named s name.text) numerals free
 command_is_sorted S own s (c.Remove name us) part numerals free = relation_is_write s S part name.at us (relation_named s name.text) numerals free
 command_is_sorted S own s (c.Install w) part numerals free = install_is S own s part w numerals free
+command_is_sorted S own s (c.Uninstall w) part numerals free = install_is S own s part w numerals free
 command_is_sorted S own s (c.Forward w) part numerals free = forward_is S own s part w numerals free
 command_is_sorted S own s (c.Flood w) part numerals free = flood_parts S own s part w numerals free

@@ -19,7 +19,7 @@ use Rattle.csdn_tree.specs.declared.syntax.RawFormula.{RawFormula}
 use Rattle.csdn_tree.specs.declared.syntax.RawRelation.{RawRelation}
 use Rattle.csdn_tree.specs.declared.syntax.RawRow.{RawRow}
 use Rattle.csdn_tree.specs.declared.syntax.RawItem.{RawItem}
-use Rattle.csdn_tree.specs.declared.syntax.RawItem.TheVariants.{Relation, Constant, Invariant, Handler}
+use Rattle.csdn_tree.specs.declared.syntax.RawItem.TheVariants.{Relation, Constant, Invariant, Handler, Timeout}
 use Rattle.csdn_tree.specs.FromText.{item_names, items_names}
 use Rattle.csdn_core.specs.declared.terms.Sort.{Sort}
 use Rattle.csdn_types.specs.declared.refusal.SortRefusal.{SortRefusal}
@@ -238,6 +238,7 @@ declared-item d (Invariant kind name p) words free h =
 declared-item d (Handler x) words free h =
     let few = below 32 (length d.handlers) (TooMany x.at) (free_left (fault_if (nat_le 32 (length d.handlers)) (TooMany x.at)) _ free) in
     record { relations = h.relations; constants = h.constants; invariants = h.invariants; handlers = omega (arith, few, length-append d.handlers (handler_of d.scope x ∷ [])) }
+declared-item d (Timeout t) words free h = record { relations = h.relations; constants = h.constants; invariants = h.invariants; handlers = h.handlers }
 
 pub declared-items : (d : Draft) (items : List RawItem) → ByRecursion IsName (items_names items) → items_faults d items ≡ [] → Declared d → Declared (with_items d items)
 unfolding with_items items_faults

@@ -7,7 +7,7 @@ use Rattle.csdn_core.specs.declared.program.Invariant.{Invariant as NamedFormula
 use Rattle.csdn_core.specs.declared.program.Handler.{Handler as TypedHandler}
 use Rattle.csdn_tree.specs.declared.syntax.InvariantKind.TheVariants.{Topology, Safety, Trans}
 use Rattle.csdn_tree.specs.declared.syntax.RawItem.{RawItem}
-use Rattle.csdn_tree.specs.declared.syntax.RawItem.TheVariants.{Relation, Constant, Invariant, Handler}
+use Rattle.csdn_tree.specs.declared.syntax.RawItem.TheVariants.{Relation, Constant, Invariant, Handler, Timeout}
 use Rattle.csdn_tree.specs.declared.syntax.RawHandler.{RawHandler}
 use Rattle.csdn_tree.specs.Binders.{item_binders, items_binders, command_binders}
 use Rattle.csdn_tree.specs.Numerals.{item_numerals, items_numerals}
@@ -39,6 +39,7 @@ module _ (q : ℕ → Bool) (of_invariant : NamedFormula → List ℕ) (of_handl
   given d (Constant name sort) = []
   given d (Invariant kind name p) = of_invariant (named_formula d.scope name p)
   given d (Handler h) = of_handler (handler_of d.scope h)
+  given d (Timeout t) = []
 
   gathered-item : (d : Draft) (item : RawItem) → gathered (with_item d item) ≡ gathered d + times q (given d item)
   gathered-item d (Relation r) = omega (arith, times-nil q)
@@ -47,6 +48,7 @@ module _ (q : ℕ → Bool) (of_invariant : NamedFormula → List ℕ) (of_handl
   gathered-item d (Invariant Safety name p) = omega (arith, times-flat_push q of_invariant d.safety (named_formula d.scope name p))
   gathered-item d (Invariant Trans name p) = omega (arith, times-flat_push q of_invariant d.trans (named_formula d.scope name p))
   gathered-item d (Handler h) = omega (arith, times-flat_push q of_handler d.handlers (handler_of d.scope h))
+  gathered-item d (Timeout t) = omega (arith, times-nil q)
 
 -- ---- the numbers of variables
 
@@ -64,6 +66,7 @@ numbers_given q d (Relation r) = refl
 numbers_given q d (Constant name sort) = refl
 numbers_given q d (Invariant kind name p) = bound_in-typed d.scope p
 numbers_given q d (Handler h) = handler_numbers d.scope h
+numbers_given q d (Timeout t) = refl
 
 -- the numbers so far are those below the next one, each once
 abbrev pub Numbered : (ℕ → Bool) → Draft → Type 0
@@ -109,6 +112,7 @@ numerals_given q d (Invariant Topology name p) = omega (arith, gathered-item q c
 numerals_given q d (Invariant Safety name p) = omega (arith, gathered-item q core.invariant_numerals core.handler_numerals d (Invariant Safety name p), ap (λ ns. times q ns) (kept-formula d.scope p))
 numerals_given q d (Invariant Trans name p) = omega (arith, gathered-item q core.invariant_numerals core.handler_numerals d (Invariant Trans name p), ap (λ ns. times q ns) (kept-formula d.scope p))
 numerals_given q d (Handler h) = omega (arith, gathered-item q core.invariant_numerals core.handler_numerals d (Handler h), ap (λ ns. times q ns) (kept-handler d.scope h))
+numerals_given q d (Timeout t) = omega (arith, times-nil q)
 
 pub numerals_of_items : (q : ℕ → Bool) (d : Draft) (items : List RawItem) → all_numerals_of q (with_items d items) ≡ all_numerals_of q d + times q (items_numerals items)
 unfolding with_items

@@ -3,7 +3,7 @@ use Rattle.std.proofs.Common.{◌≡◌, ℕ, ◌+◌, ◌<◌, ◌≤◌, List,
 use Rattle.std.proofs.Math.ListN.{drop_of_length-le}
 use Rattle.csdn_types.specs.declared.refusal.SortRefusal.{SortRefusal}
 use Rattle.csdn_tree.specs.declared.syntax.RawItem.{RawItem}
-use Rattle.csdn_tree.specs.declared.syntax.RawItem.TheVariants.{Relation, Constant, Invariant, Handler}
+use Rattle.csdn_tree.specs.declared.syntax.RawItem.TheVariants.{Relation, Constant, Invariant, Handler, Timeout}
 use Rattle.csdn_tree.specs.declared.syntax.InvariantKind.TheVariants.{Topology, Safety, Trans}
 use Rattle.csdn_types.specs.Programs.{Draft, item_faults, with_item, items_faults, with_items}
 use Rattle.csdn_tree.specs.Binders.{item_binders, items_binders}
@@ -17,6 +17,7 @@ next-with_item d (Invariant Topology name p) = refl
 next-with_item d (Invariant Safety name p) = refl
 next-with_item d (Invariant Trans name p) = refl
 next-with_item d (Handler h) = refl
+next-with_item d (Timeout t) = sym (add-zero _)
 
 module _ (raw : List RawItem) (i : ℕ) (item : RawItem) (within : i < length raw) (is : item ≡ get_or raw i item) where
   pub next_items_faults : (d : Draft) → items_faults d (drop i raw) ≡ item_faults d item ++ items_faults (with_item d item) (drop (i + 1) raw)

@@ -17,7 +17,7 @@ use Rattle.csdn_tree.specs.declared.syntax.RawRelation.{RawRelation}
 use Rattle.csdn_tree.specs.declared.syntax.RawPattern.{RawPattern}
 use Rattle.csdn_tree.specs.declared.syntax.RawPattern.TheVariants.{Any as AnyPort, Port as OnePort}
 use Rattle.csdn_tree.specs.declared.syntax.RawItem.{RawItem}
-use Rattle.csdn_tree.specs.declared.syntax.RawItem.TheVariants.{Relation, Constant, Invariant, Handler}
+use Rattle.csdn_tree.specs.declared.syntax.RawItem.TheVariants.{Relation, Constant, Invariant, Handler, Timeout}
 use Rattle.csdn_tree.specs.Places.{place as place_of}
 use Rattle.csdn_types.specs.declared.own.OwnTerms.{OwnTerms}
 use Rattle.csdn_types.specs.declared.terms.Use.TheVariants.{Write}
@@ -60,6 +60,12 @@ module _ (own : OwnTerms) where
   command_ordered s (c.Insert name ts) from to within = atom_ordered Write s name ts from to within.0 within.1
   command_ordered s (c.Remove name ts) from to within = atom_ordered Write s name ts from to within.0 within.1
   command_ordered s (c.Install w) from to within =
+      then_later from (w.switch.at) to _ _ within.0 (own_ordered s Sw own.switch (Name w.switch))
+      (then_later _ (place_of w.source) to _ _ within.1.0 (term_ordered s Ho w.source)
+      (then_later _ (place_of w.target) to _ _ within.1.1.0 (term_ordered s Ho w.target)
+      (then_later _ (place_of w.ingress) to _ _ within.1.1.1.0 (term_ordered s Pr w.ingress)
+      (between _ (place_of w.egress) to _ within.1.1.1.1.0 (omega (arith, within.1.1.1.1.1)) (term_ordered s Pr w.egress)))))
+  command_ordered s (c.Uninstall w) from to within =
       then_later from (w.switch.at) to _ _ within.0 (own_ordered s Sw own.switch (Name w.switch))
       (then_later _ (place_of w.source) to _ _ within.1.0 (term_ordered s Ho w.source)
       (then_later _ (place_of w.target) to _ _ within.1.1.0 (term_ordered s Ho w.target)
@@ -116,6 +122,7 @@ item_ordered d (Handler h) from to (low, first, second, third, fourth, body) =
     (then_later _ h.target.at to (variable_faults (bound (bound s h.switch Sw) h.source Ho) h.target) _ (omega arith) (variable_ordered (bound (bound s h.switch Sw) h.source Ho) h.target)
     (then_later _ (port_place h.ingress) to (ingress_faults (bound (bound (bound s h.switch Sw) h.source Ho) h.target Ho) h.ingress) _ (omega arith) (ingress_ordered (bound (bound (bound s h.switch Sw) h.source Ho) h.target Ho) h.ingress)
     (command_ordered (own_of s h) (inside s h) h.body (port_place h.ingress + 1) to body)))))
+item_ordered d (Timeout t) from to within = between from t.at to _ within.0 within.1 (if_one (is_some d.timeout) _ _ (Duplicate t.at) (omega arith) (omega arith))
 
 pub items_ordered : (d : Draft) (items : List RawItem) (from to : ℕ) → ItemsWithin from items to → Ordered (8 * from) (items_faults d items) (8 * to)
 unfolding ItemsWithin items_faults

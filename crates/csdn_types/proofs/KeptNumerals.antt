@@ -96,6 +96,7 @@ kept-command s (raw_pick name sort p a b) =
 kept-command s (c.Insert name ts) = kept-terms s ts
 kept-command s (c.Remove name ts) = kept-terms s ts
 kept-command s (c.Install w) = kept-flow s w
+kept-command s (c.Uninstall w) = kept-flow s w
 kept-command s (c.Forward w) = kept-flow s w
 kept-command s (c.Flood w) = kept-packet s w
 

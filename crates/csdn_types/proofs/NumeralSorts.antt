@@ -93,5 +93,6 @@ module _ (S : Signature) where
   command_named (c.Insert name ts) h = terms_named ts h
   command_named (c.Remove name ts) h = terms_named ts h
   command_named (c.Install w) h = flow_named w h
+  command_named (c.Uninstall w) h = flow_named w h
   command_named (c.Forward w) h = flow_named w h
   command_named (c.Flood w) h = packet_named w h

@@ -12,15 +12,15 @@ use Rattle.csdn_core.specs.declared.program.Invariant.{Invariant as NamedFormula
 use Rattle.csdn_core.specs.declared.program.Handler.{Handler as TypedHandler}
 use Rattle.csdn_core.specs.declared.program.Parts.{Parts}
 use Rattle.csdn_core.specs.Sorted.{Signature, HaveSorts, IsSorted}
-use Rattle.csdn_core.specs.WellSorted.{signature, IsStartRow, IsCommand, own_packet, handler_binds}
+use Rattle.csdn_core.specs.WellSorted.{signature, IsStartRow, IsCommand, IsTimeout, own_packet, handler_binds}
 use Rattle.csdn_tree.specs.declared.names.RawName.{RawName}
 use Rattle.csdn_tree.specs.declared.syntax.InvariantKind.TheVariants.{Topology, Safety, Trans}
 use Rattle.csdn_tree.specs.declared.syntax.RawFormula.{RawFormula}
 use Rattle.csdn_tree.specs.declared.syntax.RawRelation.{RawRelation}
 use Rattle.csdn_tree.specs.declared.syntax.RawRow.{RawRow}
 use Rattle.csdn_tree.specs.declared.syntax.RawItem.{RawItem}
-use Rattle.csdn_tree.specs.declared.syntax.RawItem.TheVariants.{Relation, Constant, Invariant, Handler}
-use Rattle.csdn_tree.specs.FromText.{KeepsStatics}
+use Rattle.csdn_tree.specs.declared.syntax.RawItem.TheVariants.{Relation, Constant, Invariant, Handler, Timeout}
+use Rattle.csdn_tree.specs.FromText.{KeepsStatics, HasSeconds}
 use Rattle.csdn_tree.specs.Numerals.{terms_numerals, formula_numerals, command_numerals, port_numerals, rows_numerals, item_numerals, items_numerals}
 use Rattle.csdn_types.specs.declared.refusal.SortRefusal.TheVariants.{WrongArity, TooMany}
 use Rattle.csdn_types.specs.Scope.{Scope}
@@ -46,6 +46,7 @@ part-item S d (Invariant Topology name p) part = record { relations = part.relat
 part-item S d (Invariant Safety name p) part = record { relations = part.relations; constants = part.constants }
 part-item S d (Invariant Trans name p) part = record { relations = part.relations; constants = part.constants }
 part-item S d (Handler h) part = record { relations = part.relations; constants = part.constants }
+part-item S d (Timeout t) part = record { relations = part.relations; constants = part.constants }
 
 part-items : (S : Signature) (d : Draft) (items : List RawItem) → IsPart (with_items d items).scope S → IsPart d.scope S
 unfolding with_items
@@ -60,6 +61,7 @@ none-item d (Invariant Topology name p) none = none
 none-item d (Invariant Safety name p) none = none
 none-item d (Invariant Trans name p) none = none
 none-item d (Handler h) none = none
+none-item d (Timeout t) none = none
 
 -- ---- the items so far, as parts of a whole program
 
@@ -140,6 +142,7 @@ module _ (P : Parts) where
     handlers = All-push SortedHandler d.handlers (handler_of d.scope x) h.handlers
         (handler_is_sorted (signature P) d.scope (length d.handlers) x none (part-item (signature P) d (Handler x) part) (command_named (signature P) x.body (all_right (Contains P.numerals) (port_numerals x.ingress) (command_numerals x.body) numerals)) free);
   }
+  sorted-item d (Timeout t) none part numerals statics free h = record { start = h.start; topology = h.topology; safety = h.safety; trans = h.trans; handlers = h.handlers }
 
   pub sorted-items : (d : Draft) (items : List RawItem) → d.scope.variables ≡ [] → IsPart (with_items d items).scope (signature P) → Named (signature P) (items_numerals items) → ByRecursion KeepsStatics items → items_faults d items ≡ [] → SortedDraft d → SortedDraft (with_items d items)
   unfolding with_items items_faults
@@ -147,3 +150,18 @@ module _ (P : Parts) where
   sorted-items d (item ∷ items) none part numerals statics free h =
       sorted-items (with_item d item) items (none-item d item none) part (all_right (Contains P.numerals) (item_numerals item) (items_numerals items) numerals) statics.1 (free_right (item_faults d item) (items_faults (with_item d item) items) free)
       (sorted-item d item none (part-items (signature P) (with_item d item) items part) (all_left (Contains P.numerals) (item_numerals item) (items_numerals items) numerals) statics.0 (free_left (item_faults d item) (items_faults (with_item d item) items) free) h)
+
+-- the timeout of items is that of the text
+timeout-item : (d : Draft) (item : RawItem) → HasSeconds item → IsTimeout d.timeout → IsTimeout (with_item d item).timeout
+timeout-item d (Relation r) is h = h
+timeout-item d (Constant name sort) is h = h
+timeout-item d (Invariant Topology name p) is h = h
+timeout-item d (Invariant Safety name p) is h = h
+timeout-item d (Invariant Trans name p) is h = h
+timeout-item d (Handler x) is h = h
+timeout-item d (Timeout t) is h = is
+
+pub timeout-items : (d : Draft) (items : List RawItem) → ByRecursion HasSeconds items → IsTimeout d.timeout → IsTimeout (with_items d items).timeout
+unfolding with_items
+timeout-items d [] are h = h
+timeout-items d (item ∷ items) are h = timeout-items (with_item d item) items are.1 (timeout-item d item are.0 h)

@@ -12,7 +12,7 @@ use Rattle.csdn_core.specs.declared.program.Parts.{Parts}
 use Rattle.csdn_core.specs.declared.program.StartRow.{StartRow}
 use Rattle.csdn_tree.specs.declared.syntax.RawItem.{RawItem}
 use Rattle.csdn_tree.specs.declared.syntax.RawProgram.{RawProgram}
-use Rattle.csdn_tree.specs.FromText.{IsFromText, KeepsStatics, items_names}
+use Rattle.csdn_tree.specs.FromText.{IsFromText, KeepsStatics, HasSeconds, items_names}
 use Rattle.csdn_tree.specs.Numerals.{items_numerals}
 use Rattle.csdn_types.specs.Numerals.{with_numerals}
 use Rattle.csdn_types.specs.Programs.{Draft, items_faults, with_items}
@@ -22,7 +22,7 @@ use Rattle.csdn_types.proofs.Counts.{passes-true, passes-false, times, times-nil
 use Rattle.csdn_types.proofs.Rising.{numerals_rise, numerals_have, numerals_only}
 use Rattle.csdn_types.proofs.Gathered.{gathered-is, Numbered, numbered_items, next_items, numerals_of_items}
 use Rattle.csdn_types.proofs.Declared.{Declared, declared-items}
-use Rattle.csdn_types.proofs.SortedItems.{SortedDraft, sorted-items}
+use Rattle.csdn_types.proofs.SortedItems.{SortedDraft, sorted-items, timeout-items}
 use Rattle.csdn_types.proofs.NumeralSorts.{Named}
 
 -- ---- numbers one after another
@@ -151,6 +151,7 @@ module _ (raw : RawProgram) (from : IsFromText raw) (free : broken_rules raw ≡
     numerals = numerals_rise written;
     numeral_range = times-All is_it Decides-eqb IsNumeral parts.numerals (λ n more. All-contains IsNumeral written n from.numerals (Contains-times is_it Decides-eqb written n (only_numeral n more)));
     numerals_named = same_numerals;
+    timeout = timeout-items nothing_declared raw.items (recursion_from_All HasSeconds raw.items from.seconds) tt;
   }
 
 -- .. as they are made of the items so far

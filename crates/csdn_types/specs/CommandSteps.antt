@@ -51,6 +51,10 @@ pub command_faults-Install : (own : OwnTerms) (s : Scope) (w : RawFlow) → comm
 unfolding command_faults
 command_faults-Install own s w = refl
 
+pub command_faults-Uninstall : (own : OwnTerms) (s : Scope) (w : RawFlow) → command_faults own s (c.Uninstall w) ≡ install_faults own s w
+unfolding command_faults
+command_faults-Uninstall own s w = refl
+
 pub command_faults-Forward : (own : OwnTerms) (s : Scope) (w : RawFlow) → command_faults own s (c.Forward w) ≡ forward_faults own s w
 unfolding command_faults
 command_faults-Forward own s w = refl
@@ -87,6 +91,10 @@ pub command_typed-Install : (s : Scope) (w : RawFlow) → command_typed s (c.Ins
 unfolding command_typed
 command_typed-Install s w = refl
 
+pub command_typed-Uninstall : (s : Scope) (w : RawFlow) → command_typed s (c.Uninstall w) ≡ command.Uninstall (term_of s (Name w.switch) ∷ flow_of s w)
+unfolding command_typed
+command_typed-Uninstall s w = refl
+
 pub command_typed-Forward : (s : Scope) (w : RawFlow) → command_typed s (c.Forward w) ≡ command.Forward (term_of s (Name w.switch) ∷ flow_of s w)
 unfolding command_typed
 command_typed-Forward s w = refl
@@ -95,4 +103,4 @@ pub command_typed-Flood : (s : Scope) (w : RawPacket) → command_typed s (c.Flo
 unfolding command_typed
 command_typed-Flood s w = refl
 
-pub ruleset command_steps = (command_faults-Skip, command_faults-Seq, command_faults-If, command_faults-Pick, command_faults-Insert, command_faults-Remove, command_faults-Install, command_faults-Forward, command_faults-Flood, command_typed-Skip, command_typed-Seq, command_typed-If, command_typed-Pick, command_typed-Insert, command_typed-Remove, command_typed-Install, command_typed-Forward, command_typed-Flood)
+pub ruleset command_steps = (command_faults-Skip, command_faults-Seq, command_faults-If, command_faults-Pick, command_faults-Insert, command_faults-Remove, command_faults-Install, command_faults-Uninstall, command_faults-Forward, command_faults-Flood, command_typed-Skip, command_typed-Seq, command_typed-If, command_typed-Pick, command_typed-Insert, command_typed-Remove, command_typed-Install, command_typed-Uninstall, command_typed-Forward, command_typed-Flood)

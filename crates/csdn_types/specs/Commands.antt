@@ -57,6 +57,7 @@ command_faults own s (raw_pick name sort p a b) =
 command_faults own s (c.Insert name us) = atom_faults Write s name us
 command_faults own s (c.Remove name us) = atom_faults Write s name us
 command_faults own s (c.Install w) = install_faults own s w
+command_faults own s (c.Uninstall w) = install_faults own s w
 command_faults own s (c.Forward w) = forward_faults own s w
 command_faults own s (c.Flood w) = flood_faults own s w
 
@@ -73,5 +74,6 @@ command_typed s (raw_pick name sort p a b) =
 command_typed s (c.Insert name us) = command.Insert (relation_id s name) (terms_of s us)
 command_typed s (c.Remove name us) = command.Remove (relation_id s name) (terms_of s us)
 command_typed s (c.Install w) = command.Install (term_of s (Name w.switch) ∷ flow_of s w)
+command_typed s (c.Uninstall w) = command.Uninstall (term_of s (Name w.switch) ∷ flow_of s w)
 command_typed s (c.Forward w) = command.Forward (term_of s (Name w.switch) ∷ flow_of s w)
 command_typed s (c.Flood w) = command.Flood (term_of s (Name w.switch) ∷ packet_of s w)

@@ -1,5 +1,5 @@
 -- Programs: their rules, and the parts that stand for them.
-use Rattle.std.specs.Prelude.{◌≡◌, ℕ, ◌+◌, nat_le, List, [], ◌∷◌, ◌++◌, length, map, position, is_some, Result, MatchResult}
+use Rattle.std.specs.Prelude.{◌≡◌, ℕ, ◌+◌, nat_le, List, [], ◌∷◌, ◌++◌, length, map, position, Option, Some, is_some, Result, MatchResult}
 use Rattle.std.specs.Str.{bytes_eq}
 use Rattle.csdn_core.specs.declared.terms.Place.{Place}
 use Rattle.csdn_core.specs.declared.terms.Place.TheVariants as place
@@ -12,7 +12,8 @@ use Rattle.csdn_types.specs.declared.refusal.SortRefusal.TheVariants.{Duplicate,
 use Rattle.csdn_tree.specs.declared.syntax.InvariantKind.{InvariantKind}
 use Rattle.csdn_tree.specs.declared.syntax.InvariantKind.TheVariants.{Topology, Safety, Trans}
 use Rattle.csdn_tree.specs.declared.syntax.RawItem.{RawItem}
-use Rattle.csdn_tree.specs.declared.syntax.RawItem.TheVariants.{Relation, Constant, Invariant, Handler}
+use Rattle.csdn_tree.specs.declared.syntax.RawItem.TheVariants.{Relation, Constant, Invariant, Handler, Timeout}
+use Rattle.csdn_tree.specs.declared.syntax.RawTimeout.{RawTimeout}
 use Rattle.csdn_tree.specs.declared.syntax.RawFormula.{RawFormula}
 use Rattle.csdn_types.specs.Answers.{IsFirst}
 use Rattle.csdn_types.specs.Scope.{Scope, with_relation, with_constant}
@@ -31,6 +32,7 @@ pub record Draft : Type 0 where
   pub safety : List NamedFormula
   pub trans : List NamedFormula
   pub handlers : List TypedHandler
+  pub timeout : Option ℕ
 
 abbrev pub place_of : InvariantKind → Place
 place_of Topology = place.Topology
@@ -45,11 +47,16 @@ abbrev pub invariant_faults : Draft → RawName → List SortRefusal
 invariant_faults d name =
     fault_if (is_some (position (bytes_eq name.text) d.invariants)) (Duplicate name.at) ++ fault_if (nat_le 64 (length d.invariants)) (TooMany name.at)
 
+-- only one timeout is declared
+abbrev pub timeout_faults : Draft → RawTimeout → List SortRefusal
+timeout_faults d t = fault_if (is_some d.timeout) (Duplicate t.at)
+
 abbrev pub item_faults : Draft → RawItem → List SortRefusal
 item_faults d (Relation r) = relation_item_faults d.scope r
 item_faults d (Constant name sort) = constant_faults d.scope name
 item_faults d (Invariant kind name p) = invariant_faults d name ++ faults (place_of kind) d.scope p
 item_faults d (Handler h) = handler_faults d.scope (length d.handlers) h
+item_faults d (Timeout t) = timeout_faults d t
 
 abbrev pub named_formula : Scope → RawName → RawFormula → NamedFormula
 named_formula s name p = record { name = name.text; formula = typed s p }
@@ -65,6 +72,7 @@ with_item d (Relation r) = record d { scope = with_relation d.scope r; start = d
 with_item d (Constant name sort) = record d { scope = with_constant d.scope name sort }
 with_item d (Invariant kind name p) = with_invariant d kind name p
 with_item d (Handler h) = record d { scope = later d.scope (4 + command_binders h.body); handlers = d.handlers ++ handler_of d.scope h ∷ [] }
+with_item d (Timeout t) = record d { timeout = Some t.seconds }
 
 unfoldable pub items_faults : Draft → List RawItem → List SortRefusal
 items_faults d [] = []

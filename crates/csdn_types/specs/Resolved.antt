@@ -1,5 +1,5 @@
 -- What `resolve` answers.
-use Rattle.std.specs.Prelude.{◌≡◌, ◌⊎◌, ℕ, List, []}
+use Rattle.std.specs.Prelude.{◌≡◌, ◌⊎◌, ℕ, List, [], None}
 use Rattle.csdn_core.specs.declared.program.Parts.{Parts}
 use Rattle.csdn_types.specs.declared.refusal.SortRefusal.{SortRefusal}
 use Rattle.csdn_types.specs.declared.refusal.SortRefusal.TheVariants.{Memory}
@@ -19,6 +19,7 @@ nothing_declared = record {
   safety = [];
   trans = [];
   handlers = [];
+  timeout = None;
 }
 
 -- every rule that the program breaks, and where
@@ -35,6 +36,7 @@ parts_of_draft numerals d = record {
   trans = d.trans;
   handlers = d.handlers;
   numerals = numerals;
+  timeout = d.timeout;
 }
 
 -- the parts in which each name stands for its declaration, and each bound variable has a number of its own

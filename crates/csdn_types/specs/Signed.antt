@@ -60,6 +60,7 @@ CommandNumerals S (raw_pick name sort p a b) = FormulaNumerals S p × CommandNum
 CommandNumerals S (c.Insert name ts) = HaveNumerals S ts
 CommandNumerals S (c.Remove name ts) = HaveNumerals S ts
 CommandNumerals S (c.Install w) = HaveNumerals S (Name w.switch ∷ w.source ∷ w.target ∷ w.ingress ∷ w.egress ∷ [])
+CommandNumerals S (c.Uninstall w) = HaveNumerals S (Name w.switch ∷ w.source ∷ w.target ∷ w.ingress ∷ w.egress ∷ [])
 CommandNumerals S (c.Forward w) = HaveNumerals S (Name w.switch ∷ w.source ∷ w.target ∷ w.ingress ∷ w.egress ∷ [])
 CommandNumerals S (c.Flood w) = HaveNumerals S (Name w.switch ∷ w.source ∷ w.target ∷ w.ingress ∷ [])
 

@@ -90,6 +90,10 @@ pub fn command(
             let terms = install(scope, own, raw)?;
             Ok(Command::Install(terms))
         }
+        RawCommand::Uninstall(raw) => {
+            let terms = install(scope, own, raw)?;
+            Ok(Command::Uninstall(terms))
+        }
         RawCommand::Forward(raw) => {
             let terms = forward(scope, own, raw)?;
             Ok(Command::Forward(terms))

@@ -1,9 +1,9 @@
 //! Programs, item by item.
 #![tactic(auto, using(crate::proofs::First::first_steps))]
 
-ghost use Rattle.std.specs.Prelude.{◌≡◌, ◌≤◌, ◌<◌, ◌+◌, ◌++◌, OnOk, length};
+ghost use Rattle.std.specs.Prelude.{◌≡◌, ◌≤◌, ◌<◌, ◌+◌, ◌++◌, OnOk, Some, length};
 ghost use Rattle.csdn_types.specs.Answers.{Answers};
-ghost use Rattle.csdn_types.specs.Programs.{Passes, item_faults, with_item, items_faults, with_items, constant_faults, invariant_faults, with_invariant, place_of as place_there};
+ghost use Rattle.csdn_types.specs.Programs.{Passes, item_faults, with_item, items_faults, with_items, constant_faults, invariant_faults, timeout_faults, with_invariant, place_of as place_there};
 ghost use Rattle.csdn_tree.specs.Binders.{item_binders, items_binders};
 ghost use Rattle.csdn_tree.specs.Binders.{binders};
 ghost use Rattle.csdn_types.specs.Faults.{faults};
@@ -16,16 +16,15 @@ use crate::names::Names;
 use crate::refusal::SortRefusal;
 use crate::relations::relation;
 use crate::scope::Scope;
-use csdn_core::program::{Handler, Invariant, StartRow};
+use csdn_core::program::{Handler, Invariant, Parts, StartRow};
 use csdn_core::terms::{Place, Sort};
 use csdn_tree::names::RawName;
-use csdn_tree::syntax::{InvariantKind, RawFormula, RawItem};
+use csdn_tree::syntax::{InvariantKind, RawFormula, RawItem, RawTimeout};
 use sqlite_items::Items;
 use std::alloc::Global;
 use std::marker::Model;
 
 /// The items so far.
-#[derive(Drop)]
 pub struct Draft {
     pub scope: Scope,
     pub invariants: Names,
@@ -34,6 +33,54 @@ pub struct Draft {
     pub safety: Items<Invariant>,
     pub trans: Items<Invariant>,
     pub handlers: Items<Handler>,
+    pub timeout: Option<u16>,
+}
+
+impl Drop for Draft {
+    fn drop(self) {
+        let Draft {
+            scope: _scope,
+            invariants: _invariants,
+            start: _start,
+            topology: _topology,
+            safety: _safety,
+            trans: _trans,
+            handlers: _handlers,
+            timeout: _,
+        } = self;
+    }
+}
+
+impl Draft {
+    ghost use Rattle.csdn_types.specs.Resolved.{parts_of_draft};
+    ghost use Rattle.std.specs.Prelude.{◌≡◌};
+
+    pub fn into_parts(self, numerals: Items<u16>) -> Parts
+        ensures { result ≡ parts_of_draft numerals self }
+    {
+        let Draft {
+            scope,
+            invariants: _,
+            start,
+            topology,
+            safety,
+            trans,
+            handlers,
+            timeout,
+        } = self;
+        let declared = scope.into_declared();
+        Parts {
+            relations: declared.relations,
+            constants: declared.constants,
+            start,
+            topology,
+            safety,
+            trans,
+            handlers,
+            numerals,
+            timeout,
+        }
+    }
 }
 
 impl Model for Draft {
@@ -46,7 +93,7 @@ impl Model for Draft {
 
     ghost coded = { Prim.hlevel (codes, formula.the_row.coded, command.the_row.coded) };
 
-    ghost view = { λ d. record { scope = d.scope; invariants = d.invariants; start = d.start; topology = d.topology; safety = d.safety; trans = d.trans; handlers = d.handlers } };
+    ghost view = { λ d. record { scope = d.scope; invariants = d.invariants; start = d.start; topology = d.topology; safety = d.safety; trans = d.trans; handlers = d.handlers; timeout = d.timeout } };
 }
 
 fn place(kind: InvariantKind) -> Place
@@ -107,6 +154,18 @@ fn invariant(
     Ok(())
 }
 
+/// The one timeout of a program.
+fn timeout(draft: &mut Draft, raw: &RawTimeout) -> Result<(), SortRefusal>
+    ensures passes { Passes (timeout_faults draft.old raw.now) result }
+    ensures draft { OnOk result (draft.new ≡ record draft.old { timeout = Some raw.now.seconds }) }
+{
+    if draft.timeout.is_some() {
+        return Err(SortRefusal::Duplicate { at: raw.at });
+    }
+    draft.timeout = Some(raw.seconds);
+    Ok(())
+}
+
 /// One more item.
 pub fn item(alloc: Global, draft: &mut Draft, raw: &RawItem) -> Result<(), SortRefusal>
     requires { draft.old.scope.next + item_binders raw.now ≤ most_numbers }
@@ -131,6 +190,10 @@ pub fn item(alloc: Global, draft: &mut Draft, raw: &RawItem) -> Result<(), SortR
             let count = draft.handlers.len();
             let made = handler(alloc, &mut draft.scope, count, raw)?;
             draft.handlers.push(made)?;
+            Ok(())
+        }
+        RawItem::Timeout(raw) => {
+            timeout(draft, raw)?;
             Ok(())
         }
     }

@@ -166,6 +166,10 @@ impl Numerals {
                 self.flow(terms)?;
                 Ok(())
             }
+            RawCommand::Uninstall(terms) => {
+                self.flow(terms)?;
+                Ok(())
+            }
             RawCommand::Forward(terms) => {
                 self.flow(terms)?;
                 Ok(())
@@ -218,6 +222,7 @@ impl Numerals {
                 self.command(&handler.body)?;
                 Ok(())
             }
+            RawItem::Timeout(_) => Ok(()),
         }
     }
 

@@ -66,6 +66,7 @@ fn own_switch(scope: &Scope, own: &OwnTerms, name: &RawName) -> Result<Term, Sor
     own_only(name.at, own.switch, found)
 }
 
+/// The flow rule that is put in or taken out, of the handler's own switch.
 #[tactic(auto, using(crate::proofs::First::first_steps))]
 pub fn install(scope: &Scope, own: &OwnTerms, raw: &RawFlow) -> Result<Terms, SortRefusal>
     ensures { Answers (install_faults own.now scope.now raw.now) (term_of scope.now (Name raw.now.switch) ∷ flow_of scope.now raw.now) result }

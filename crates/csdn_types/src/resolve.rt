@@ -8,13 +8,13 @@ use crate::names::Names;
 use crate::numerals::all_numerals;
 use crate::refusal::SortRefusal;
 use crate::scope::Scope;
-use csdn_core::program::{Parts, Program};
+use csdn_core::program::Program;
 use csdn_tree::syntax::RawProgram;
 use sqlite_items::Items;
 use std::alloc::Global;
 
 impl Draft {
-    ghost use Rattle.csdn_types.specs.Resolved.{parts_of_draft, nothing_declared};
+    ghost use Rattle.csdn_types.specs.Resolved.{nothing_declared};
     ghost use Rattle.std.specs.Prelude.{◌≡◌};
 
     pub fn new(alloc: Global) -> Draft
@@ -28,31 +28,7 @@ impl Draft {
             safety: Items::new(alloc),
             trans: Items::new(alloc),
             handlers: Items::new(alloc),
-        }
-    }
-
-    pub fn into_parts(self, numerals: Items<u16>) -> Parts
-        ensures { result ≡ parts_of_draft numerals self }
-    {
-        let Draft {
-            scope,
-            invariants: _,
-            start,
-            topology,
-            safety,
-            trans,
-            handlers,
-        } = self;
-        let declared = scope.into_declared();
-        Parts {
-            relations: declared.relations,
-            constants: declared.constants,
-            start,
-            topology,
-            safety,
-            trans,
-            handlers,
-            numerals,
+            timeout: None,
         }
     }
 }

@@ -27,7 +27,6 @@ pub struct Variable {
 }
 
 /// The declarations so far, and the variables in scope.
-#[derive(Drop)]
 pub struct Scope {
     relation_names: Names,
     relations: Items<Relation>,
@@ -35,6 +34,19 @@ pub struct Scope {
     constants: Items<Constant>,
     variables: Items<Variable>,
     next: u32,
+}
+
+impl Drop for Scope {
+    fn drop(self) {
+        let Scope {
+            relation_names: _relation_names,
+            relations: _relations,
+            constant_names: _constant_names,
+            constants: _constants,
+            variables: _variables,
+            next: _next,
+        } = self;
+    }
 }
 
 impl Model for Scope {

@@ -1,9 +1,9 @@
 -- The precondition of packet-in events is exact, and well-sorted.
-use Rattle.std.proofs.Common.{◌≡◌, ℕ, ◌==◌, ◌<◌, ◌≤◌, Bool, true, false, not, ◌&&◌, ◌||◌, ◌↔◌, inl, inr, cond, List, [], ◌∷◌, ◌++◌, length, Option, Some, None, refl, ap, sym, subst, ◌∙◌, IsTrue, IsFalse, Contains, true≢false, arith, if◌then◌else◌}
+use Rattle.std.proofs.Common.{◌≡◌, ℕ, ◌==◌, ◌<◌, ◌≤◌, Bool, true, false, not, ◌&&◌, ◌||◌, inl, inr, cond, List, [], ◌∷◌, ◌++◌, length, Option, Some, None, refl, ap, sym, subst, ◌∙◌, IsTrue, IsFalse, Contains, true≢false, arith, if◌then◌else◌}
 use Rattle.std.proofs.lemmas.Bool.{ne_eqb, and_from, and_parts, not-true}
 use Rattle.std.proofs.Math.Path.{fun_ext}
 use Rattle.general_facts.proofs.Numbers.{self_equal}
-use Rattle.general_facts.proofs.Lists.{list_all-from}
+use Rattle.std.proofs.lemmas.Option.{none-some}
 use Rattle.fol_forms.proofs.ClosedTruth.{all_at}
 use Rattle.csdn_core.specs.declared.terms.VarId.{VarId}
 use Rattle.csdn_core.specs.declared.terms.Sort.TheVariants.{Sw, Ho, Pr}
@@ -24,27 +24,26 @@ use Rattle.csdn_core.specs.Run.{Handles, first_fit, fits, no_values}
 use Rattle.csdn_core.specs.Variables.{vars_of, free_in, BindsOutside}
 use Rattle.csdn_core.specs.Sorted.{Bind, packet_sorts, bound_in}
 use Rattle.csdn_core.specs.WellSorted.{signature, command_bound_in}
-use Rattle.decision_laws.specs.Vocabulary.{IsIn}
-use Rattle.decision_laws.specs.Clauses.{AreDistinct}
-use Rattle.decision_laws.proofs.Lists.{in_contains}
 use Rattle.fol_forms.specs.Replace.{fix_packet, is_row}
 use Rattle.fol_forms.specs.Renumber.{renumber}
-use Rattle.fol_forms.specs.Substitution.{Scope, no_scope, with_sort, KeepsSorts, with_packet, with_relations}
+use Rattle.fol_forms.specs.Substitution.{KeepsSorts, with_packet, with_relations}
 use Rattle.fol_forms.proofs.Replaced.{truth-fix_packet, KeepsSorts-with, KeepsSorts-none}
 use Rattle.fol_forms.proofs.RenumberTruth.{truth-renumber}
 use Rattle.csdn_wp.specs.declared.vars.PacketVars.{PacketVars}
 use Rattle.csdn_wp.specs.Preconditions.{wp}
-use Rattle.csdn_wp.specs.SortedIn.{any_relation, no_packet, HaveSortsIn, IsSortedIn}
-use Rattle.csdn_wp.specs.After.{scope_of}
 use Rattle.csdn_wp.specs.EventPreconditions.{terms_of, handler_vars, first_vars, is_port, and_also, guard, guarded, member, members, and_later}
-use Rattle.csdn_wp.proofs.Truths.{implied, implies}
-use Rattle.csdn_wp.proofs.Bounds.{binds_outside, bound_in-replace, bound_in-is_row, bound_in-renumbered}
-use Rattle.csdn_wp.proofs.Coincidence.{truth-Agrees}
+use Rattle.csdn_wp.proofs.Truths.{failing, not_implied, false_side, implied}
+use Rattle.csdn_wp.proofs.Bounds.{bound_in-replace, bound_in-is_row, bound_in-renumbered}
+use Rattle.csdn_wp.proofs.Coincidence.{truth_alike}
 use Rattle.csdn_wp.proofs.Sorting.{Extends-none, IsSortedIn-more, IsSortedIn-renumber, HaveSortsIn-length, not_free, terms_not}
 use Rattle.csdn_wp.proofs.Sorted.{IsSortedIn-fix_packet}
-use Rattle.csdn_wp.proofs.Follows.{AreNew, IsCommandIn, MayFollow, still_none, not_standing, IsSortedIn-wp}
-use Rattle.csdn_wp.proofs.Scopes.{bind, AreInScope, AreInScope-none, AreInScope-binds, AreNew-binds, AreNew-none}
+use Rattle.csdn_wp.proofs.Follows.{IsCommandIn, MayFollow, not_standing, IsSortedIn-wp}
 use Rattle.csdn_wp.proofs.Exact.{in_state, IsExact, exact, fits_row}
+use Rattle.csdn_core.specs.Members.{IsIn, AreDistinct}
+use Rattle.csdn_core.proofs.Members.{in_contains}
+use Rattle.csdn_core.specs.SortedIn.{Scope, no_scope, with_sort, any_relation, no_rcv_this, HaveSortsIn, IsSortedIn, scope_of}
+use Rattle.csdn_core.proofs.Scopes.{AreNew, still_none, bind, AreInScope, AreInScope-none, AreInScope-binds, AreNew-binds, AreNew-none}
+use Rattle.fol_forms.proofs.Expired.{binds_outside}
 
 -- whether a packet's port is none of these
 abbrev pub not_among : List ℕ → ℕ → Bool
@@ -189,22 +188,22 @@ module _ (P : Parts) (from : ℕ) (v : PacketVars) (body : Command) (fine : IsFi
   out_of_it = binds_outside (vars_of (terms_of v)) (renumber q from)
       (λ n i. terms_not (signature P) (packet_scope v) n (far_none P from v body fine n (bound_in-renumbered q (λ w. w) from n i)) packet_sorts (terms_of v) (have_packet_sorts P from v body fine))
 
-  fixed_sorted : IsSortedIn (signature P) no_packet (packet_scope v) (fix_packet (renumber q from) (terms_of v))
+  fixed_sorted : IsSortedIn (signature P) no_rcv_this (packet_scope v) (fix_packet (renumber q from) (terms_of v))
   fixed_sorted = IsSortedIn-fix_packet (signature P) any_relation (terms_of v) (packet_scope v) (renumber q from) (have_packet_sorts P from v body fine) out_of_it
       (IsSortedIn-more (signature P) any_relation any_relation (λ r named. tt) no_scope (packet_scope v) (Extends-none (packet_scope v)) (renumber q from) (IsSortedIn-renumber (signature P) any_relation q from sorted))
 
   fixed_far : (n : ℕ) → IsIn n (bound_in (fix_packet (renumber q from) (terms_of v))) → from ≤ n
   fixed_far n i = bound_in-renumbered q (λ w. w) from n (subst (λ ns. IsIn n ns) (bound_in-replace (is_row (terms_of v)) (bound_in-is_row (terms_of v)) (renumber q from)) i)
 
-  fixed_follows : MayFollow P no_packet (packet_scope v) body (fix_packet (renumber q from) (terms_of v))
+  fixed_follows : MayFollow P no_rcv_this (packet_scope v) body (fix_packet (renumber q from) (terms_of v))
   fixed_follows = record {
     sorted = fixed_sorted;
     outside = λ n i. not_standing P body (packet_scope v) n fine.command (far_none P from v body fine n (fixed_far n i)) (far_not_bound P from v body fine n (fixed_far n i));
     apart = λ n i j. far_not_bound P from v body fine n (fixed_far n i) j;
   }
 
-  pub before_sorted : IsSortedIn (signature P) no_packet (packet_scope v) (wp body (fix_packet (renumber q from) (terms_of v)))
-  before_sorted = IsSortedIn-wp P no_packet (λ r named. named) body (fix_packet (renumber q from) (terms_of v)) (packet_scope v) fine.command (body_new P from v body fine) fixed_follows
+  pub before_sorted : IsSortedIn (signature P) no_rcv_this (packet_scope v) (wp body (fix_packet (renumber q from) (terms_of v)))
+  before_sorted = IsSortedIn-wp P no_rcv_this (λ r named. named) body (fix_packet (renumber q from) (terms_of v)) (packet_scope v) fine.command (body_new P from v body fine) fixed_follows
 
 -- the packet, and the formula after an event
 
@@ -226,6 +225,10 @@ module _ (P : Parts) (N : Network) where
     pub no_free : (v : ℕ) → IsFalse (free_in q v)
     no_free v = not_free (signature P) any_relation no_scope v refl q sorted
 
+    -- a sentence has one truth under all assignments
+    pub sentence_alike : (M : Structure) (d : Assignment) → truth M q d ≡ truth M q no_values
+    sentence_alike M d = truth_alike (signature P) any_relation M M.holds (λ r cells named. refl) no_scope q d no_values sorted (λ v s is. absurd (none-some s is))
+
     -- the formula with new numbers, once its packet is fixed
     pub fixed_is : (from : ℕ) (y : State) (ts : List Term) (d : Assignment) (s a b i : ℕ) (Γ : Scope) → HaveSortsIn (signature P) Γ packet_sorts ts → BindsOutside (vars_of ts) (renumber q from) → values (structure P N y Nothing) d ts ≡ s ∷ a ∷ b ∷ i ∷ [] →
         truth (structure P N y Nothing) (fix_packet (renumber q from) ts) d ≡ after y s a b i
@@ -237,7 +240,7 @@ module _ (P : Parts) (N : Network) where
         ∙ ap (λ cells. truth (with_packet (structure P N y Nothing) cells) anew d) reads
         ∙ ap (λ M. truth M anew d) (packet_is y s a b i)
         ∙ truth-renumber (structure P N y (At s a b i)) q from d (λ v free. absurd (true≢false (sym free ∙ no_free v)))
-        ∙ truth-Agrees (structure P N y (At s a b i)) q no_values d (λ v free. absurd (true≢false (sym free ∙ no_free v)))
+        ∙ sentence_alike (structure P N y (At s a b i)) d
 
     -- one member
 
@@ -254,7 +257,7 @@ module _ (P : Parts) (N : Network) where
 
         runs : (s a b i : ℕ) → Contains N.switches s → Contains N.hosts a → Contains N.hosts b → Contains N.ports i → IsExact P N body fixed (for_vars v s a b i) x
         runs s a b i in_s in_a in_b in_i =
-            exact P N network no_packet (λ r named. named) body fixed Γ fine.command (body_new P from v body fine) (fixed_follows P from v body fine q sorted) (for_vars v s a b i) x (keeps_sorts P from v body fine N x s a b i in_s in_a in_b in_i)
+            exact P N network no_rcv_this (λ r named. named) body fixed Γ fine.command (body_new P from v body fine) (fixed_follows P from v body fine q sorted) (for_vars v s a b i) x (keeps_sorts P from v body fine N x s a b i in_s in_a in_b in_i)
 
         ends : (y : State) (s a b i : ℕ) → truth (structure P N y Nothing) fixed (for_vars v s a b i) ≡ after y s a b i
         ends y s a b i = fixed_is from y (terms_of v) (for_vars v s a b i) s a b i Γ (have_packet_sorts P from v body fine) (out_of_it P from v body fine q sorted) (reads_packet P from v body fine (structure P N y Nothing) s a b i)
@@ -270,15 +273,27 @@ module _ (P : Parts) (N : Network) where
             let is_port : d v.i.0 ≡ i = rw (self_equal v.i.0) in
             truth-guarded M d (guard earlier port v.i) (wp body fixed) ∙ ap (λ b. not b || truth M (wp body fixed) d) (truth-guard M d earlier port v.i ∙ ap (passes earlier port) is_port)
 
-        pub member_exact : (earlier : List ℕ) (port : Option ℕ) → IsTrue (truth M (member earlier v port body (renumber q from)) no_values) ↔ Arrives earlier port
+        pub member_kept : (earlier : List ℕ) (port : Option ℕ) → IsTrue (truth M (member earlier v port body (renumber q from)) no_values) → Arrives earlier port
         unfolding truth Arrives member
-        member_exact earlier port = (
-          λ true_of s a b i in_s in_a in_b in_i passed y run.
-              sym (ends y s a b i) ∙ (runs s a b i in_s in_a in_b in_i).0
-              (implied _ _ (sym (inside earlier port s a b i) ∙ all_at _ N.ports i in_i (all_at _ N.hosts b in_b (all_at _ N.hosts a in_a (all_at _ N.switches s in_s true_of)))) passed) y run,
-          λ arrives. list_all-from _ N.switches (λ s in_s. list_all-from _ N.hosts (λ a in_a. list_all-from _ N.hosts (λ b in_b. list_all-from _ N.ports (λ i in_i.
-              inside earlier port s a b i ∙ implies _ _ (λ passed. (runs s a b i in_s in_a in_b in_i).1 (λ y run. ends y s a b i ∙ arrives s a b i in_s in_a in_b in_i passed y run)))))),
-        )
+        member_kept earlier port true_of s a b i in_s in_a in_b in_i passed y run =
+            sym (ends y s a b i) ∙ (runs s a b i in_s in_a in_b in_i).0
+            (implied _ _ (sym (inside earlier port s a b i) ∙ all_at _ N.ports i in_i (all_at _ N.hosts b in_b (all_at _ N.hosts a in_a (all_at _ N.switches s in_s true_of)))) passed) y run
+
+        -- what comes of it where it is false
+        unfoldable pub Arrived : List ℕ → Option ℕ → Type 0
+        Arrived earlier port = (s : ℕ) × (a : ℕ) × (b : ℕ) × (i : ℕ) × Contains N.switches s × Contains N.hosts a × Contains N.hosts b × Contains N.ports i × IsTrue (passes earlier port i) ×
+            (y : State) × Executes P N body (for_vars v s a b i) x y × (after y s a b i ≡ false)
+
+        pub member_breaks : (earlier : List ℕ) (port : Option ℕ) → truth M (member earlier v port body (renumber q from)) no_values ≡ false → Arrived earlier port
+        unfolding truth Arrived member
+        member_breaks earlier port h =
+            let s = failing _ N.switches h in
+            let a = failing _ N.hosts s.2 in
+            let b = failing _ N.hosts a.2 in
+            let i = failing _ N.ports b.2 in
+            let sides = not_implied (passes earlier port i.0) (truth M (wp body fixed) (for_vars v s.0 a.0 b.0 i.0)) (sym (inside earlier port s.0 a.0 b.0 i.0) ∙ i.2) in
+            let end = (runs s.0 a.0 b.0 i.0 s.1 a.1 b.1 i.1).1 sides.1 in
+            (s.0, a.0, b.0, i.0, s.1, a.1, b.1, i.1, sides.0, end.0, end.1, sym (ends end.0 s.0 a.0 b.0 i.0) ∙ end.2)
 
     -- all members
 
@@ -291,42 +306,61 @@ module _ (P : Parts) (N : Network) where
       unfoldable pub say : List Handler → List ℕ → Bool
       say hs earlier = truth (structure P N x Nothing) (members hs earlier (renumber q from)) no_values
 
-      pub members_exact : (hs : List Handler) → AllFine P from hs → (earlier : List ℕ) → IsTrue (say hs earlier) ↔ Fits hs earlier
+      pub members_kept : (hs : List Handler) → AllFine P from hs → (earlier : List ℕ) → IsTrue (say hs earlier) → Fits hs earlier
       unfolding say Fits Arrives Executes truth members
-      members_exact [] fine earlier =
-          let last = member_exact network from first_vars Skip (last_fine P from four) x earlier None in (
-            λ h s a b i in_s in_a in_b in_i left y run. last.0 h s a b i in_s in_a in_b in_i (and_from (not_among earlier i) true left refl) y run,
-            λ each. last.1 (λ s a b i in_s in_a in_b in_i passed y run. each s a b i in_s in_a in_b in_i (and_parts (not_among earlier i) true passed).0 y run),
-          )
-      members_exact (h ∷ hs) fine earlier = go (λ ks. members_exact hs fine.1 ks) h.port refl
+      members_kept [] fine earlier t = λ s a b i in_s in_a in_b in_i left y run.
+          member_kept network from first_vars Skip (last_fine P from four) x earlier None t s a b i in_s in_a in_b in_i (and_from (not_among earlier i) true left refl) y run
+      members_kept (h ∷ hs) fine earlier t = go (λ ks. members_kept hs fine.1 ks) h.port refl t
         where
           this : Option ℕ → Bool
           this port = truth (structure P N x Nothing) (member earlier (handler_vars h) port h.body (renumber q from)) no_values
 
-          go : ((ks : List ℕ) → IsTrue (say hs ks) ↔ Fits hs ks) → (port : Option ℕ) → h.port ≡ port →
-              IsTrue (truth (structure P N x Nothing) (and_later port earlier (member earlier (handler_vars h) port h.body (renumber q from)) (λ ks. members hs ks (renumber q from))) no_values) ↔
-              ((s a b i : ℕ) → Contains N.switches s → Contains N.hosts a → Contains N.hosts b → Contains N.ports i → IsTrue (not_among earlier i) →
-              (y : State) → Handles P N (if fits port i then Some h else first_fit hs i) s a b i x y → IsTrue (after y s a b i))
-          go later None is = (
-            λ t s a b i in_s in_a in_b in_i left y run. (member_exact network from (handler_vars h) h.body fine.0 x earlier None).0 t s a b i in_s in_a in_b in_i (and_from (not_among earlier i) true left refl) y run,
-            λ each. (member_exact network from (handler_vars h) h.body fine.0 x earlier None).1 (λ s a b i in_s in_a in_b in_i passed y run. each s a b i in_s in_a in_b in_i (and_parts (not_among earlier i) true passed).0 y run),
-          )
-          go later (Some k) is =
-              let mine = member_exact network from (handler_vars h) h.body fine.0 x earlier (Some k) in
-              let rest = later (earlier ++ k ∷ []) in (
-                λ t s a b i in_s in_a in_b in_i left y run. by_port (and_parts (this (Some k)) (say hs (earlier ++ k ∷ [])) t).0 (and_parts (this (Some k)) (say hs (earlier ++ k ∷ [])) t).1 s a b i in_s in_a in_b in_i left y (i == k) refl run,
-                λ each. and_from (this (Some k)) (say hs (earlier ++ k ∷ []))
-                    (mine.1 (λ s a b i in_s in_a in_b in_i passed y run. each s a b i in_s in_a in_b in_i (and_parts (not_among earlier i) (i == k) passed).0 y
-                    (let fitting : (i == k) ≡ true = (and_parts (not_among earlier i) (i == k) passed).1 in rw fitting run)))
-                    (rest.1 (λ s a b i in_s in_a in_b in_i left y run.
-                    (let both : (not_among earlier i && not (i == k)) ≡ true = sym (not_among-push earlier k i) ∙ left in
-                    let other : (i == k) ≡ false = not-true (i == k) (and_parts (not_among earlier i) (not (i == k)) both).1 in
-                    each s a b i in_s in_a in_b in_i (and_parts (not_among earlier i) (not (i == k)) both).0 y (rw other run)))),
-              )
+          go : ((ks : List ℕ) → IsTrue (say hs ks) → Fits hs ks) → (port : Option ℕ) → h.port ≡ port →
+              IsTrue (truth (structure P N x Nothing) (and_later port earlier (member earlier (handler_vars h) port h.body (renumber q from)) (λ ks. members hs ks (renumber q from))) no_values) →
+              (s a b i : ℕ) → Contains N.switches s → Contains N.hosts a → Contains N.hosts b → Contains N.ports i → IsTrue (not_among earlier i) →
+              (y : State) → Handles P N (if fits port i then Some h else first_fit hs i) s a b i x y → IsTrue (after y s a b i)
+          go later None is t s a b i in_s in_a in_b in_i left y run =
+              member_kept network from (handler_vars h) h.body fine.0 x earlier None t s a b i in_s in_a in_b in_i (and_from (not_among earlier i) true left refl) y run
+          go later (Some k) is t s a b i in_s in_a in_b in_i left y run = by_port (i == k) refl run
             where
-              by_port : IsTrue (this (Some k)) → IsTrue (say hs (earlier ++ k ∷ [])) → (s a b i : ℕ) → Contains N.switches s → Contains N.hosts a → Contains N.hosts b → Contains N.ports i → IsTrue (not_among earlier i) → (y : State) →
-                  (fitting : Bool) → (i == k) ≡ fitting → Handles P N (if fitting then Some h else first_fit hs i) s a b i x y → IsTrue (after y s a b i)
-              by_port mine rest s a b i in_s in_a in_b in_i left y true fitting run =
-                  (member_exact network from (handler_vars h) h.body fine.0 x earlier (Some k)).0 mine s a b i in_s in_a in_b in_i (and_from (not_among earlier i) (i == k) left fitting) y run
-              by_port mine rest s a b i in_s in_a in_b in_i left y false other run =
-                  (later (earlier ++ k ∷ [])).0 rest s a b i in_s in_a in_b in_i (not_among-push earlier k i ∙ and_from (not_among earlier i) (not (i == k)) left (ap not other)) y run
+              both : IsTrue (this (Some k)) × IsTrue (say hs (earlier ++ k ∷ []))
+              both = and_parts (this (Some k)) (say hs (earlier ++ k ∷ [])) t
+
+              by_port : (fitting : Bool) → (i == k) ≡ fitting → Handles P N (if fitting then Some h else first_fit hs i) s a b i x y → IsTrue (after y s a b i)
+              by_port true fitting run =
+                  member_kept network from (handler_vars h) h.body fine.0 x earlier (Some k) both.0 s a b i in_s in_a in_b in_i (and_from (not_among earlier i) (i == k) left fitting) y run
+              by_port false other run =
+                  later (earlier ++ k ∷ []) both.1 s a b i in_s in_a in_b in_i (not_among-push earlier k i ∙ and_from (not_among earlier i) (not (i == k)) left (ap not other)) y run
+
+      -- a packet that they are false of
+      unfoldable pub FalseOf : List Handler → List ℕ → Type 0
+      FalseOf hs earlier = (s : ℕ) × (a : ℕ) × (b : ℕ) × (i : ℕ) × Contains N.switches s × Contains N.hosts a × Contains N.hosts b × Contains N.ports i × IsTrue (not_among earlier i) ×
+          (y : State) × Handles P N (first_fit hs i) s a b i x y × (after y s a b i ≡ false)
+
+      pub members_break : (hs : List Handler) → AllFine P from hs → (earlier : List ℕ) → say hs earlier ≡ false → FalseOf hs earlier
+      unfolding say FalseOf Arrived Executes truth members
+      members_break [] fine earlier f =
+          let (s, a, b, i, in_s, in_a, in_b, in_i, passed, y, run, isnt) = member_breaks network from first_vars Skip (last_fine P from four) x earlier None f in
+          (s, a, b, i, in_s, in_a, in_b, in_i, (and_parts (not_among earlier i) true passed).0, y, run, isnt)
+      members_break (h ∷ hs) fine earlier f = go (λ ks. members_break hs fine.1 ks) h.port refl f
+        where
+          go : ((ks : List ℕ) → say hs ks ≡ false → FalseOf hs ks) → (port : Option ℕ) → h.port ≡ port →
+              truth (structure P N x Nothing) (and_later port earlier (member earlier (handler_vars h) port h.body (renumber q from)) (λ ks. members hs ks (renumber q from))) no_values ≡ false →
+              (s : ℕ) × (a : ℕ) × (b : ℕ) × (i : ℕ) × Contains N.switches s × Contains N.hosts a × Contains N.hosts b × Contains N.ports i × IsTrue (not_among earlier i) ×
+              (y : State) × Handles P N (if fits port i then Some h else first_fit hs i) s a b i x y × (after y s a b i ≡ false)
+          go later None is f =
+              let (s, a, b, i, in_s, in_a, in_b, in_i, passed, y, run, isnt) = member_breaks network from (handler_vars h) h.body fine.0 x earlier None f in
+              (s, a, b, i, in_s, in_a, in_b, in_i, (and_parts (not_among earlier i) true passed).0, y, run, isnt)
+          go later (Some k) is f =
+              elim (false_side (truth (structure P N x Nothing) (member earlier (handler_vars h) (Some k) h.body (renumber q from)) no_values) (say hs (earlier ++ k ∷ [])) f) [
+                | inl mine ↦ (
+                    let (s, a, b, i, in_s, in_a, in_b, in_i, passed, y, run, isnt) = member_breaks network from (handler_vars h) h.body fine.0 x earlier (Some k) mine in
+                    let both = and_parts (not_among earlier i) (i == k) passed in
+                    let fitting : (i == k) ≡ true = both.1 in
+                    (s, a, b, i, in_s, in_a, in_b, in_i, both.0, y, (rw fitting run), isnt))
+                | inr rest ↦ (
+                    let (s, a, b, i, in_s, in_a, in_b, in_i, left, y, run, isnt) = later (earlier ++ k ∷ []) rest.1 in
+                    let both = and_parts (not_among earlier i) (not (i == k)) (sym (not_among-push earlier k i) ∙ left) in
+                    let other : (i == k) ≡ false = not-true (i == k) both.1 in
+                    (s, a, b, i, in_s, in_a, in_b, in_i, both.0, y, (rw other run), isnt))
+              ]

@@ -1,48 +1,22 @@
 -- The variables that preconditions bind.
-use Rattle.std.proofs.Common.{◌≡◌, ◌⊎◌, inl, inr, ℕ, ◌+◌, ◌≤◌, Bool, true, false, List, [], ◌∷◌, ◌++◌, refl, ap, ap₂, subst, IsFalse, arith, if◌then◌else◌}
+use Rattle.std.proofs.Common.{◌≡◌, ◌⊎◌, inl, inr, ℕ, ◌+◌, ◌≤◌, Bool, true, false, List, [], ◌∷◌, ◌++◌, refl, ap, ap₂, subst, arith, if◌then◌else◌}
 use Rattle.csdn_core.specs.declared.terms.Term.{Term}
 use Rattle.csdn_core.specs.declared.terms.Pred.{Pred}
-use Rattle.csdn_core.specs.declared.terms.Pred.TheVariants.{Sent, RcvThis}
+use Rattle.csdn_core.specs.declared.terms.Pred.TheVariants.{Ft, Sent, RcvThis}
 use Rattle.csdn_core.specs.declared.syntax.Formula.{Formula}
 use Rattle.csdn_core.specs.declared.syntax.Formula.TheVariants as f
 use Rattle.csdn_core.specs.declared.syntax.Command.{Command}
-use Rattle.csdn_core.specs.declared.syntax.Command.TheVariants.{Skip, Insert, Remove, Install, Forward, Flood}
+use Rattle.csdn_core.specs.declared.syntax.Command.TheVariants.{Skip, Insert, Remove, Install, Uninstall, Forward, Flood}
 use Rattle.csdn_core.specs.Tree.{negation, conjunction, disjunction, implication, equivalence, universal, existential, sequence, conditional, choice}
 use Rattle.csdn_core.specs.Truth.{with_var}
 use Rattle.csdn_core.specs.Network.{same_pred}
-use Rattle.csdn_core.specs.Variables.{Variables, BindsOutside}
 use Rattle.csdn_core.specs.Sorted.{bound_in}
 use Rattle.csdn_core.specs.WellSorted.{command_bound_in}
-use Rattle.decision_laws.specs.Vocabulary.{IsIn}
-use Rattle.decision_laws.specs.Clauses.{AreDistinct}
-use Rattle.decision_laws.proofs.Lists.{in_left, in_right, in_both}
-use Rattle.fol_forms.specs.Replace.{replace, same, or_row, not_row, or_flood, is_row, floods}
+use Rattle.fol_forms.specs.Replace.{replace, same, or_row, not_row, not_match, or_flood, is_row, no_row, floods, rule_of}
 use Rattle.fol_forms.specs.Renumber.{binders, renumbered}
 use Rattle.csdn_wp.specs.Preconditions.{wp}
-
--- numbers that are distinct
-
--- no number is in both
-pub distinct_both : (xs ys : List ℕ) (n : ℕ) → AreDistinct (xs ++ ys) → IsIn n xs → IsIn n ys → ⊥
-distinct_both [] ys n d here later = elim here [ ]
-distinct_both (x ∷ xs) ys n d (inl is) later = d.0 (subst (λ m. IsIn m (xs ++ ys)) is (in_right xs ys n later))
-distinct_both (x ∷ xs) ys n d (inr there) later = distinct_both xs ys n d.1 there later
-
--- a formula that binds nothing of a set
-
-pub binds_outside : (s : Variables) (p : Formula) → ((n : ℕ) → IsIn n (bound_in p) → IsFalse (s n)) → BindsOutside s p
-unfolding BindsOutside bound_in
-binds_outside s f.True out = tt
-binds_outside s f.False out = tt
-binds_outside s (f.Atom r ts) out = tt
-binds_outside s (f.Same t u) out = tt
-binds_outside s (negation p) out = binds_outside s p out
-binds_outside s (conjunction p q) out = (binds_outside s p (λ n i. out n (in_left (bound_in p) (bound_in q) n i)), binds_outside s q (λ n i. out n (in_right (bound_in p) (bound_in q) n i)))
-binds_outside s (disjunction p q) out = (binds_outside s p (λ n i. out n (in_left (bound_in p) (bound_in q) n i)), binds_outside s q (λ n i. out n (in_right (bound_in p) (bound_in q) n i)))
-binds_outside s (implication p q) out = (binds_outside s p (λ n i. out n (in_left (bound_in p) (bound_in q) n i)), binds_outside s q (λ n i. out n (in_right (bound_in p) (bound_in q) n i)))
-binds_outside s (equivalence p q) out = (binds_outside s p (λ n i. out n (in_left (bound_in p) (bound_in q) n i)), binds_outside s q (λ n i. out n (in_right (bound_in p) (bound_in q) n i)))
-binds_outside s (universal v sort p) out = (out v.0 (inl refl), binds_outside s p (λ n i. out n (inr i)))
-binds_outside s (existential v sort p) out = (out v.0 (inl refl), binds_outside s p (λ n i. out n (inr i)))
+use Rattle.csdn_core.specs.Members.{IsIn}
+use Rattle.csdn_core.proofs.Members.{in_left, in_right, in_both}
 
 -- what stands in place of atoms binds nothing
 
@@ -79,6 +53,19 @@ bound_in-floods _ _ = refl
 pub bound_in-or_flood : (ts : List Term) (q : Pred) (us : List Term) → bound_in (or_flood ts q us) ≡ []
 unfolding bound_in
 bound_in-or_flood ts q us = binds_none (same_pred q Sent) (disjunction (f.Atom q us) (floods ts us)) (f.Atom q us) (bound_in-floods ts us) refl
+
+bound_in-rule_of : (ts us : List Term) → bound_in (rule_of ts us) ≡ []
+unfolding bound_in
+bound_in-rule_of (s ∷ a ∷ b ∷ i ∷ []) (u ∷ v ∷ w ∷ j ∷ o ∷ []) = refl
+bound_in-rule_of _ _ = refl
+
+pub bound_in-not_match : (ts : List Term) (q : Pred) (us : List Term) → bound_in (not_match ts q us) ≡ []
+unfolding bound_in
+bound_in-not_match ts q us = binds_none (same_pred q Ft) (conjunction (f.Atom q us) (negation (rule_of ts us))) (f.Atom q us) (bound_in-rule_of ts us) refl
+
+pub bound_in-no_row : (q : Pred) (us : List Term) → bound_in (no_row q us) ≡ []
+unfolding bound_in
+bound_in-no_row q us = binds_none (same_pred q RcvThis) f.False (f.Atom q us) refl refl
 
 pub bound_in-replace : (g : Pred → List Term → Formula) → ((r : Pred) (us : List Term) → bound_in (g r us) ≡ []) → (p : Formula) → bound_in (replace g p) ≡ bound_in p
 unfolding bound_in replace
@@ -151,5 +138,6 @@ bound_in-wp (choice v s p a b) q n (inr i) = elim (in_both (bound_in p ++ bound_
 bound_in-wp (Insert r ts) q n i = inr (subst (λ xs. IsIn n xs) (bound_in-replace (or_row _ ts) (bound_in-or_row _ ts) q) i)
 bound_in-wp (Remove r ts) q n i = inr (subst (λ xs. IsIn n xs) (bound_in-replace (not_row _ ts) (bound_in-not_row _ ts) q) i)
 bound_in-wp (Install ts) q n i = inr (subst (λ xs. IsIn n xs) (bound_in-replace (or_row _ ts) (bound_in-or_row _ ts) q) i)
+bound_in-wp (Uninstall ts) q n i = inr (subst (λ xs. IsIn n xs) (bound_in-replace (not_row _ ts) (bound_in-not_row _ ts) q) i)
 bound_in-wp (Forward ts) q n i = inr (subst (λ xs. IsIn n xs) (bound_in-replace (or_row _ ts) (bound_in-or_row _ ts) q) i)
 bound_in-wp (Flood ts) q n i = inr (subst (λ xs. IsIn n xs) (bound_in-replace (or_flood ts) (bound_in-or_flood ts) q) i)

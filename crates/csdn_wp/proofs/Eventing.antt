@@ -1,5 +1,5 @@
 -- Preconditions of events as the code makes them.
-use Rattle.std.proofs.Common.{◌≡◌, ℕ, ◌+◌, ◌^◌, ◌<◌, ◌≤◌, List, [], Result, Err, IsErrAnd, sym, ap, subst, ◌∙◌, arith}
+use Rattle.std.proofs.Common.{◌≡◌, ℕ, ◌+◌, ◌^◌, ◌<◌, ◌≤◌, List, [], Result, Err, IsErrAnd, sym, ap, ap₂, subst, ◌∙◌, arith}
 use Rattle.csdn_core.specs.declared.terms.Term.{Term}
 use Rattle.csdn_core.specs.declared.terms.Pred.TheVariants.{Ft, Sent}
 use Rattle.csdn_core.specs.declared.program.Handler.{Handler}
@@ -13,12 +13,12 @@ use Rattle.fol_forms.specs.declared.close.Bind.{Bind}
 use Rattle.fol_forms.specs.declared.refusal.FormRefusal.{FormRefusal}
 use Rattle.fol_forms.specs.Closed.{closed}
 use Rattle.fol_forms.specs.Limits.{capped, most_nodes}
-use Rattle.fol_forms.specs.Replace.{add_row, fix_packet, or_row, is_row}
+use Rattle.fol_forms.specs.Replace.{add_row, fix_packet, drop_match, no_packet, or_row, is_row, not_match, no_row}
 use Rattle.fol_forms.specs.Renumber.{binders, renumber}
 use Rattle.fol_forms.proofs.Numbered.{nodes-renumbered}
 use Rattle.csdn_wp.specs.Makes.{Makes}
-use Rattle.csdn_wp.specs.EventPreconditions.{terms_of, first_vars, flow_terms, flow_binds, members, wp_in, wp_flow}
-use Rattle.csdn_wp.proofs.Grows.{few_binders, replace_grows, members_grow, flow_grows}
+use Rattle.csdn_wp.specs.EventPreconditions.{terms_of, first_vars, flow_terms, flow_binds, members, wp_in, for_rules, wp_flow, wp_expire}
+use Rattle.csdn_wp.proofs.Grows.{few_binders, replace_grows, members_grow, flow_grows, expire_grows}
 use Rattle.csdn_wp.proofs.Making.{refused_part}
 
 pub anew_too_large : (p : Formula) (from count : ℕ) → count ≡ capped (nodes p) → most_nodes < count → most_nodes < nodes (renumber p from)
@@ -39,28 +39,47 @@ pub in_refused : (P : Parts) (q : Formula) (e : FormRefusal) (r : Result Formula
 unfolding wp_in
 in_refused P q e r passed part = refused_part most_nodes most_nodes (renumber q most_numbers) (members P.handlers [] (renumber q most_numbers)) e r passed part (λ more. omega (arith, more, members_grow P.handlers [] (renumber q most_numbers)))
 
--- flows
+-- flows and expiries
 
-pub flow_is : (q enabled later : Formula) (binds : List Bind) → binds ≡ flow_binds → enabled ≡ f.Atom Ft flow_terms → later ≡ add_row (fix_packet (renumber q 5) (terms_of first_vars)) Sent flow_terms → closed binds (f.Implies enabled later) ≡ wp_flow q
-unfolding wp_flow
-flow_is q enabled later binds is_binds is_enabled is_later =
-    ap (λ x. closed x (f.Implies enabled later)) is_binds ∙ ap (λ x. closed flow_binds (f.Implies x later)) is_enabled ∙ ap (λ x. closed flow_binds (f.Implies (f.Atom Ft flow_terms) x)) is_later
-    ∙ ap (closed flow_binds) (Implies-is _ _)
+pub rules_is : (enabled formula : Formula) (binds : List Bind) → binds ≡ flow_binds → enabled ≡ f.Atom Ft flow_terms → closed binds (f.Implies enabled formula) ≡ for_rules formula
+unfolding for_rules
+rules_is enabled formula binds is_binds is_enabled =
+    ap (λ x. closed x (f.Implies enabled formula)) is_binds ∙ ap (λ x. closed flow_binds (f.Implies x formula)) is_enabled ∙ ap (closed flow_binds) (Implies-is _ _)
 
-anew_grows : (q : Formula) → nodes (renumber q 5) ≤ nodes (wp_flow q)
-anew_grows q =
-    let fixed = fix_packet (renumber q 5) (terms_of first_vars) in
-    omega (arith, flow_grows q, replace_grows (or_row Sent flow_terms) fixed, replace_grows (is_row (terms_of first_vars)) (renumber q 5))
+-- what the formula with new numbers is refused for, the whole is
+pub anew_refused : (q whole : Formula) (e : FormRefusal) (r : Result Formula FormRefusal) → nodes (renumber q 5) ≤ nodes whole → IsErrAnd r (λ given. given ≡ e) → Makes most_nodes (renumber q 5) (Err e) → Makes most_nodes whole r
+anew_refused q whole e r grows passed part = refused_part most_nodes most_nodes (renumber q 5) whole e r passed part (λ more. omega (arith, more, grows))
 
-pub flow_refused : (q : Formula) (e : FormRefusal) (r : Result Formula FormRefusal) → IsErrAnd r (λ given. given ≡ e) → Makes most_nodes (renumber q 5) (Err e) → Makes most_nodes (wp_flow q) r
-flow_refused q e r passed part =
-    refused_part most_nodes most_nodes (renumber q 5) (wp_flow q) e r passed part (λ more. omega (arith, more, anew_grows q))
+module _ (q : Formula) where
+  abbrev anew : Formula
+  anew = renumber q 5
 
-pub fixed_grows : (q fixed : Formula) (ts : List Term) → fixed ≡ renumber q 5 → ts ≡ terms_of first_vars → nodes (fix_packet fixed ts) ≤ nodes (wp_flow q)
-fixed_grows q fixed ts is is_ts =
-    subst (λ x. nodes (fix_packet x ts) ≤ nodes (wp_flow q)) (sym is) (subst (λ x. nodes (fix_packet (renumber q 5) x) ≤ nodes (wp_flow q)) (sym is_ts)
-    (omega (arith, flow_grows q, replace_grows (or_row Sent flow_terms) (fix_packet (renumber q 5) (terms_of first_vars)))))
+  abbrev packet : List Term
+  packet = terms_of first_vars
 
-pub added_grows : (q fixed : Formula) (ts : List Term) → fixed ≡ fix_packet (renumber q 5) (terms_of first_vars) → ts ≡ flow_terms → nodes (add_row fixed Sent ts) ≤ nodes (wp_flow q)
-added_grows q fixed ts is is_ts =
-    subst (λ x. nodes (add_row x Sent ts) ≤ nodes (wp_flow q)) (sym is) (subst (λ x. nodes (add_row (fix_packet (renumber q 5) (terms_of first_vars)) Sent x) ≤ nodes (wp_flow q)) (sym is_ts) (flow_grows q))
+  pub flow_is : (later : Formula) → later ≡ add_row (fix_packet anew packet) Sent flow_terms → for_rules later ≡ wp_flow q
+  unfolding wp_flow
+  flow_is later is = ap for_rules is
+
+  pub anew_grows : nodes anew ≤ nodes (wp_flow q)
+  anew_grows = omega (arith, flow_grows q, replace_grows (or_row Sent flow_terms) (fix_packet anew packet), replace_grows (is_row packet) anew)
+
+  pub fixed_grows : (from : Formula) (ts : List Term) → from ≡ anew → ts ≡ packet → nodes (fix_packet from ts) ≤ nodes (wp_flow q)
+  fixed_grows from ts is is_ts =
+      subst (λ x. nodes x ≤ nodes (wp_flow q)) (sym (ap₂ fix_packet is is_ts)) (omega (arith, flow_grows q, replace_grows (or_row Sent flow_terms) (fix_packet anew packet)))
+
+  pub added_grows : (from : Formula) (ts : List Term) → from ≡ fix_packet anew packet → ts ≡ flow_terms → nodes (add_row from Sent ts) ≤ nodes (wp_flow q)
+  added_grows from ts is is_ts = subst (λ x. nodes x ≤ nodes (wp_flow q)) (sym (ap₂ (λ p us. add_row p Sent us) is is_ts)) (flow_grows q)
+
+  pub expire_is : (later : Formula) → later ≡ drop_match (no_packet anew) packet → for_rules later ≡ wp_expire q
+  unfolding wp_expire
+  expire_is later is = ap for_rules is
+
+  pub anew_grows_too : nodes anew ≤ nodes (wp_expire q)
+  anew_grows_too = omega (arith, expire_grows q, replace_grows (not_match packet) (no_packet anew), replace_grows no_row anew)
+
+  pub quiet_grows : (from : Formula) → from ≡ anew → nodes (no_packet from) ≤ nodes (wp_expire q)
+  quiet_grows from is = subst (λ x. nodes x ≤ nodes (wp_expire q)) (sym (ap no_packet is)) (omega (arith, expire_grows q, replace_grows (not_match packet) (no_packet anew)))
+
+  pub dropped_grows : (from : Formula) (ts : List Term) → from ≡ no_packet anew → ts ≡ packet → nodes (drop_match from ts) ≤ nodes (wp_expire q)
+  dropped_grows from ts is is_ts = subst (λ x. nodes x ≤ nodes (wp_expire q)) (sym (ap₂ drop_match is is_ts)) (expire_grows q)

@@ -1,12 +1,11 @@
 -- A weakest precondition is true exactly where every execution ends where the formula is true.
-use Rattle.std.proofs.Common.{◌≡◌, ℕ, ◌==◌, Bool, true, false, not, ◌&&◌, ◌||◌, ◌↔◌, inl, inr, cond, List, [], ◌∷◌, ◌++◌, length, Option, Some, None, refl, ap, sym, subst, ◌∙◌, IsTrue, IsFalse, Contains, true≢false, arith}
-use Rattle.std.specs.Prelude.{option_map, slice_get, slice_index}
+use Rattle.std.proofs.Common.{◌≡◌, ℕ, ◌==◌, Bool, true, false, not, ◌&&◌, ◌||◌, inl, inr, cond, List, [], ◌∷◌, ◌++◌, length, Some, None, refl, ap, sym, ◌∙◌, IsTrue, IsFalse, Contains, true≢false, arith}
 use Rattle.std.proofs.Math.Path.{fun_ext}
 use Rattle.std.proofs.Math.Bool.{and-true, or-false}
 use Rattle.std.proofs.lemmas.List.Elements.{All-contains}
 use Rattle.std.specs.List.{list_all, list_any}
-use Rattle.general_facts.proofs.Lists.{list_all-from}
-use Rattle.std.proofs.lemmas.Bool.{and_from, and_parts}
+use Rattle.std.proofs.lemmas.Bool.{and_parts}
+use Rattle.std.proofs.lemmas.Option.{none-some}
 use Rattle.fol_forms.proofs.ClosedTruth.{all_at}
 use Rattle.csdn_core.specs.declared.terms.VarId.{VarId}
 use Rattle.csdn_core.specs.declared.terms.RelId.{RelId}
@@ -18,30 +17,31 @@ use Rattle.csdn_core.specs.declared.terms.Pred.{Pred}
 use Rattle.csdn_core.specs.declared.terms.Pred.TheVariants.{Stored, Ft, Sent, RcvThis}
 use Rattle.csdn_core.specs.declared.event.Packet.TheVariants.{Nothing}
 use Rattle.csdn_core.specs.declared.program.Parts.{Parts}
-use Rattle.csdn_core.specs.declared.program.Constant.{Constant}
 use Rattle.csdn_core.specs.declared.syntax.Formula.{Formula}
 use Rattle.csdn_core.specs.declared.syntax.Formula.TheVariants as f
 use Rattle.csdn_core.specs.declared.syntax.Command.{Command}
-use Rattle.csdn_core.specs.declared.syntax.Command.TheVariants.{Skip, Insert, Remove, Install, Forward, Flood}
+use Rattle.csdn_core.specs.declared.syntax.Command.TheVariants.{Skip, Insert, Remove, Install, Uninstall, Forward, Flood}
 use Rattle.csdn_core.specs.Tree.{negation, conjunction, disjunction, implication, equivalence, universal, existential, sequence, conditional, choice}
 use Rattle.csdn_core.specs.Truth.{Structure, Assignment, truth, values, with_var}
 use Rattle.csdn_core.specs.Network.{Network, State, IsNetwork, structure, elements, same_pred, same_cells, is_fixed, holds_in, is_static_row}
 use Rattle.csdn_core.specs.Execution.{Executes, put, take_out, flooded, is_flood, tuple}
-use Rattle.csdn_core.specs.Variables.{vars_of, BindsOutside, free_in}
+use Rattle.csdn_core.specs.Variables.{vars_of, BindsOutside}
 use Rattle.csdn_core.specs.Sorted.{sorts_of, flow_sorts, packet_sorts, bound_in}
 use Rattle.csdn_core.specs.WellSorted.{signature, command_bound_in}
 use Rattle.fol_forms.specs.Replace.{add_row, drop_row, add_flood}
-use Rattle.fol_forms.specs.Substitution.{Scope, no_scope, with_sort, KeepsSorts, IsPort, HasEgress, SendsToPorts, with_relations, AllAtoms, FitsRow}
+use Rattle.fol_forms.specs.Substitution.{KeepsSorts, IsPort, HasEgress, SendsToPorts, with_relations, AllAtoms, FitsRow}
 use Rattle.fol_forms.proofs.Replaced.{truth-add_row, truth-drop_row, KeepsSorts-with}
 use Rattle.fol_forms.proofs.Flooded.{truth-add_flood}
 use Rattle.csdn_wp.specs.Preconditions.{wp}
 use Rattle.csdn_wp.specs.After.{stands_in}
-use Rattle.csdn_wp.specs.SortedIn.{Relations, no_packet, HasSortIn, HaveSortsIn, IsSortedIn}
-use Rattle.csdn_wp.proofs.Truths.{none_at, none_from, when_true, when_false, in_both_cases, implied, implies, unless_any, or_any}
-use Rattle.csdn_wp.proofs.Coincidence.{truth-Agrees}
-use Rattle.csdn_wp.proofs.Sorting.{HaveSortsIn-length, not_free}
+use Rattle.csdn_wp.proofs.Truths.{false_case, false_side, not_implied, none_false, failing, none_at, none_from, when_true, when_false, implied, unless_any}
+use Rattle.csdn_wp.proofs.Coincidence.{truth_alike}
+use Rattle.csdn_wp.proofs.Sorting.{HaveSortsIn-length}
 use Rattle.csdn_wp.proofs.Sorted.{atom_sorts}
-use Rattle.csdn_wp.proofs.Follows.{AreNew, AreNew-left, AreNew-right, AreNew-under, AreNew-tail, IsCommandIn, MayFollow, outside_terms, follows_first, follows_second, follows_then, follows_else, follows_none, follows_picked, new_then, new_else, IsSortedIn-wp}
+use Rattle.csdn_wp.proofs.Follows.{IsCommandIn, MayFollow, outside_terms, follows_first, follows_second, follows_then, follows_else, follows_none, follows_picked, new_then, new_else, IsSortedIn-wp}
+use Rattle.csdn_core.specs.SortedIn.{Scope, no_scope, with_sort, Relations, no_rcv_this, HasSortIn, HaveSortsIn, IsSortedIn}
+use Rattle.csdn_core.proofs.Agreement.{constant_there}
+use Rattle.csdn_core.proofs.Scopes.{AreNew, AreNew-left, AreNew-right, AreNew-under, AreNew-tail}
 
 module _ (P : Parts) (N : Network) where
   -- the structure that a state makes, when no packet is looked at
@@ -92,7 +92,7 @@ module _ (P : Parts) (N : Network) where
     fewer_at Sent ds = refl
     fewer_at RcvThis ds = refl
 
-    fewer_is : with_relations (in_state x) (λ q ds. holds_in P N x Nothing q ds && not (same_pred q r && in_tuple ds)) ≡ in_state (λ q ds. x q ds && not (same_pred q r && in_tuple ds))
+    pub fewer_is : with_relations (in_state x) (λ q ds. holds_in P N x Nothing q ds && not (same_pred q r && in_tuple ds)) ≡ in_state (λ q ds. x q ds && not (same_pred q r && in_tuple ds))
     fewer_is = ap (with_relations (in_state x)) (fun_ext (λ q. fun_ext (λ ds. fewer_at q ds)))
 
   -- the atoms of a relation have as many terms as a tuple of its sorts
@@ -111,17 +111,10 @@ module _ (P : Parts) (N : Network) where
   fits_row R r ss n declared long Γ Δ (existential v s p) sorted = fits_row R r ss n declared long (with_sort Γ v s) (with_sort Δ v s) p sorted
 
   module _ (network : IsNetwork P N) (x : State) where
-    constant_there : (k : ℕ) (s : Sort) → option_map (λ (d : Constant). d.sort) (slice_get P.constants k) ≡ Some s → Contains (elements N s) (slice_index N.constants k)
-    constant_there k s is = at (slice_get P.constants k) refl is
-      where
-        at : (o : Option Constant) → slice_get P.constants k ≡ o → option_map (λ (d : Constant). d.sort) o ≡ Some s → Contains (elements N s) (slice_index N.constants k)
-        at None here is = absurd (cc)
-        at (Some d) here is = let same : d.sort ≡ s = cc in subst (λ (t : Sort). Contains (elements N t) (slice_index N.constants k)) same (network.sorted k d here)
-
     -- a term of sort PR stands for a port
     is_port : (Γ : Scope) (t : Term) → HasSortIn (signature P) Γ Pr t → IsPort (in_state x) Γ t
     is_port Γ (Var v) has = has
-    is_port Γ (Const c) has = constant_there c.0 Pr has
+    is_port Γ (Const c) has = constant_there P N network c.0 Pr has
     is_port Γ (Port k) has = All-contains (Contains N.ports) P.numerals k network.numerals has.1
 
     has_egress : (Γ : Scope) (us : List Term) → HaveSortsIn (signature P) Γ flow_sorts us → HasEgress (in_state x) Γ us
@@ -148,13 +141,17 @@ module _ (P : Parts) (N : Network) where
     sends_to_ports R Γ (universal v s p) sorted = sends_to_ports R (with_sort Γ v s) p sorted
     sends_to_ports R Γ (existential v s p) sorted = sends_to_ports R (with_sort Γ v s) p sorted
 
-  -- the precondition says what the command does
+  -- where the precondition is true, every execution ends where the formula is true; where it is false, some execution ends
+  -- where the formula is false
   abbrev pub IsExact : Command → Formula → Assignment → State → Type 0
-  IsExact c q e x = IsTrue (truth (in_state x) (wp c q) e) ↔ ((y : State) → Executes P N c e x y → IsTrue (truth (in_state y) q e))
+  IsExact c q e x =
+      (IsTrue (truth (in_state x) (wp c q) e) → (y : State) → Executes P N c e x y → IsTrue (truth (in_state y) q e))
+      × (IsFalse (truth (in_state x) (wp c q) e) → (y : State) × Executes P N c e x y × IsFalse (truth (in_state y) q e))
 
   -- where the command has one end
-  one_end : (q : Formula) (e : Assignment) (z : State) (before : Bool) → before ≡ truth (in_state z) q e → (before ≡ true) ↔ ((y : State) → y ≡ z → IsTrue (truth (in_state y) q e))
-  one_end q e z before same = (λ h y is. rw is (sym same ∙ h), λ h. same ∙ h z refl)
+  one_end : (q : Formula) (e : Assignment) (z : State) (before : Bool) → before ≡ truth (in_state z) q e
+      → (before ≡ true → (y : State) → y ≡ z → IsTrue (truth (in_state y) q e)) × (before ≡ false → (y : State) × (y ≡ z) × IsFalse (truth (in_state y) q e))
+  one_end q e z before same = (λ h y is. rw is (sym same ∙ h), λ h. (z, refl, sym same ∙ h))
 
   module _ (R : Relations) (Γ : Scope) (q : Formula) (sorted : IsSortedIn (signature P) R Γ q) (e : Assignment) (x : State) where
     pub after_put : (r : Pred) (ss : List Sort) (ts : List Term) → CanWrite r → sorts_of (signature P) r ≡ Some ss → length ts ≡ length ss → BindsOutside (vars_of ts) q →
@@ -183,13 +180,13 @@ module _ (P : Parts) (N : Network) where
 
   -- a variable that is not in scope isn't seen
   not_seen : (R : Relations) (Γ : Scope) (q : Formula) → IsSortedIn (signature P) R Γ q → (e : Assignment) (y : State) (v : VarId) (m : ℕ) → Γ v.0 ≡ None → truth (in_state y) q (with_var e v m) ≡ truth (in_state y) q e
-  not_seen R Γ q sorted e y v m none = truth-Agrees (in_state y) q e (with_var e v m) (λ w free. go w free (w == v.0) refl)
+  not_seen R Γ q sorted e y v m none = truth_alike (signature P) R (in_state y) (in_state y).holds (λ r cells named. refl) Γ q (with_var e v m) e sorted (λ w s is. go w s is (w == v.0) refl)
     where
-      go : (w : ℕ) → IsTrue (free_in q w) → (b : Bool) → (w == v.0) ≡ b → cond b m (e w) ≡ e w
-      go w free false other = refl
-      go w free true is = let same_var : w ≡ v.0 = grind arith in absurd (true≢false (sym free ∙ ap (free_in q) same_var ∙ not_free (signature P) R Γ v.0 none q sorted))
+      go : (w : ℕ) (s : Sort) → Γ w ≡ Some s → (b : Bool) → (w == v.0) ≡ b → cond b m (e w) ≡ e w
+      go w s is false other = refl
+      go w s is true same = let same_var : w ≡ v.0 = grind arith in absurd (none-some s (sym none ∙ ap Γ (sym same_var) ∙ is))
 
-  module _ (network : IsNetwork P N) (R : Relations) (names : (r : Pred) → no_packet r → R r) where
+  module _ (network : IsNetwork P N) (R : Relations) (names : (r : Pred) → no_rcv_this r → R r) where
     pub exact : (c : Command) (q : Formula) (Γ : Scope) → IsCommandIn P Γ c → AreNew Γ (command_bound_in c) → MayFollow P R Γ c q → (e : Assignment) (x : State) → KeepsSorts (in_state x) Γ e → IsExact c q e x
     unfolding wp truth Executes IsCommandIn command_bound_in stands_in
     exact Skip q Γ formed own may e x keeps = one_end q e x _ refl
@@ -201,7 +198,10 @@ module _ (P : Parts) (N : Network) where
         let first : IsExact a (wp b q) e x = exact a (wp b q) Γ formed.0 own_a may_a e x keeps in
         let second : (z : State) → IsExact b q e z = λ z. exact b q Γ formed.1 own_b may_b e z keeps in (
           λ h y (z, to_z, to_y). (second z).0 (first.0 h z to_z) y to_y,
-          λ h. first.1 (λ z to_z. (second z).1 (λ y to_y. h y (z, to_z, to_y))),
+          λ h. (
+              let middle = first.1 h in
+              let end = (second middle.0).1 middle.2 in
+              (end.0, (middle.0, middle.1, end.1), end.2)),
         )
     exact (conditional p a b) q Γ formed own may e x keeps =
         let first : IsExact a q e x =
@@ -215,7 +215,10 @@ module _ (P : Parts) (N : Network) where
             | inl (is, to_y) ↦ first.0 (when_true is_p is_a is_b h is) y to_y
             | inr (isnt, to_y) ↦ second.0 (when_false is_p is_a is_b h isnt) y to_y
           ],
-          λ h. in_both_cases is_p is_a is_b (λ is. first.1 (λ y to_y. h y (inl (is, to_y)))) (λ isnt. second.1 (λ y to_y. h y (inr (isnt, to_y)))),
+          λ h. elim (false_case is_p is_a is_b h) [
+            | inl (is, wrong) ↦ (let end = first.1 wrong in (end.0, inl (is, end.1), end.2))
+            | inr (isnt, wrong) ↦ (let end = second.1 wrong in (end.0, inr (isnt, end.1), end.2))
+          ],
         )
     exact (choice v s p a b) q Γ formed own may e x keeps =
         let all = bound_in p ++ (command_bound_in a ++ command_bound_in b) in
@@ -224,7 +227,7 @@ module _ (P : Parts) (N : Network) where
         λ m there. exact a q Δ formed.1 (new_then P Δ (bound_in p) (command_bound_in a) (command_bound_in b) (AreNew-under Γ v s all own))
         (follows_picked P R Γ v s p a b q (own.new v.0 (inl refl)) may) (with_var e v m) x (KeepsSorts-with (in_state x) Γ e v s m keeps there) in
         let second : IsExact b q e x =
-        exact b q Γ formed.2 (new_else P Γ (bound_in p) (command_bound_in a) (command_bound_in b) (AreNew-tail P Γ v.0 all own))
+        exact b q Γ formed.2 (new_else P Γ (bound_in p) (command_bound_in a) (command_bound_in b) (AreNew-tail Γ v.0 all own))
         (follows_none P R Γ v s p a b q may) e x keeps in
         let unseen : (y : State) (m : ℕ) → truth (in_state y) q (with_var e v m) ≡ truth (in_state y) q e = λ y m. not_seen R Γ q may.sorted e y v m (own.new v.0 (inl refl)) in
         let is_p : ℕ → Bool = λ m. truth (in_state x) p (with_var e v m) in
@@ -236,9 +239,17 @@ module _ (P : Parts) (N : Network) where
             | inl (m, there, is, to_y) ↦ sym (unseen y m) ∙ (first m there).0 (implied (is_p m) (is_a m) (all_at _ (elements N s) m there (and_parts all_a _ h).0) is) y to_y
             | inr (none, to_y) ↦ second.0 (unless_any any_p is_b (and_parts all_a _ h).1 (none_from is_p (elements N s) none)) y to_y
           ],
-          λ h. and_from all_a (not (not any_p) || is_b)
-              (list_all-from _ (elements N s) (λ m there. implies (is_p m) (is_a m) (λ is. (first m there).1 (λ y to_y. unseen y m ∙ h y (inl (m, there, is, to_y))))))
-              (or_any any_p is_b (λ none. second.1 (λ y to_y. h y (inr (λ m there. none_at is_p (elements N s) m there none, to_y))))),
+          λ h. elim (false_side all_a (not (not any_p) || is_b) h) [
+            | inl some ↦ (
+                let m = failing (λ m. not (is_p m) || is_a m) (elements N s) some in
+                let sides = not_implied (is_p m.0) (is_a m.0) m.2 in
+                let end = (first m.0 m.1).1 sides.1 in
+                (end.0, inl (m.0, m.1, sides.0, end.1), sym (unseen end.0 m.0) ∙ end.2))
+            | inr other ↦ (
+                let sides = none_false any_p is_b other.1 in
+                let end = second.1 sides.1 in
+                (end.0, inr (λ m there. none_at is_p (elements N s) m there sides.0, end.1), end.2))
+          ],
         )
     exact (Insert r ts) q Γ formed own may e x keeps =
         one_end q e _ _ (after_put R Γ q may.sorted e x (Stored r) formed.1.sorts ts (can_write_stored r formed.0) formed.1.declared (HaveSortsIn-length (signature P) Γ formed.1.sorts ts formed.1.terms) (outside_terms P R names Γ (Insert r ts) q ts refl may))
@@ -246,6 +257,8 @@ module _ (P : Parts) (N : Network) where
         one_end q e _ _ (after_take_out R Γ q may.sorted e x (Stored r) formed.1.sorts ts (can_write_stored r formed.0) formed.1.declared (HaveSortsIn-length (signature P) Γ formed.1.sorts ts formed.1.terms) (outside_terms P R names Γ (Remove r ts) q ts refl may))
     exact (Install ts) q Γ formed own may e x keeps =
         one_end q e _ _ (after_put R Γ q may.sorted e x Ft flow_sorts ts can_write_ft refl (HaveSortsIn-length (signature P) Γ flow_sorts ts formed) (outside_terms P R names Γ (Install ts) q ts refl may))
+    exact (Uninstall ts) q Γ formed own may e x keeps =
+        one_end q e _ _ (after_take_out R Γ q may.sorted e x Ft flow_sorts ts can_write_ft refl (HaveSortsIn-length (signature P) Γ flow_sorts ts formed) (outside_terms P R names Γ (Uninstall ts) q ts refl may))
     exact (Forward ts) q Γ formed own may e x keeps =
         one_end q e _ _ (after_put R Γ q may.sorted e x Sent flow_sorts ts can_write_sent refl (HaveSortsIn-length (signature P) Γ flow_sorts ts formed) (outside_terms P R names Γ (Forward ts) q ts refl may))
     exact (Flood ts) q Γ formed own may e x keeps =

@@ -22,10 +22,10 @@ use Rattle.decision_laws.specs.Forms.{Form, And, Atom, Same, normal_form}
 use Rattle.decision_laws.specs.Laws.{form_of, words}
 use Rattle.decision_laws.specs.Vocabulary.{all_relations, find_or, fits, has_term, is_bound, names_of, sort_of_constant, sorts_or, term_fits, term_sort, terms_fit, uses, vocabulary}
 use Rattle.decision_laws.proofs.Basics.{any_from}
-use Rattle.decision_laws.proofs.Lists.{contains_in, in_filter}
+use Rattle.decision_laws.proofs.Lists.{in_filter}
 use Rattle.decision_laws.proofs.Words.{is_vocabulary}
-use Rattle.fol_forms.specs.Substitution.{Scope, no_scope, with_sort}
-use Rattle.csdn_wp.specs.SortedIn.{no_packet, HasSortIn, HaveSortsIn, IsAtomIn, IsSortedIn}
+use Rattle.csdn_core.proofs.Members.{contains_in}
+use Rattle.csdn_core.specs.SortedIn.{Scope, no_scope, with_sort, no_rcv_this, HasSortIn, HaveSortsIn, IsAtomIn, IsSortedIn}
 
 -- each variable in scope is bound with its sort
 record IsBound (Γ : Scope) (bound : List (ℕ × Sort)) : Type 0 where
@@ -61,7 +61,7 @@ module _ (P : Parts) (g : Form) where
   terms_fitting Γ bound all (s ∷ ss) [] have = absurd have
   terms_fitting Γ bound all (s ∷ ss) (t ∷ ts) have = and_from (term_fits (vocabulary P g) bound s t) (terms_fit (vocabulary P g) bound ss ts) (term_fitting Γ bound all s t have.0).0 (terms_fitting Γ bound all ss ts have.1)
 
-  atom_fits : (Γ : Scope) (bound : List (ℕ × Sort)) → IsBound Γ bound → (sign : Bool) (r : Pred) (ts : List Term) → IsAtomIn (signature P) Γ r ts → no_packet r → IsWithin P g (Atom sign r ts) → fits (vocabulary P g) bound (Atom sign r ts) ≡ true
+  atom_fits : (Γ : Scope) (bound : List (ℕ × Sort)) → IsBound Γ bound → (sign : Bool) (r : Pred) (ts : List Term) → IsAtomIn (signature P) Γ r ts → no_rcv_this r → IsWithin P g (Atom sign r ts) → fits (vocabulary P g) bound (Atom sign r ts) ≡ true
   atom_fits Γ bound all sign r ts atom other within =
       let voc = vocabulary P g in
       let listed = in_filter (uses g) (all_relations P) r (is_listed P r atom.sorts atom.declared other) (within r (same_pred-refl r)) in
@@ -76,7 +76,7 @@ module _ (P : Parts) (g : Form) where
       and_from (term_fits voc bound (term_sort voc bound t) t) (term_fits voc bound (term_sort voc bound t) u)
       (subst (λ k. term_fits voc bound k t ≡ true) (sym first.1) first.0) (subst (λ k. term_fits voc bound k u ≡ true) (sym first.1) second.0)
 
-  fitting : (sign : Bool) (F : Formula) (Γ : Scope) (bound : List (ℕ × Sort)) → IsBound Γ bound → IsSortedIn (signature P) no_packet Γ F → IsWithin P g (normal_form sign F) → fits (vocabulary P g) bound (normal_form sign F) ≡ true
+  fitting : (sign : Bool) (F : Formula) (Γ : Scope) (bound : List (ℕ × Sort)) → IsBound Γ bound → IsSortedIn (signature P) no_rcv_this Γ F → IsWithin P g (normal_form sign F) → fits (vocabulary P g) bound (normal_form sign F) ≡ true
   unfolding normal_form IsSortedIn
   fitting true f.True Γ bound all sorted within = refl
   fitting false f.True Γ bound all sorted within = refl
@@ -105,7 +105,7 @@ module _ (P : Parts) (g : Form) where
   fitting true (existential v s p) Γ bound all sorted within = fitting true p (with_sort Γ v s) ((v.0, s) ∷ bound) (IsBound-pushed Γ bound v s all) sorted within
   fitting false (existential v s p) Γ bound all sorted within = fitting false p (with_sort Γ v s) ((v.0, s) ∷ bound) (IsBound-pushed Γ bound v s all) sorted within
 
-pub sentence_fits : (P : Parts) (F : Formula) → IsSortedIn (signature P) no_packet no_scope F → IsTrue (fits (words P F) [] (form_of F))
+pub sentence_fits : (P : Parts) (F : Formula) → IsSortedIn (signature P) no_rcv_this no_scope F → IsTrue (fits (words P F) [] (form_of F))
 sentence_fits P F sorted = fitting P (form_of F) true F no_scope [] nothing sorted (λ r used. used)
   where
     nothing : IsBound no_scope []

@@ -1,7 +1,6 @@
 -- What a command and the formula after it meet, where the precondition is exact.
-use Rattle.std.proofs.Common.{◌≡◌, inl, inr, ℕ, ◌==◌, Bool, true, false, ◌||◌, cond, List, ◌∷◌, ◌++◌, Some, None, refl, ap, sym, subst, ◌∙◌, IsFalse, arith}
+use Rattle.std.proofs.Common.{◌≡◌, inl, inr, ℕ, ◌||◌, List, ◌++◌, None, refl, ap, sym, ◌∙◌, IsFalse}
 use Rattle.std.proofs.lemmas.Bool.{or_from, or_parts}
-use Rattle.decision_laws.proofs.SortedForms.{distinct_left, distinct_right}
 use Rattle.csdn_core.specs.declared.terms.VarId.{VarId}
 use Rattle.csdn_core.specs.declared.terms.Sort.{Sort}
 use Rattle.csdn_core.specs.declared.terms.Term.{Term}
@@ -10,58 +9,34 @@ use Rattle.csdn_core.specs.declared.terms.Pred.TheVariants.{Stored, Ft, Sent}
 use Rattle.csdn_core.specs.declared.program.Parts.{Parts}
 use Rattle.csdn_core.specs.declared.syntax.Formula.{Formula}
 use Rattle.csdn_core.specs.declared.syntax.Command.{Command}
-use Rattle.csdn_core.specs.declared.syntax.Command.TheVariants.{Skip, Insert, Remove, Install, Forward, Flood}
+use Rattle.csdn_core.specs.declared.syntax.Command.TheVariants.{Skip, Insert, Remove, Install, Uninstall, Forward, Flood}
 use Rattle.csdn_core.specs.Tree.{sequence, conditional, choice}
 use Rattle.csdn_core.specs.Network.{is_fixed}
 use Rattle.csdn_core.specs.Variables.{vars_of, BindsOutside, free_in}
 use Rattle.csdn_core.specs.Sorted.{bound_in, flow_sorts, packet_sorts}
 use Rattle.csdn_core.specs.WellSorted.{signature, command_bound_in}
-use Rattle.decision_laws.specs.Vocabulary.{IsIn}
-use Rattle.decision_laws.specs.Clauses.{AreDistinct}
-use Rattle.decision_laws.proofs.Lists.{in_left, in_right}
-use Rattle.fol_forms.specs.Substitution.{Scope, with_sort}
 use Rattle.csdn_wp.specs.After.{stands_in}
 use Rattle.csdn_wp.specs.Preconditions.{wp}
-use Rattle.csdn_wp.specs.SortedIn.{Relations, no_packet, HaveSortsIn, IsAtomIn, IsSortedIn}
-use Rattle.csdn_wp.proofs.Bounds.{distinct_both, binds_outside, bound_in-wp}
+use Rattle.csdn_wp.proofs.Bounds.{bound_in-wp}
 use Rattle.csdn_wp.proofs.Sorting.{IsSortedIn-more, Extends-new, terms_not, not_free}
 use Rattle.csdn_wp.proofs.Sorted.{IsSortedIn-add_row, IsSortedIn-drop_row, IsSortedIn-add_flood}
-
--- the numbers are distinct, and none is in scope
-pub record AreNew (Γ : Scope) (ns : List ℕ) : Type 0 where
-  pub distinct : AreDistinct ns
-  pub new : (n : ℕ) → IsIn n ns → Γ n ≡ None
-
-pub AreNew-left : (Γ : Scope) (ms ns : List ℕ) → AreNew Γ (ms ++ ns) → AreNew Γ ms
-AreNew-left Γ ms ns own = record { distinct = distinct_left ms ns own.distinct; new = λ n i. own.new n (in_left ms ns n i) }
-
-pub AreNew-right : (Γ : Scope) (ms ns : List ℕ) → AreNew Γ (ms ++ ns) → AreNew Γ ns
-AreNew-right Γ ms ns own = record { distinct = distinct_right ms ns own.distinct; new = λ n i. own.new n (in_right ms ns n i) }
-
--- another variable is as it was
-pub still_none : (Γ : Scope) (v : VarId) (s : Sort) (n : ℕ) → (n ≡ v.0 → ⊥) → Γ n ≡ None → with_sort Γ v s n ≡ None
-still_none Γ v s n other none = go (n == v.0) refl
-  where
-    go : (b : Bool) → (n == v.0) ≡ b → cond b (Some s) (Γ n) ≡ None
-    go true is = absurd (other (grind arith))
-    go false isnt = none
-
-pub AreNew-under : (Γ : Scope) (v : VarId) (s : Sort) (ns : List ℕ) → AreNew Γ (v.0 ∷ ns) → AreNew (with_sort Γ v s) ns
-AreNew-under Γ v s ns own = record {
-  distinct = own.distinct.1;
-  new = λ n i. still_none Γ v s n (λ is. own.distinct.0 (subst (λ m. IsIn m ns) is i)) (own.new n (inr i));
-}
+use Rattle.csdn_core.proofs.Members.{in_left, in_right, distinct_both}
+use Rattle.csdn_core.specs.Members.{IsIn}
+use Rattle.csdn_core.specs.SortedIn.{Scope, with_sort, Relations, no_rcv_this, HaveSortsIn, IsAtomIn, IsSortedIn}
+use Rattle.csdn_core.proofs.Scopes.{AreNew, AreNew-left, AreNew-right, AreNew-under, AreNew-tail, still_none}
+use Rattle.fol_forms.proofs.Expired.{binds_outside}
 
 module _ (P : Parts) where
   -- a command whose terms have the sorts that their places ask for, and which writes no static relation
   unfoldable pub IsCommandIn : Scope → Command → Type 0
   IsCommandIn Γ Skip = Unit {0}
   IsCommandIn Γ (sequence a b) = IsCommandIn Γ a × IsCommandIn Γ b
-  IsCommandIn Γ (conditional p a b) = IsSortedIn (signature P) no_packet Γ p × IsCommandIn Γ a × IsCommandIn Γ b
-  IsCommandIn Γ (choice v s p a b) = IsSortedIn (signature P) no_packet (with_sort Γ v s) p × IsCommandIn (with_sort Γ v s) a × IsCommandIn Γ b
+  IsCommandIn Γ (conditional p a b) = IsSortedIn (signature P) no_rcv_this Γ p × IsCommandIn Γ a × IsCommandIn Γ b
+  IsCommandIn Γ (choice v s p a b) = IsSortedIn (signature P) no_rcv_this (with_sort Γ v s) p × IsCommandIn (with_sort Γ v s) a × IsCommandIn Γ b
   IsCommandIn Γ (Insert r ts) = IsFalse (is_fixed P r.0) × IsAtomIn (signature P) Γ (Stored r) ts
   IsCommandIn Γ (Remove r ts) = IsFalse (is_fixed P r.0) × IsAtomIn (signature P) Γ (Stored r) ts
   IsCommandIn Γ (Install ts) = HaveSortsIn (signature P) Γ flow_sorts ts
+  IsCommandIn Γ (Uninstall ts) = HaveSortsIn (signature P) Γ flow_sorts ts
   IsCommandIn Γ (Forward ts) = HaveSortsIn (signature P) Γ flow_sorts ts
   IsCommandIn Γ (Flood ts) = HaveSortsIn (signature P) Γ packet_sorts ts
 
@@ -115,17 +90,18 @@ module _ (P : Parts) where
       or_from (stands_in a n) (stands_in b n) (not_standing a Γ n formed.0 none (λ i. other (in_left (command_bound_in a) (command_bound_in b) n i)))
       (not_standing b Γ n formed.1 none (λ i. other (in_right (command_bound_in a) (command_bound_in b) n i)))
   not_standing (conditional p a b) Γ n formed none other =
-      or_from (free_in p n) (stands_in a n || stands_in b n) (not_free (signature P) no_packet Γ n none p formed.0)
+      or_from (free_in p n) (stands_in a n || stands_in b n) (not_free (signature P) no_rcv_this Γ n none p formed.0)
       (or_from (stands_in a n) (stands_in b n) (not_standing a Γ n formed.1 none (λ i. other (in_right (bound_in p) _ n (in_left (command_bound_in a) (command_bound_in b) n i))))
       (not_standing b Γ n formed.2 none (λ i. other (in_right (bound_in p) _ n (in_right (command_bound_in a) (command_bound_in b) n i)))))
   not_standing (choice v s p a b) Γ n formed none other =
       let still = still_none Γ v s n (λ is. other (inl is)) none in
-      or_from (free_in p n) (stands_in a n || stands_in b n) (not_free (signature P) no_packet (with_sort Γ v s) n still p formed.0)
+      or_from (free_in p n) (stands_in a n || stands_in b n) (not_free (signature P) no_rcv_this (with_sort Γ v s) n still p formed.0)
       (or_from (stands_in a n) (stands_in b n) (not_standing a (with_sort Γ v s) n formed.1 still (λ i. other (inr (in_right (bound_in p) _ n (in_left (command_bound_in a) (command_bound_in b) n i)))))
       (not_standing b Γ n formed.2 none (λ i. other (inr (in_right (bound_in p) _ n (in_right (command_bound_in a) (command_bound_in b) n i))))))
   not_standing (Insert r ts) Γ n formed none other = terms_not (signature P) Γ n none formed.1.sorts ts formed.1.terms
   not_standing (Remove r ts) Γ n formed none other = terms_not (signature P) Γ n none formed.1.sorts ts formed.1.terms
   not_standing (Install ts) Γ n formed none other = terms_not (signature P) Γ n none flow_sorts ts formed
+  not_standing (Uninstall ts) Γ n formed none other = terms_not (signature P) Γ n none flow_sorts ts formed
   not_standing (Forward ts) Γ n formed none other = terms_not (signature P) Γ n none flow_sorts ts formed
   not_standing (Flood ts) Γ n formed none other = terms_not (signature P) Γ n none packet_sorts ts formed
 
@@ -136,12 +112,9 @@ module _ (P : Parts) where
   pub new_else : (Γ : Scope) (xs ms ns : List ℕ) → AreNew Γ (xs ++ (ms ++ ns)) → AreNew Γ ns
   new_else Γ xs ms ns own = AreNew-right Γ ms ns (AreNew-right Γ xs (ms ++ ns) own)
 
-  pub AreNew-tail : (Γ : Scope) (n : ℕ) (ns : List ℕ) → AreNew Γ (n ∷ ns) → AreNew Γ ns
-  AreNew-tail Γ n ns own = record { distinct = own.distinct.1; new = λ m i. own.new m (inr i) }
-
-  module _ (R : Relations) (names : (r : Pred) → no_packet r → R r) where
-    weaker : (Γ : Scope) (p : Formula) → IsSortedIn (signature P) no_packet Γ p → IsSortedIn (signature P) R Γ p
-    weaker Γ p sorted = IsSortedIn-more (signature P) no_packet R names Γ Γ (λ v s is. is) p sorted
+  module _ (R : Relations) (names : (r : Pred) → no_rcv_this r → R r) where
+    weaker : (Γ : Scope) (p : Formula) → IsSortedIn (signature P) no_rcv_this Γ p → IsSortedIn (signature P) R Γ p
+    weaker Γ p sorted = IsSortedIn-more (signature P) no_rcv_this R names Γ Γ (λ v s is. is) p sorted
 
     -- what follows the first command of a sequence, once the second one's precondition is well-sorted
     pub follows_first : (Γ : Scope) (a b : Command) (q : Formula) → IsCommandIn Γ a → AreNew Γ (command_bound_in a ++ command_bound_in b) → MayFollow R Γ (sequence a b) q
@@ -184,5 +157,6 @@ module _ (P : Parts) where
     IsSortedIn-wp (Insert r ts) q Γ formed own may = IsSortedIn-add_row (signature P) R (Stored r) formed.1.sorts ts formed.1.declared Γ q formed.1.terms (outside_terms Γ (Insert r ts) q ts refl may) may.sorted
     IsSortedIn-wp (Remove r ts) q Γ formed own may = IsSortedIn-drop_row (signature P) R (Stored r) formed.1.sorts ts formed.1.declared Γ q formed.1.terms (outside_terms Γ (Remove r ts) q ts refl may) may.sorted
     IsSortedIn-wp (Install ts) q Γ formed own may = IsSortedIn-add_row (signature P) R Ft flow_sorts ts refl Γ q formed (outside_terms Γ (Install ts) q ts refl may) may.sorted
+    IsSortedIn-wp (Uninstall ts) q Γ formed own may = IsSortedIn-drop_row (signature P) R Ft flow_sorts ts refl Γ q formed (outside_terms Γ (Uninstall ts) q ts refl may) may.sorted
     IsSortedIn-wp (Forward ts) q Γ formed own may = IsSortedIn-add_row (signature P) R Sent flow_sorts ts refl Γ q formed (outside_terms Γ (Forward ts) q ts refl may) may.sorted
     IsSortedIn-wp (Flood ts) q Γ formed own may = IsSortedIn-add_flood (signature P) R ts Γ q formed (outside_terms Γ (Flood ts) q ts refl may) may.sorted

@@ -5,18 +5,18 @@ use Rattle.csdn_core.specs.declared.terms.Pred.{Pred}
 use Rattle.csdn_core.specs.declared.syntax.Formula.{Formula}
 use Rattle.csdn_core.specs.declared.syntax.Formula.TheVariants as f
 use Rattle.csdn_core.specs.declared.syntax.Command.{Command}
-use Rattle.csdn_core.specs.declared.syntax.Command.TheVariants.{Skip, Insert, Remove, Install, Forward, Flood}
+use Rattle.csdn_core.specs.declared.syntax.Command.TheVariants.{Skip, Insert, Remove, Install, Uninstall, Forward, Flood}
 use Rattle.csdn_core.specs.Tree.{negation, conjunction, disjunction, implication, equivalence, universal, existential, sequence, conditional, choice}
 use Rattle.csdn_core.specs.Nodes.{nodes}
 use Rattle.fol_forms.specs.declared.close.Bind.{Bind}
 use Rattle.fol_forms.specs.Closed.{closed}
-use Rattle.fol_forms.specs.Replace.{replace, is_row, fix_packet, add_row}
+use Rattle.fol_forms.specs.Replace.{replace, is_row, fix_packet, add_row, drop_match, no_packet}
 use Rattle.fol_forms.specs.Renumber.{binders, renumber}
 use Rattle.csdn_core.specs.declared.terms.Pred.TheVariants.{Sent}
 use Rattle.fol_forms.proofs.ClosedTruth.{nodes-closed}
 use Rattle.csdn_core.specs.declared.program.Handler.{Handler}
 use Rattle.csdn_wp.specs.declared.vars.PacketVars.{PacketVars}
-use Rattle.csdn_wp.specs.EventPreconditions.{terms_of, binds_of, handler_vars, first_vars, guard, guarded, and_later, member, members, flow_terms, wp_flow}
+use Rattle.csdn_wp.specs.EventPreconditions.{terms_of, binds_of, handler_vars, first_vars, guard, guarded, and_later, member, members, flow_terms, for_rules, wp_flow, wp_expire}
 use Rattle.csdn_wp.specs.Preconditions.{wp}
 
 pub nodes_positive : (p : Formula) → 1 ≤ nodes p
@@ -56,6 +56,7 @@ wp_grows (choice v s p a b) q = omega (arith, wp_grows a q)
 wp_grows (Insert r ts) q = replace_grows _ q
 wp_grows (Remove r ts) q = replace_grows _ q
 wp_grows (Install ts) q = replace_grows _ q
+wp_grows (Uninstall ts) q = replace_grows _ q
 wp_grows (Forward ts) q = replace_grows _ q
 wp_grows (Flood ts) q = replace_grows _ q
 
@@ -108,7 +109,16 @@ few_binders (equivalence p q) = omega (arith, few_binders p, few_binders q)
 few_binders (universal v s p) = omega (arith, few_binders p)
 few_binders (existential v s p) = omega (arith, few_binders p)
 
--- the precondition of a flow
+-- the preconditions of a flow and of an expiry
+
+pub rules_grow : (p : Formula) → nodes p ≤ nodes (for_rules p)
+unfolding for_rules nodes
+rules_grow p = omega arith
+
 pub flow_grows : (q : Formula) → nodes (add_row (fix_packet (renumber q 5) (terms_of first_vars)) Sent flow_terms) ≤ nodes (wp_flow q)
-unfolding wp_flow nodes
-flow_grows q = omega arith
+unfolding wp_flow
+flow_grows q = rules_grow _
+
+pub expire_grows : (q : Formula) → nodes (drop_match (no_packet (renumber q 5)) (terms_of first_vars)) ≤ nodes (wp_expire q)
+unfolding wp_expire
+expire_grows q = rules_grow _

@@ -1,3 +1,4 @@
+pub mod CommandSteps
 pub mod Truths
 pub mod Bounds
 pub mod Sorting
@@ -14,6 +15,7 @@ pub mod Eventing
 pub mod Preceding
 pub mod Arrival
 pub mod Flow
+pub mod Expiry
 pub mod Programs
 pub mod Sentences
 pub mod Fitting

@@ -1,12 +1,8 @@
 -- The preconditions of sentences are sentences.
-use Rattle.std.proofs.Common.{◌≡◌, ◌≢◌, inl, inr, ℕ, ◌==◌, ◌≤◌, Bool, true, false, not, ◌&&◌, ◌||◌, List, [], ◌∷◌, ◌++◌, Option, Some, None, refl, ap, ap₂, sym, subst, ◌∙◌, Contains, AllPairs, arith, true≢false}
-use Rattle.std.proofs.Math.Path.{fun_ext}
-use Rattle.std.specs.List.{flat_map, list_all, list_any}
-use Rattle.decision_laws.proofs.SortedForms.{distinct_pairs}
+use Rattle.std.proofs.Common.{◌≡◌, ◌≢◌, inl, inr, ℕ, ◌≤◌, Bool, true, false, List, [], ◌∷◌, ◌++◌, Option, Some, None, refl, ap, sym, subst, Contains, AllPairs, arith, true≢false}
+use Rattle.std.specs.List.{flat_map}
 use Rattle.csdn_core.specs.declared.terms.VarId.{VarId}
 use Rattle.csdn_core.specs.declared.terms.Sort.TheVariants.{Pr}
-use Rattle.csdn_core.specs.declared.terms.Term.{Term}
-use Rattle.csdn_core.specs.declared.terms.Term.TheVariants.{Var, Const, Port}
 use Rattle.csdn_core.specs.declared.terms.Pred.{Pred}
 use Rattle.csdn_core.specs.declared.terms.Pred.TheVariants.{Stored, Ft, Sent, RcvThis}
 use Rattle.csdn_core.specs.declared.terms.Place.{Place}
@@ -16,25 +12,24 @@ use Rattle.csdn_core.specs.declared.event.Packet.TheVariants.{Nothing}
 use Rattle.csdn_core.specs.declared.program.Parts.{Parts}
 use Rattle.csdn_core.specs.declared.program.Handler.{Handler}
 use Rattle.csdn_core.specs.declared.syntax.Formula.{Formula}
-use Rattle.csdn_core.specs.declared.syntax.Formula.TheVariants as f
 use Rattle.csdn_core.specs.declared.syntax.Command.{Command}
 use Rattle.csdn_core.specs.declared.syntax.Command.TheVariants.{Skip}
-use Rattle.csdn_core.specs.Tree.{negation, conjunction, disjunction, implication, equivalence, universal, existential}
-use Rattle.csdn_core.specs.Truth.{Assignment, truth, value, values, with_var, same_truth}
+use Rattle.csdn_core.specs.Tree.{negation}
+use Rattle.csdn_core.specs.Truth.{Assignment, truth}
 use Rattle.csdn_core.specs.Network.{Network, State, structure, holds_in}
 use Rattle.csdn_core.specs.Numerals.{numerals_in, row_numerals, invariant_numerals, handler_numerals, port_numerals, command_numerals}
 use Rattle.csdn_core.specs.Sorted.{IsAllowed, IsSorted, most_numbers, bound_in}
 use Rattle.csdn_core.specs.WellSorted.{IsWellSorted, signature}
-use Rattle.decision_laws.specs.Vocabulary.{IsIn}
-use Rattle.decision_laws.proofs.Lists.{in_left, in_right, in_both, in_flat, in_contains}
 use Rattle.fol_forms.specs.Renumber.{renumber}
-use Rattle.fol_forms.specs.Substitution.{Scope, no_scope, with_sort}
 use Rattle.csdn_wp.specs.declared.vars.PacketVars.{PacketVars}
-use Rattle.csdn_wp.specs.SortedIn.{any_relation, no_packet, IsSortedIn}
 use Rattle.csdn_wp.specs.EventPreconditions.{handler_vars, first_vars, is_port, and_also, guard, guarded, and_later, member, members, wp_in}
-use Rattle.csdn_wp.proofs.Scopes.{AreInScope-none, AreNew-none, sorted_in, bind}
 use Rattle.csdn_wp.proofs.Arrival.{IsFine, AllFine, scope_binds, packet_scope, vars_in_scope, before_sorted, last_fine}
+use Rattle.csdn_wp.proofs.Coincidence.{truth_alike}
 use Rattle.csdn_wp.proofs.Programs.{handlers_fine}
+use Rattle.csdn_core.proofs.Members.{distinct_pairs, in_left, in_right, in_both, in_flat, in_contains}
+use Rattle.csdn_core.specs.Members.{IsIn}
+use Rattle.csdn_core.specs.SortedIn.{Scope, no_scope, any_relation, no_rcv_this, IsSortedIn}
+use Rattle.csdn_core.proofs.Scopes.{AreInScope-none, AreNew-none, sorted_in, bind}
 
 -- ---- what a guard says is well-sorted
 
@@ -46,15 +41,15 @@ module _ (P : Parts) (Γ : Scope) (i : VarId) (is_pr : Γ i.0 ≡ Some Pr) where
   abbrev pub AreNamed : List ℕ → Type 0
   AreNamed ks = (k : ℕ) → IsIn k ks → Contains P.numerals k
 
-  is_port_sorted : (k : ℕ) → Contains P.numerals k → IsSortedIn (signature P) no_packet Γ (is_port i k)
+  is_port_sorted : (k : ℕ) → Contains P.numerals k → IsSortedIn (signature P) no_rcv_this Γ (is_port i k)
   unfolding IsSortedIn
   is_port_sorted k named = (Pr, is_pr, (refl, named))
 
   guard_is_sorted : Option Formula → Type 0
   guard_is_sorted None = Unit {0}
-  guard_is_sorted (Some g) = IsSortedIn (signature P) no_packet Γ g
+  guard_is_sorted (Some g) = IsSortedIn (signature P) no_rcv_this Γ g
 
-  also_sorted : (p : Formula) (g : Option Formula) → IsSortedIn (signature P) no_packet Γ p → guard_is_sorted g → IsSortedIn (signature P) no_packet Γ (and_also p g)
+  also_sorted : (p : Formula) (g : Option Formula) → IsSortedIn (signature P) no_rcv_this Γ p → guard_is_sorted g → IsSortedIn (signature P) no_rcv_this Γ (and_also p g)
   unfolding IsSortedIn guard_is_sorted
   also_sorted p None sorted rest = sorted
   also_sorted p (Some g) sorted rest = (sorted, rest)
@@ -65,7 +60,7 @@ module _ (P : Parts) (Γ : Scope) (i : VarId) (is_pr : Γ i.0 ≡ Some Pr) where
   guard_sorted [] (Some k) named own = is_port_sorted k (own k refl)
   guard_sorted (k ∷ ks) port named own = also_sorted (negation (is_port i k)) (guard ks port i) (is_port_sorted k (named k (inl refl))) (guard_sorted ks port (λ m j. named m (inr j)) own)
 
-  guarded_sorted : (g : Option Formula) (p : Formula) → guard_is_sorted g → IsSortedIn (signature P) no_packet Γ p → IsSortedIn (signature P) no_packet Γ (guarded g p)
+  guarded_sorted : (g : Option Formula) (p : Formula) → guard_is_sorted g → IsSortedIn (signature P) no_rcv_this Γ p → IsSortedIn (signature P) no_rcv_this Γ (guarded g p)
   unfolding IsSortedIn guard_is_sorted
   guarded_sorted None p sorted rest = rest
   guarded_sorted (Some g) p sorted rest = (sorted, rest)
@@ -74,20 +69,20 @@ module _ (P : Parts) (Γ : Scope) (i : VarId) (is_pr : Γ i.0 ≡ Some Pr) where
 
 module _ (P : Parts) (from : ℕ) (four : 4 ≤ from) (q : Formula) (sorted : IsSortedIn (signature P) any_relation no_scope q) where
   member_sorted : (ks : List ℕ) (v : PacketVars) (port : Option ℕ) (body : Command) → IsFine P from v body → ((k : ℕ) → IsIn k ks → Contains P.numerals k) → ((k : ℕ) → port ≡ Some k → Contains P.numerals k)
-      → IsSortedIn (signature P) no_packet no_scope (member ks v port body (renumber q from))
+      → IsSortedIn (signature P) no_rcv_this no_scope (member ks v port body (renumber q from))
   unfolding member IsSortedIn
   member_sorted ks v port body fine named own =
       let is_pr : packet_scope v v.i.0 ≡ Some Pr = vars_in_scope P from v body fine (bind v.i Pr) (in_contains (scope_binds v) (bind v.i Pr) (inr (inr (inr (inl refl))))) in
       guarded_sorted P (packet_scope v) v.i is_pr (guard ks port v.i) _ (guard_sorted P (packet_scope v) v.i is_pr ks port named own) (before_sorted P from v body fine q sorted)
 
-  and_later_sorted : (port : Option ℕ) (ks : List ℕ) (p : Formula) (later : List ℕ → Formula) → ((k : ℕ) → IsIn k ks → Contains P.numerals k) → ((k : ℕ) → port ≡ Some k → Contains P.numerals k) → IsSortedIn (signature P) no_packet no_scope p
-      → ((more : List ℕ) → ((k : ℕ) → IsIn k more → Contains P.numerals k) → IsSortedIn (signature P) no_packet no_scope (later more)) → IsSortedIn (signature P) no_packet no_scope (and_later port ks p later)
+  and_later_sorted : (port : Option ℕ) (ks : List ℕ) (p : Formula) (later : List ℕ → Formula) → ((k : ℕ) → IsIn k ks → Contains P.numerals k) → ((k : ℕ) → port ≡ Some k → Contains P.numerals k) → IsSortedIn (signature P) no_rcv_this no_scope p
+      → ((more : List ℕ) → ((k : ℕ) → IsIn k more → Contains P.numerals k) → IsSortedIn (signature P) no_rcv_this no_scope (later more)) → IsSortedIn (signature P) no_rcv_this no_scope (and_later port ks p later)
   unfolding IsSortedIn
   and_later_sorted None ks p later named own first rest = first
   and_later_sorted (Some k) ks p later named own first rest = (first, rest (ks ++ k ∷ []) (λ m i. elim (in_both ks (k ∷ []) m i) [ inl before ↦ named m before | inr here ↦ (elim here [ inl is ↦ subst (Contains P.numerals) (sym is) (own k refl) | inr none ↦ absurd none ]) ]))
 
   pub members_sorted : (hs : List Handler) → AllFine P from hs → ((h : Handler) → IsIn h hs → (k : ℕ) → h.port ≡ Some k → Contains P.numerals k) → (ks : List ℕ) → ((k : ℕ) → IsIn k ks → Contains P.numerals k)
-      → IsSortedIn (signature P) no_packet no_scope (members hs ks (renumber q from))
+      → IsSortedIn (signature P) no_rcv_this no_scope (members hs ks (renumber q from))
   unfolding members
   members_sorted [] fine ports ks named = member_sorted ks first_vars None Skip (last_fine P from four) named (λ k is. absurd (none_is_not k is))
     where
@@ -111,7 +106,7 @@ module _ (P : Parts) (well : IsWellSorted P) where
       (in_flat handler_numerals P.handlers h k there (in_left (port_numerals h.port) (command_numerals h.body) k here))))) in
       (well.numerals_named k).1 (in_contains (numerals_in P) k in_all)
 
-  pub in_sorted : (q : Formula) → IsSortedIn (signature P) any_relation no_scope q → IsSortedIn (signature P) no_packet no_scope (wp_in P q)
+  pub in_sorted : (q : Formula) → IsSortedIn (signature P) any_relation no_scope q → IsSortedIn (signature P) no_rcv_this no_scope (wp_in P q)
   unfolding wp_in
   in_sorted q sorted = members_sorted P most_numbers (omega arith) q sorted P.handlers (handlers_fine P well) port_named [] (λ k none. absurd none)
 
@@ -121,54 +116,29 @@ module _ (P : Parts) (F : Formula) (place : Place) (sorted : IsSorted (signature
   pub sentence_in : IsSortedIn (signature P) any_relation no_scope F
   sentence_in = sorted_in (signature P) place any_relation (λ r allowed. tt) F [] no_scope (AreInScope-none no_scope) (AreNew-none (bound_in F) (distinct_pairs (bound_in F) apart)) sorted
 
-  names : place ≢ Trans → (r : Pred) → IsAllowed (signature P) place r → no_packet r
+  names : place ≢ Trans → (r : Pred) → IsAllowed (signature P) place r → no_rcv_this r
   names other (Stored r) allowed = refl
   names other Ft allowed = refl
   names other Sent allowed = refl
   names other RcvThis allowed = packet_not_there place other allowed
     where
-      packet_not_there : (place : Place) → place ≢ Trans → IsAllowed (signature P) place RcvThis → no_packet RcvThis
+      packet_not_there : (place : Place) → place ≢ Trans → IsAllowed (signature P) place RcvThis → no_rcv_this RcvThis
       packet_not_there Topology other allowed = absurd allowed
       packet_not_there Safety other allowed = absurd allowed
       packet_not_there InHandler other allowed = absurd allowed
       packet_not_there Trans other allowed = absurd (other refl)
 
-  pub quiet_in : place ≢ Trans → IsSortedIn (signature P) no_packet no_scope F
-  quiet_in other = sorted_in (signature P) place no_packet (names other) F [] no_scope (AreInScope-none no_scope) (AreNew-none (bound_in F) (distinct_pairs (bound_in F) apart)) sorted
+  pub quiet_in : place ≢ Trans → IsSortedIn (signature P) no_rcv_this no_scope F
+  quiet_in other = sorted_in (signature P) place no_rcv_this (names other) F [] no_scope (AreInScope-none no_scope) (AreNew-none (bound_in F) (distinct_pairs (bound_in F) apart)) sorted
 
 -- ---- where no atom is of the packet, the packet isn't seen
 
 module _ (P : Parts) (N : Network) (x : State) (packet : Packet) where
-  values-packet : (e : Assignment) (ts : List Term) → values (structure P N x packet) e ts ≡ values (structure P N x Nothing) e ts
-  values-packet e [] = refl
-  values-packet e (t ∷ ts) = ap₂ (λ m ms. m ∷ ms) (value-packet t) (values-packet e ts)
-    where
-      value-packet : (t : Term) → value (structure P N x packet) e t ≡ value (structure P N x Nothing) e t
-      value-packet (Var v) = refl
-      value-packet (Const k) = refl
-      value-packet (Port k) = refl
-
-  value_packet : (e : Assignment) (t : Term) → value (structure P N x packet) e t ≡ value (structure P N x Nothing) e t
-  value_packet e (Var v) = refl
-  value_packet e (Const k) = refl
-  value_packet e (Port k) = refl
-
-  holds-packet : (r : Pred) (cells : List ℕ) → no_packet r → holds_in P N x packet r cells ≡ holds_in P N x Nothing r cells
+  holds-packet : (r : Pred) (cells : List ℕ) → no_rcv_this r → holds_in P N x packet r cells ≡ holds_in P N x Nothing r cells
   holds-packet (Stored r) cells other = refl
   holds-packet Ft cells other = refl
   holds-packet Sent cells other = refl
   holds-packet RcvThis cells other = absurd (true≢false other)
 
-  pub truth-packet : (Γ : Scope) (p : Formula) (e : Assignment) → IsSortedIn (signature P) no_packet Γ p → truth (structure P N x packet) p e ≡ truth (structure P N x Nothing) p e
-  unfolding truth IsSortedIn
-  truth-packet Γ f.True e sorted = refl
-  truth-packet Γ f.False e sorted = refl
-  truth-packet Γ (f.Atom r ts) e sorted = holds-packet r (values (structure P N x packet) e ts) sorted.1 ∙ ap (holds_in P N x Nothing r) (values-packet e ts)
-  truth-packet Γ (f.Same t u) e sorted = ap₂ (λ a b. a == b) (value_packet e t) (value_packet e u)
-  truth-packet Γ (negation p) e sorted = ap not (truth-packet Γ p e sorted)
-  truth-packet Γ (conjunction p q) e sorted = ap₂ (λ a b. a && b) (truth-packet Γ p e sorted.0) (truth-packet Γ q e sorted.1)
-  truth-packet Γ (disjunction p q) e sorted = ap₂ (λ a b. a || b) (truth-packet Γ p e sorted.0) (truth-packet Γ q e sorted.1)
-  truth-packet Γ (implication p q) e sorted = ap₂ (λ a b. not a || b) (truth-packet Γ p e sorted.0) (truth-packet Γ q e sorted.1)
-  truth-packet Γ (equivalence p q) e sorted = ap₂ same_truth (truth-packet Γ p e sorted.0) (truth-packet Γ q e sorted.1)
-  truth-packet Γ (universal v s p) e sorted = ap (λ test. list_all test ((structure P N x Nothing).elements s)) (fun_ext (λ m. truth-packet (with_sort Γ v s) p (with_var e v m) sorted))
-  truth-packet Γ (existential v s p) e sorted = ap (λ test. list_any test ((structure P N x Nothing).elements s)) (fun_ext (λ m. truth-packet (with_sort Γ v s) p (with_var e v m) sorted))
+  pub truth-packet : (Γ : Scope) (p : Formula) (e : Assignment) → IsSortedIn (signature P) no_rcv_this Γ p → truth (structure P N x packet) p e ≡ truth (structure P N x Nothing) p e
+  truth-packet Γ p e sorted = truth_alike (signature P) no_rcv_this (structure P N x packet) (holds_in P N x Nothing) holds-packet Γ p e e sorted (λ v s is. refl)

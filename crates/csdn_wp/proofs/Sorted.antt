@@ -8,16 +8,16 @@ use Rattle.csdn_core.specs.declared.terms.Sort.TheVariants.{Sw, Ho, Pr}
 use Rattle.csdn_core.specs.declared.terms.Term.{Term}
 use Rattle.csdn_core.specs.declared.terms.Term.TheVariants.{Var, Const, Port}
 use Rattle.csdn_core.specs.declared.terms.Pred.{Pred}
-use Rattle.csdn_core.specs.declared.terms.Pred.TheVariants.{Sent, RcvThis}
+use Rattle.csdn_core.specs.declared.terms.Pred.TheVariants.{Ft, Sent, RcvThis}
 use Rattle.csdn_core.specs.declared.syntax.Formula.{Formula}
 use Rattle.csdn_core.specs.declared.syntax.Formula.TheVariants as f
 use Rattle.csdn_core.specs.Tree.{negation, conjunction, disjunction, implication, equivalence, universal, existential}
 use Rattle.csdn_core.specs.Network.{same_pred}
 use Rattle.csdn_core.specs.Variables.{is_var, vars_of, BindsOutside}
 use Rattle.csdn_core.specs.Sorted.{Signature, sorts_of, flow_sorts, packet_sorts}
-use Rattle.fol_forms.specs.Replace.{replace, same, or_row, not_row, or_flood, is_row, floods, add_row, drop_row, add_flood, fix_packet}
-use Rattle.fol_forms.specs.Substitution.{Scope, with_sort}
-use Rattle.csdn_wp.specs.SortedIn.{Relations, no_packet, HasSortIn, HaveSortsIn, IsAtomIn, IsSortedIn}
+use Rattle.fol_forms.specs.Replace.{replace, same, or_row, not_row, not_match, or_flood, is_row, no_row, floods, rule_of, add_row, drop_row, drop_match, add_flood, fix_packet, no_packet}
+use Rattle.csdn_core.specs.SortedIn.{Scope, with_sort, Relations, no_rcv_this, HasSortIn, HaveSortsIn, IsAtomIn, IsSortedIn}
+use Rattle.fol_forms.proofs.Expired.{binds_outside}
 
 module _ (S : Signature) where
   -- a term keeps its sort under a binder of another variable
@@ -111,9 +111,29 @@ module _ (S : Signature) where
         either_way (IsSortedIn S R Γ) (same_pred q Sent) (disjunction (f.Atom q us) (floods ts us)) (f.Atom q us)
         (λ is. ((atom, named), IsSortedIn-floods Γ us have (atom_sorts Γ Sent q flow_sorts us is refl atom))) (λ isnt. (atom, named)))
 
-    -- and no atom is of the packet any more
-    pub IsSortedIn-fix_packet : (Γ : Scope) (p : Formula) → HaveSortsIn S Γ packet_sorts ts → BindsOutside (vars_of ts) p → IsSortedIn S R Γ p → IsSortedIn S no_packet Γ (fix_packet p ts)
+    IsSortedIn-rule_of : (Γ : Scope) (us : List Term) → HaveSortsIn S Γ packet_sorts ts → HaveSortsIn S Γ flow_sorts us → IsSortedIn S R Γ (rule_of ts us)
+    unfolding IsSortedIn HaveSortsIn
+    IsSortedIn-rule_of Γ us have have_too = go ts us have have_too
+      where
+        go : (ts us : List Term) → HaveSortsIn S Γ packet_sorts ts → HaveSortsIn S Γ flow_sorts us → IsSortedIn S R Γ (rule_of ts us)
+        go (s ∷ a ∷ b ∷ i ∷ []) (u ∷ v ∷ w ∷ j ∷ o ∷ []) (has_s, (has_a, (has_b, (has_i, end)))) (has_u, (has_v, (has_w, (has_j, (has_o, end_too))))) =
+            ((Sw, has_u, has_s), ((Ho, has_v, has_a), ((Ho, has_w, has_b), (Pr, has_j, has_i))))
+        go _ _ have have_too = tt
+
+    pub IsSortedIn-drop_match : (Γ : Scope) (p : Formula) → HaveSortsIn S Γ packet_sorts ts → BindsOutside (vars_of ts) p → IsSortedIn S R Γ p → IsSortedIn S R Γ (drop_match p ts)
     unfolding IsSortedIn
-    IsSortedIn-fix_packet = IsSortedIn-replace R no_packet packet_sorts ts (is_row ts) (λ Γ q us have atom named.
-        either_way (IsSortedIn S no_packet Γ) (same_pred q RcvThis) (same us ts) (f.Atom q us)
-        (λ is. IsSortedIn-same no_packet Γ packet_sorts us ts (atom_sorts Γ RcvThis q packet_sorts us is refl atom) have) (λ isnt. (atom, isnt)))
+    IsSortedIn-drop_match = IsSortedIn-replace R R packet_sorts ts (not_match ts) (λ Γ q us have atom named.
+        either_way (IsSortedIn S R Γ) (same_pred q Ft) (conjunction (f.Atom q us) (negation (rule_of ts us))) (f.Atom q us)
+        (λ is. ((atom, named), IsSortedIn-rule_of Γ us have (atom_sorts Γ Ft q flow_sorts us is refl atom))) (λ isnt. (atom, named)))
+
+    -- and no atom is of the packet any more
+    pub IsSortedIn-fix_packet : (Γ : Scope) (p : Formula) → HaveSortsIn S Γ packet_sorts ts → BindsOutside (vars_of ts) p → IsSortedIn S R Γ p → IsSortedIn S no_rcv_this Γ (fix_packet p ts)
+    unfolding IsSortedIn
+    IsSortedIn-fix_packet = IsSortedIn-replace R no_rcv_this packet_sorts ts (is_row ts) (λ Γ q us have atom named.
+        either_way (IsSortedIn S no_rcv_this Γ) (same_pred q RcvThis) (same us ts) (f.Atom q us)
+        (λ is. IsSortedIn-same no_rcv_this Γ packet_sorts us ts (atom_sorts Γ RcvThis q packet_sorts us is refl atom) have) (λ isnt. (atom, isnt)))
+
+  pub IsSortedIn-no_packet : (R : Relations) (Γ : Scope) (p : Formula) → IsSortedIn S R Γ p → IsSortedIn S no_rcv_this Γ (no_packet p)
+  unfolding IsSortedIn HaveSortsIn
+  IsSortedIn-no_packet R Γ p sorted = IsSortedIn-replace R no_rcv_this [] [] no_row (λ Γ q us have atom named.
+      either_way (IsSortedIn S no_rcv_this Γ) (same_pred q RcvThis) f.False (f.Atom q us) (λ is. tt) (λ isnt. (atom, isnt))) Γ p tt (binds_outside (λ v. false) p (λ n i. refl)) sorted

@@ -16,8 +16,7 @@ use Rattle.csdn_core.specs.Variables.{is_var, vars_of, free_in}
 use Rattle.csdn_core.specs.Sorted.{Signature}
 use Rattle.fol_forms.specs.Replace.{same}
 use Rattle.fol_forms.specs.Renumber.{binders, renamed, renumbered, renumber}
-use Rattle.fol_forms.specs.Substitution.{Scope, no_scope, with_sort}
-use Rattle.csdn_wp.specs.SortedIn.{Relations, HasSortIn, HaveSortsIn, IsSortedIn}
+use Rattle.csdn_core.specs.SortedIn.{Scope, no_scope, with_sort, Relations, HasSortIn, HaveSortsIn, IsSortedIn}
 
 -- what is in the first scope is in the second, with its sort
 abbrev pub Extends : Scope → Scope → Type 0

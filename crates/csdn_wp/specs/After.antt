@@ -1,9 +1,9 @@
 -- What a formula meets to stand after a command.
-use Rattle.std.specs.Prelude.{◌≡◌, ◌≢◌, ◌↔◌, ℕ, ◌||◌, false, List, [], ◌∷◌, ◌++◌, map, AllPairs, IsTrue, Some, Contains}
+use Rattle.std.specs.Prelude.{◌≡◌, ◌≢◌, ◌↔◌, ℕ, ◌||◌, false, List, ◌++◌, map, AllPairs, IsTrue, IsFalse, Some, Contains}
 use Rattle.csdn_core.specs.declared.program.Parts.{Parts}
 use Rattle.csdn_core.specs.declared.syntax.Formula.{Formula}
 use Rattle.csdn_core.specs.declared.syntax.Command.{Command}
-use Rattle.csdn_core.specs.declared.syntax.Command.TheVariants.{Skip, Insert, Remove, Install, Forward, Flood}
+use Rattle.csdn_core.specs.declared.syntax.Command.TheVariants.{Skip, Insert, Remove, Install, Uninstall, Forward, Flood}
 use Rattle.csdn_core.specs.Tree.{sequence, conditional, choice}
 use Rattle.csdn_core.specs.declared.terms.Sort.{Sort}
 use Rattle.csdn_core.specs.Truth.{Assignment}
@@ -12,9 +12,8 @@ use Rattle.csdn_core.specs.Execution.{is_true, Executes}
 use Rattle.csdn_core.specs.Variables.{Variables, vars_of, free_in}
 use Rattle.csdn_core.specs.Sorted.{Bind, bound_in}
 use Rattle.csdn_core.specs.WellSorted.{OwnPacket, IsCommand, signature, command_bound_in}
-use Rattle.decision_laws.specs.Vocabulary.{IsIn}
-use Rattle.fol_forms.specs.Substitution.{Scope, no_scope, with_sort}
-use Rattle.csdn_wp.specs.SortedIn.{any_relation, IsSortedIn}
+use Rattle.csdn_core.specs.Members.{IsIn}
+use Rattle.csdn_core.specs.SortedIn.{any_relation, IsSortedIn, scope_of}
 
 -- the variables that stand in tuples of the command, or free in its conditions
 unfoldable pub stands_in : Command → Variables
@@ -25,16 +24,9 @@ stands_in (choice v s p a b) w = free_in p w || (stands_in a w || stands_in b w)
 stands_in (Insert r ts) w = vars_of ts w
 stands_in (Remove r ts) w = vars_of ts w
 stands_in (Install ts) w = vars_of ts w
+stands_in (Uninstall ts) w = vars_of ts w
 stands_in (Forward ts) w = vars_of ts w
 stands_in (Flood ts) w = vars_of ts w
-
--- these variables, with their sorts, put into a scope one after another
-abbrev pub with_binds : Scope → List Bind → Scope
-with_binds Γ [] = Γ
-with_binds Γ (b ∷ bs) = with_binds (with_sort Γ b.var b.sort) bs
-
-abbrev pub scope_of : List Bind → Scope
-scope_of bs = with_binds no_scope bs
 
 -- a command of the program in a scope, and a formula that may stand after it
 pub record MayPrecede (P : Parts) (Γ : List Bind) (c : Command) (q : Formula) : Type 0 where
@@ -56,3 +48,8 @@ HaveElements N bs e = (v : ℕ) (s : Sort) → scope_of bs v ≡ Some s → Cont
 abbrev pub IsPrecondition : Parts → List Bind → Command → Formula → Formula → Type 0
 IsPrecondition P bs c q p =
     (N : Network) → IsNetwork P N → (e : Assignment) → HaveElements N bs e → (x : State) → IsTrue (is_true P N p e x) ↔ ((y : State) → Executes P N c e x y → IsTrue (is_true P N q e y))
+
+-- .. and where it is false, some execution of the command ends where q is false
+abbrev pub BreaksBefore : Parts → List Bind → Command → Formula → Formula → Type 0
+BreaksBefore P bs c q p =
+    (N : Network) → IsNetwork P N → (e : Assignment) → HaveElements N bs e → (x : State) → IsFalse (is_true P N p e x) → (y : State) × Executes P N c e x y × IsFalse (is_true P N q e y)

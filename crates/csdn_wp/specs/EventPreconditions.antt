@@ -15,7 +15,7 @@ use Rattle.csdn_core.specs.Tree.{negation, conjunction, implication}
 use Rattle.csdn_core.specs.Sorted.{most_numbers}
 use Rattle.fol_forms.specs.declared.close.Bind.{Bind}
 use Rattle.fol_forms.specs.Closed.{closed}
-use Rattle.fol_forms.specs.Replace.{add_row, fix_packet}
+use Rattle.fol_forms.specs.Replace.{add_row, drop_match, fix_packet, no_packet}
 use Rattle.fol_forms.specs.Renumber.{renumber}
 use Rattle.csdn_wp.specs.declared.vars.PacketVars.{PacketVars}
 use Rattle.csdn_wp.specs.Preconditions.{wp}
@@ -89,7 +89,14 @@ abbrev pub flow_binds : List Bind
 flow_binds =
     record { var = numbered 0; sort = Sw } ∷ record { var = numbered 1; sort = Ho } ∷ record { var = numbered 2; sort = Ho } ∷ record { var = numbered 3; sort = Pr } ∷ record { var = numbered 4; sort = Pr } ∷ []
 
+-- the formula holds for every tuple of `ft`
+unfoldable pub for_rules : Formula → Formula
+for_rules p = closed flow_binds (implication (Atom Ft flow_terms) p)
+
 -- for every tuple of `ft`, the formula holds after the tuple was put into `sent`
 unfoldable pub wp_flow : Formula → Formula
-wp_flow q =
-    closed flow_binds (implication (Atom Ft flow_terms) (add_row (fix_packet (renumber q 5) (terms_of first_vars)) Sent flow_terms))
+wp_flow q = for_rules (add_row (fix_packet (renumber q 5) (terms_of first_vars)) Sent flow_terms)
+
+-- for every tuple of `ft`, the formula holds, without a packet, after all tuples of its match were taken out
+unfoldable pub wp_expire : Formula → Formula
+wp_expire q = for_rules (drop_match (no_packet (renumber q 5)) (terms_of first_vars))

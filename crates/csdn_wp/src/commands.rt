@@ -34,7 +34,7 @@ pub fn wp(
 
 /// The precondition, in a room.
 #[cycle(preconditions)]
-#[tactic(auto, using(crate::specs::CommandSteps::wp_steps, csdn_core::specs::Nodes::command_node_steps))]
+#[tactic(auto, using(crate::proofs::CommandSteps::wp_steps, csdn_core::specs::Nodes::command_node_steps))]
 pub fn precondition(
     alloc: Global,
     command: &Command,
@@ -64,6 +64,7 @@ pub fn precondition(
             room,
         ),
         Command::Install(terms) => fitting(add_row(alloc, post, Pred::Ft, terms)?, room),
+        Command::Uninstall(terms) => fitting(drop_row(alloc, post, Pred::Ft, terms)?, room),
         Command::Forward(terms) => fitting(add_row(alloc, post, Pred::Sent, terms)?, room),
         Command::Flood(terms) => fitting(add_flood(alloc, post, terms)?, room),
     }

@@ -2,7 +2,7 @@
 ghost use Rattle.std.specs.Prelude.{◌≤◌, ◌^◌};
 ghost use Rattle.fol_forms.specs.Limits.{most_nodes};
 ghost use Rattle.fol_forms.specs.Renumber.{renumber as renumber_of};
-ghost use Rattle.csdn_wp.specs.EventPreconditions.{wp_in as wp_in_of, wp_flow as wp_flow_of};
+ghost use Rattle.csdn_wp.specs.EventPreconditions.{wp_in as wp_in_of, wp_flow as wp_flow_of, wp_expire as wp_expire_of, for_rules as for_rules_of};
 ghost use Rattle.csdn_wp.specs.Makes.{Makes};
 
 use crate::build::boxed;
@@ -14,7 +14,8 @@ use csdn_core::terms::Pred;
 use fol_forms::count::node_count;
 use fol_forms::refusal::{FormRefusal, MOST_NODES};
 use fol_forms::renumber::renumber;
-use fol_forms::replace::{add_row, fix_packet};
+use fol_forms::replace::{add_row, drop_match, fix_packet, no_packet};
+use sqlite_items::Boxed;
 use std::alloc::Global;
 
 /// The variables of programs have smaller numbers.
@@ -43,9 +44,34 @@ pub fn wp_flow(alloc: Global, post: &Formula) -> Result<Formula, FormRefusal>
         alloc,
         add_row(alloc, fixed.get(), Pred::Sent, &flow_terms())?,
     )?;
+    for_rules(alloc, after)
+}
+
+/// What is true exactly where the formula is true, without a packet, after the rules of any match have ended.
+pub fn wp_expire(alloc: Global, post: &Formula) -> Result<Formula, FormRefusal>
+    ensures { Makes most_nodes (wp_expire_of post.now) result }
+{
+    let post = boxed(alloc, renumbered(alloc, post, 5)?)?;
+    let quiet = boxed(alloc, no_packet(alloc, post.get())?)?;
+    let after = boxed(
+        alloc,
+        drop_match(alloc, quiet.get(), &terms_of(first_vars()))?,
+    )?;
+    for_rules(alloc, after)
+}
+
+// The formula holds for every tuple of the flow tables.
+fn for_rules(alloc: Global, formula: Boxed<Formula>) -> Result<Formula, FormRefusal>
+    ensures { Makes most_nodes (for_rules_of formula) result }
+{
     let enabled = boxed(alloc, Formula::Atom(Pred::Ft, flow_terms()))?;
     let binds = flow_binds(alloc)?;
-    closed_in(alloc, Formula::Implies(enabled, after), &binds, MOST_NODES)
+    closed_in(
+        alloc,
+        Formula::Implies(enabled, formula),
+        &binds,
+        MOST_NODES,
+    )
 }
 
 // The numbers that come after the first one end below 2^32, since there are few nodes.

@@ -10,4 +10,4 @@ pub mod events;
 mod guards;
 pub mod laws;
 mod members;
-pub mod vars;
+pub(crate) mod vars;

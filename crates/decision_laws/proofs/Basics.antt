@@ -14,7 +14,8 @@ use Rattle.csdn_core.specs.Truth.{Structure, value}
 use Rattle.csdn_core.specs.Network.{same_pred}
 use Rattle.csdn_core.specs.Run.{no_values}
 use Rattle.decision_laws.specs.Copies.{Copy, Fact, each, index_of, judge}
-use Rattle.decision_laws.specs.Forms.{And, Atom, Fixed, ForAll, ForSome, Form, Or, Same, in_fragment, is_universal, need, one_if}
+use Rattle.clause_log.specs.Literals.{signed}
+use Rattle.decision_laws.specs.Forms.{signed as signed_form, And, Atom, Fixed, ForAll, ForSome, Form, Or, Same, in_fragment, is_universal, need, one_if}
 use Rattle.decision_laws.specs.Vocabulary.{IsIn, Vocabulary, fits, has_term, places_from, term_fits}
 
 pub one_if-same : (s : Sort) → one_if s s ≡ 1
@@ -38,6 +39,11 @@ below_step false rest n k h f = let l : n < k = f h in omega arith
 pub index_of-below : (t : Term) (ts : List Term) → has_term t ts ≡ true → index_of t ts < length ts
 index_of-below t [] h = absurd (false≢true h)
 index_of-below t (u ∷ us) h = below_step (same_term t u) (has_term t us) (index_of t us) (length us) h (index_of-below t us)
+
+-- a sign says of literals what it says of forms
+pub signed-same : (sign b : Bool) → signed sign b ≡ signed_form sign b
+signed-same true b = refl
+signed-same false b = refl
 
 pub all_at : {X : Type 0} (p : X → Bool) (xs : List X) (x : X) → IsIn x xs → list_all p xs ≡ true → p x ≡ true
 all_at p [] x i h = elim i [ ]

@@ -1,7 +1,8 @@
 -- The numbers of facts lead back to them.
-use Rattle.std.proofs.Common.{Bool, List, [], ap, ap₂, arith, cond, false, inl, inr, le-ltb, lt-ltb, map, max, min, mul-le-mul_right, nat_lt, refl, subst, suc, suc-mul, sym, true, ℕ, ◌*◌, ◌+◌, ◌-◌, ◌<◌, ◌∙◌, ◌∷◌, ◌≡◌, ◌≤◌, ◌⊎◌}
+use Rattle.std.proofs.Common.{Bool, List, [], ap, ap₂, arith, cond, false, inl, inr, le-ltb, lt-ltb, map, max, min, mul-le-mul_right, nat_lt, refl, subst, suc, suc-mul, sym, true, ℕ, zero, ◌*◌, ◌+◌, ◌-◌, ◌/◌, ◌<◌, ◌∙◌, ◌∷◌, ◌≡◌, ◌≤◌, ◌⊎◌}
 use Rattle.std.proofs.lemmas.Bool.{cases_lt, false≢true}
 use Rattle.std.proofs.lemmas.Nat.{div-mul-add, mod-mul-add}
+use Rattle.std.proofs.Math.Nat.{mod-lt, mul-zero, div-lt_iff_lt-mul}
 use Rattle.csdn_core.specs.Same.{same_sort}
 use Rattle.csdn_core.proofs.Same.{same_sort-is, same_pred-is, same_pred-refl}
 use Rattle.csdn_core.specs.declared.terms.Sort.{Sort}
@@ -10,7 +11,7 @@ use Rattle.csdn_core.specs.declared.terms.Pred.{Pred}
 use Rattle.csdn_core.specs.Network.{same_pred}
 use Rattle.decision_laws.specs.Clauses.{IsNaming, IsOver, mirror}
 use Rattle.decision_laws.specs.Copies.{AreBelow, Equation, Fact, Tuple}
-use Rattle.decision_laws.specs.Numbers.{Block, Equations, Tuples, arguments, blocks_of, columns_of, fact_in, fact_of, is_of, number_in, total, tuple_count, tuple_number, tuple_of}
+use Rattle.decision_laws.specs.Numbers.{Block, Equations, Tuples, arguments, blocks_of, columns_of, fact_count, fact_number, numbered_fact, fact_in, fact_of, is_of, number_in, total, tuple_count, tuple_number, tuple_of}
 use Rattle.decision_laws.specs.Vocabulary.{IsIn, Vocabulary}
 
 tuple_number-below : (n : Sort → ℕ) (ss : List Sort) (xs : List ℕ) → AreBelow n ss xs → tuple_number n ss xs < tuple_count n ss
@@ -109,9 +110,25 @@ turned_in n voc (c ∷ cs) s a b =
     let high : max a b ≡ max b a = omega arith in
     turned_block n voc c cs s a b (ap₂ (λ x y. x ∷ y ∷ []) low high) (turned_in n voc cs s a b)
 
-pub naming : (n : Sort → ℕ) (voc : Vocabulary) → IsNaming voc n (total n voc (blocks_of voc)) (number_in n voc (blocks_of voc)) (fact_in n voc (blocks_of voc))
-naming n voc = record {
-  turned = λ s a b. turned_in n voc (blocks_of voc) s a b;
-  below = λ f o. number_below n voc (blocks_of voc) f o (has_block n voc f o);
-  back = λ f o. number_back n voc (blocks_of voc) f o (has_block n voc f o);
+-- the numbers that need no table, from 1 on
+pub numbers_name : (n : Sort → ℕ) (voc : Vocabulary) → IsNaming voc n (record { num = λ f. suc (fact_number n voc f); first = suc (fact_count n voc); fact_at = λ x. numbered_fact n voc (x - 1) })
+numbers_name n voc = record {
+  turned = λ s a b. ap suc (turned_in n voc (blocks_of voc) s a b);
+  some = λ f. omega arith;
+  below = λ f o. (let l = number_below n voc (blocks_of voc) f o (has_block n voc f o) in omega (arith, l));
+  back = λ f o.
+      (let e : suc (fact_number n voc f) - 1 ≡ fact_number n voc f = omega arith in
+      subst (λ k. (numbered_fact n voc k ≡ f) ⊎ (numbered_fact n voc k ≡ mirror f)) (sym e) (number_back n voc (blocks_of voc) f o (has_block n voc f o)));
 }
+
+-- the tuple of a number is a tuple of constants
+
+some_left : (c m k : ℕ) → k < c * m → 0 < m
+some_left c zero k h = absurd (omega (arith, h, mul-zero c))
+some_left c (suc m) k h = omega arith
+
+pub tuple_of-below : (n : Sort → ℕ) (ss : List Sort) (k : ℕ) → k < tuple_count n ss → AreBelow n ss (tuple_of n ss k)
+tuple_of-below n [] k h = tt
+tuple_of-below n (s ∷ ss) k h =
+    let some = some_left (tuple_count n ss) (n s) k h in
+    (mod-lt k some, tuple_of-below n ss (k / n s) ((div-lt_iff_lt-mul some).1 h))

@@ -20,6 +20,7 @@ pub mod Left
 pub mod Bridge
 pub mod ExampleLemmas
 pub mod NamesLemmas
-pub mod Steps
 pub mod SortedForms
 pub mod Differing
+pub mod Weights
+pub mod Within

@@ -9,13 +9,13 @@ use Rattle.decision_laws.proofs.Basics.{one_if-same, relation_in, universal-need
 use Rattle.decision_laws.proofs.Read.{IsPlain, IsSimple}
 use Rattle.decision_laws.proofs.Simplify.{bare-simplified, fixed_is, is_bare}
 use Rattle.decision_laws.specs.Clauses.{IsOver}
-use Rattle.decision_laws.specs.Copies.{Both, Copy, Each, Either, Equation, Known, Literal, Scope, copies, each, known, place}
+use Rattle.decision_laws.specs.Copies.{Both, Copy, Each, Either, Equation, Known, Leaf, Scope, copies, each, known, place}
 use Rattle.decision_laws.specs.Forms.{And, Atom, Fixed, ForAll, ForSome, Form, Or, Same, fixed_of, in_fragment, need, one_if, simplified}
 use Rattle.decision_laws.specs.Vocabulary.{Vocabulary, fits, term_fits, term_sort, terms_fit}
 
 abbrev pub AllOver : (Sort → ℕ) → Vocabulary → Copy → Type 0
 AllOver n voc (Known b) = Unit {0}
-AllOver n voc (Literal sign f) = IsOver n voc f
+AllOver n voc (Leaf sign f) = IsOver n voc f
 AllOver n voc (Both p q) = AllOver n voc p × AllOver n voc q
 AllOver n voc (Either p q) = AllOver n voc p × AllOver n voc q
 AllOver n voc (Each m c) = (i : ℕ) → i < m → AllOver n voc (c i)
@@ -72,7 +72,7 @@ copies_over voc n few (ForSome v s body) env base l h inside room =
 
 plain_simple : (p : Copy) → IsPlain p → IsSimple p
 plain_simple (Known b) h = tt
-plain_simple (Literal sign f) h = h
+plain_simple (Leaf sign f) h = h
 plain_simple (Both p q) h = h
 plain_simple (Either p q) h = h
 plain_simple (Each n c) h = h

@@ -1,5 +1,5 @@
 -- The network and state of a fair judgement, with the numbers that its classes get.
-use Rattle.std.proofs.Common.{Bool, Contains, List, None, Option, Some, [], ap, arith, cond, eq-eqb, eqb-true, false, inl, inr, length, map, nat_eq, refl, slice_get, slice_index, slice_index_or, subst, suc, sym, true, zero, ℕ, ◌&&◌, ◌+◌, ◌<◌, ◌∙◌, ◌∷◌, ◌≡◌, ◌≤◌, ◌≢◌}
+use Rattle.std.proofs.Common.{AllPairs, Bool, not, Contains, List, None, Option, Some, [], ap, arith, cond, eq-eqb, eqb-true, false, inl, inr, length, map, nat_eq, refl, slice_get, slice_index, slice_index_or, subst, suc, sym, true, zero, ℕ, ◌&&◌, ◌+◌, ◌<◌, ◌∙◌, ◌∷◌, ◌≡◌, ◌≤◌, ◌≢◌}
 use Rattle.std.proofs.lemmas.Bool.{and_from, and_parts, false≢true}
 use Rattle.std.specs.List.{list_any}
 use Rattle.csdn_core.specs.declared.terms.Sort.{Sort}
@@ -13,8 +13,9 @@ use Rattle.csdn_core.specs.declared.program.Parts.{Parts}
 use Rattle.csdn_core.specs.declared.program.Constant.{Constant}
 use Rattle.csdn_core.specs.declared.program.Relation.{Relation}
 use Rattle.csdn_core.specs.declared.syntax.Formula.{Formula}
-use Rattle.csdn_core.specs.Network.{HaveElements, IsNetwork, IsStaticTuple, StaticRow, elements, holds_in, is_fixed, is_fixed_in, is_static_row, same_cells, same_pred}
+use Rattle.csdn_core.specs.Network.{HaveElements, IsNetwork, Network, State, IsStaticTuple, StaticRow, elements, holds_in, is_fixed, is_fixed_in, is_static_row, same_cells, same_pred}
 use Rattle.std.specs.Prelude.{is_some, option_map}
+use Rattle.std.proofs.lemmas.List.Elements.{All-contains}
 use Rattle.std.proofs.lemmas.List.{length-map}
 use Rattle.std.proofs.lemmas.Option.{slice_get_within}
 use Rattle.std.specs.Cmp.{both_ways}
@@ -26,7 +27,7 @@ use Rattle.decision_laws.proofs.Downward.{law_down}
 use Rattle.decision_laws.proofs.Lists.{contains_in, filter_in, flat_in, in_both, in_contains, in_filter, in_flat, in_left, in_map, in_term, in_tuples, kept_first, kept_later, map_in, tuple_in}
 use Rattle.decision_laws.proofs.Numbering.{IsReadable, class_below, class_first, first_of-alike, first_of-below, first_of-same, first_of_in, is_readable, numbering_of, numeral_below}
 use Rattle.decision_laws.proofs.Words.{is_vocabulary}
-use Rattle.decision_laws.specs.Classes.{AreOfJudgement, IsNumbering, Meaning, all_tuples, class_elements, classes_of, constant_value, first_of, network_of, number, sizes, state_of, static_rows, true_tuples, values_of, position_in}
+use Rattle.decision_laws.specs.Classes.{AreOfJudgement, IsNumbering, Meaning, all_tuples, class_elements, classes_of, constant_value, first_of, is_static, ListTheSame, network_of, number, sizes, state_of, static_rows, true_tuples, values_of, position_in}
 use Rattle.decision_laws.specs.Copies.{AreAlike, AreBelow, Equation, Fact, IsFair, Tuple, index_of, known, numeral_place}
 use Rattle.decision_laws.specs.Forms.{Form}
 use Rattle.decision_laws.specs.Laws.{IsJudgement, IsSentence, IsTrueIn, form_of}
@@ -113,9 +114,9 @@ if_in false xs x e i = absurd (false≢true e)
 fixed_some : (o : Option Relation) (d : Relation) → o ≡ Some d → is_fixed_in o ≡ d.fixed
 fixed_some o d e = ap is_fixed_in e
 
-if_same : (b t u v : Bool) → (b ≡ true → t ≡ v) → u ≡ v → cond b t u ≡ v
+if_same : (b t u v : Bool) → (b ≡ true → t ≡ v) → (b ≡ false → u ≡ v) → cond b t u ≡ v
 if_same true t u v f g = f refl
-if_same false t u v f g = g
+if_same false t u v f g = g refl
 
 module _ (P : Parts) (f : Form) (j : Fact → Bool) (fair : IsFair (vocabulary P f) (sizes P f) j) where
   ready : IsReadable (vocabulary P f) (sizes P f) j
@@ -200,14 +201,18 @@ module _ (P : Parts) (f : Form) (j : Fact → Bool) (fair : IsFair (vocabulary P
       let w = true_tuple r xs t in
       fair.replaced r xs ys i (alike (sizes P f) j (number P f j) numbers.classes ((vocabulary P f).columns r) xs ys w.0 l e) w.1
 
-  state_holds : (r : Pred) (xs : List ℕ) → IsIn r (vocabulary P f).relations → AreBelow (sizes P f) ((vocabulary P f).columns r) xs → state_of P f j r (values_of (number P f j) ((vocabulary P f).columns r) xs) ≡ j (Tuple r xs)
-  state_holds r xs i l =
+  state_holds : (r : Pred) (xs : List ℕ) → is_static P r ≡ false → IsIn r (vocabulary P f).relations → AreBelow (sizes P f) ((vocabulary P f).columns r) xs → state_of P f j r (values_of (number P f j) ((vocabulary P f).columns r) xs) ≡ j (Tuple r xs)
+  state_holds r xs kept i l =
       let voc = vocabulary P f in
       let cells = values_of (number P f j) (voc.columns r) xs in
       let test : List ℕ → Bool = λ ys. same_cells (values_of (number P f j) (voc.columns r) ys) cells in
+      let used = list_any (same_pred r) voc.relations in
+      let listed = list_any test (true_tuples P f j r) in
       both_ways (state_of P f j r cells) (j (Tuple r xs))
-      (λ e. (let w = any_gives test (true_tuples P f j r) (and_parts (list_any (same_pred r) voc.relations) (list_any test (true_tuples P f j r)) e).1 in same_tuple r w.0 xs i w.1 l w.2))
-      (λ e. and_from (list_any (same_pred r) voc.relations) (list_any test (true_tuples P f j r)) (any_from (same_pred r) voc.relations r i (same_pred-refl r)) (any_from test (true_tuples P f j r) xs (tuple_true r xs l e) (same_cells-refl cells)))
+      (λ e. (let w = any_gives test (true_tuples P f j r) (and_parts used listed (and_parts (not (is_static P r)) (used && listed) e).1).1 in same_tuple r w.0 xs i w.1 l w.2))
+      (λ e.
+      and_from (not (is_static P r)) (used && listed) (ap not kept)
+      (and_from used listed (any_from (same_pred r) voc.relations r i (same_pred-refl r)) (any_from test (true_tuples P f j r) xs (tuple_true r xs l e) (same_cells-refl cells))))
 
   -- what a row of a static relation is
   abbrev IsRowOf : StaticRow → Pred → Type 0
@@ -251,9 +256,9 @@ module _ (P : Parts) (f : Form) (j : Fact → Bool) (fair : IsFair (vocabulary P
   tuple_holds : (r : Pred) (xs : List ℕ) → IsIn r (vocabulary P f).relations → AreBelow (sizes P f) ((vocabulary P f).columns r) xs → holds_in P (network_of P f j) (state_of P f j) Nothing r (values_of (number P f j) ((vocabulary P f).columns r) xs) ≡ j (Tuple r xs)
   tuple_holds (Stored r) xs i l =
       let cells = values_of (number P f j) ((vocabulary P f).columns (Stored r)) xs in
-      if_same (is_fixed P r.0) (is_static_row (network_of P f j) r.0 cells) (state_of P f j (Stored r) cells) (j (Tuple (Stored r) xs)) (λ e. static_holds r xs i e l) (state_holds (Stored r) xs i l)
-  tuple_holds Ft xs i l = state_holds Ft xs i l
-  tuple_holds Sent xs i l = state_holds Sent xs i l
+      if_same (is_fixed P r.0) (is_static_row (network_of P f j) r.0 cells) (state_of P f j (Stored r) cells) (j (Tuple (Stored r) xs)) (λ e. static_holds r xs i e l) (λ e. state_holds (Stored r) xs e i l)
+  tuple_holds Ft xs i l = state_holds Ft xs refl i l
+  tuple_holds Sent xs i l = state_holds Sent xs refl i l
   tuple_holds RcvThis xs i l = absurd (no_packet P f i)
 
   pub of_judgement : AreOfJudgement P f j (number P f j) (network_of P f j) (state_of P f j)
@@ -315,6 +320,54 @@ module _ (P : Parts) (f : Form) (j : Fact → Bool) (fair : IsFair (vocabulary P
     rows = λ k d l. static_tuple (slice_index_or (network_of P f j).rows k d) (member_at (network_of P f j).rows k d l);
   }
 
+-- Order and repeats of what is listed.
+
+some_in : (xs ys : List ℕ) → ((m : ℕ) → Contains xs m → Contains ys m) → (xs ≡ [] → ⊥) → ys ≡ [] → ⊥
+some_in [] ys h n e = n refl
+some_in (x ∷ xs) ys h n e = elim (contains_in [] x (subst (λ z. Contains z x) e (h x (in_contains (x ∷ xs) x (inl refl))))) [ ]
+
+rows_same : (N M : Network) → ListTheSame N M → (r : ℕ) (cells : List ℕ) → is_static_row M r cells ≡ is_static_row N r cells
+rows_same N M same r cells =
+    let test : StaticRow → Bool = λ row. nat_eq row.rel r && same_cells row.cells cells in
+    both_ways (list_any test M.rows) (list_any test N.rows)
+    (λ e. (let w = any_gives test M.rows e in any_from test N.rows w.0 (contains_in N.rows w.0 ((same.rows w.0).1 (in_contains M.rows w.0 w.1))) w.2))
+    (λ e. (let w = any_gives test N.rows e in any_from test M.rows w.0 (contains_in M.rows w.0 ((same.rows w.0).0 (in_contains N.rows w.0 w.1))) w.2))
+
+holds_same : (P : Parts) (N M : Network) → ListTheSame N M → (x : State) (r : Pred) (cells : List ℕ) → holds_in P M x Nothing r cells ≡ holds_in P N x Nothing r cells
+holds_same P N M same x (Stored r) cells = ap (λ b. cond (is_fixed P r.0) b (x (Stored r) cells)) (rows_same N M same r.0 cells)
+holds_same P N M same x Ft cells = refl
+holds_same P N M same x Sent cells = refl
+holds_same P N M same x RcvThis cells = refl
+
+elements_same : (N M : Network) → ListTheSame N M → (ss : List Sort) (xs : List ℕ) → HaveElements N ss xs → HaveElements M ss xs
+unfolding HaveElements
+elements_same N M same [] [] h = tt
+elements_same N M same [] (x ∷ xs) h = elim h [ ]
+elements_same N M same (s ∷ ss) [] h = elim h [ ]
+elements_same N M same (s ∷ ss) (x ∷ xs) h = ((same.elements s x).0 h.0, elements_same N M same ss xs h.1)
+
+judgement_same : (P : Parts) (f : Form) (j : Fact → Bool) (ρ : Meaning) (N M : Network) (x : State) → ListTheSame N M → AreOfJudgement P f j ρ N x → AreOfJudgement P f j ρ M x
+judgement_same P f j ρ N M x same o = record {
+  numbering = o.numbering;
+  home = λ s a l. (same.elements s (ρ s a)).0 (o.home s a l);
+  covered = λ s m c. o.covered s m ((same.elements s m).1 c);
+  values = λ k c e. ap (λ z. slice_index z k) (sym same.constants) ∙ o.values k c e;
+  tuples = λ r xs i l. holds_same P N M same x r (values_of ρ ((vocabulary P f).columns r) xs) ∙ o.tuples r xs i l;
+}
+
+network_same : (P : Parts) (N M : Network) → ListTheSame N M → ((s : Sort) → AllPairs (λ m n. m ≢ n) (elements M s)) → IsNetwork P N → IsNetwork P M
+network_same P N M same once is = record {
+  some = λ s e. some_in (elements N s) (elements M s) (λ m. (same.elements s m).0) (is.some s) e;
+  distinct = once;
+  numerals = λ k d l. (same.elements Pr (slice_index_or P.numerals k d)).0 (is.numerals k d l);
+  as_many = ap length (sym same.constants) ∙ is.as_many;
+  sorted = λ k c e. subst (λ z. Contains (elements M c.sort) (slice_index z k)) same.constants ((same.elements c.sort (slice_index N.constants k)).0 (is.sorted k c e));
+  rows = λ k d l.
+      let row = slice_index_or M.rows k d in
+      let t = All-contains (IsStaticTuple P N) N.rows row is.rows ((same.rows row).1 (in_contains M.rows row (member_at M.rows k d l))) in
+      record { relation = t.relation; declared = t.declared; static = t.static; cells = elements_same N M same t.relation.sorts row.cells t.cells };
+}
+
 -- the network and state of a judgement make the sentence true
 pub law_network : (P : Parts) (F : Formula) (j : Fact → Bool) → IsSentence P F → IsJudgement P F j → IsNetwork P (network_of P (form_of F) j) × IsTrueIn P F (network_of P (form_of F) j) (state_of P (form_of F) j)
 law_network P F j is h =
@@ -326,3 +379,8 @@ law_numbers P F j h = of_judgement P (form_of F) j h.fair
 
 pub law_counted : (P : Parts) (F : Formula) (j : Fact → Bool) → IsJudgement P F j → (s : Sort) → s ≢ Pr → elements (network_of P (form_of F) j) s ≡ places_from 1 (length (elements (network_of P (form_of F) j) s))
 law_counted P F j h = elements_counted P (form_of F) j h.fair
+
+pub law_listed : (P : Parts) (F : Formula) (j : Fact → Bool) → IsJudgement P F j → (M : Network) → ListTheSame (network_of P (form_of F) j) M → ((s : Sort) → AllPairs (λ m n. m ≢ n) (elements M s)) → IsNetwork P M × AreOfJudgement P (form_of F) j (number P (form_of F) j) M (state_of P (form_of F) j)
+law_listed P F j h M same once =
+    let N = network_of P (form_of F) j in
+    (network_same P N M same once (is_network P (form_of F) j h.fair), judgement_same P (form_of F) j (number P (form_of F) j) N M (state_of P (form_of F) j) same (law_numbers P F j h))

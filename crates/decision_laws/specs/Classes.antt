@@ -1,5 +1,5 @@
 -- The network and the state of a fair judgement: their elements are the classes of equal constants.
-use Rattle.std.specs.Prelude.{◌≡◌, ℕ, zero, suc, ◌+◌, ◌<◌, ◌==◌, Bool, not, ◌&&◌, List, [], ◌∷◌, map, flat_map, filter, length, slice_get, slice_index, slice_index_or, if◌then◌else◌, Option, Some, None, is_none, Contains}
+use Rattle.std.specs.Prelude.{◌≡◌, ◌↔◌, ℕ, zero, suc, ◌+◌, ◌<◌, ◌==◌, Bool, false, not, ◌&&◌, List, [], ◌∷◌, map, flat_map, filter, length, slice_get, slice_index, slice_index_or, if◌then◌else◌, Option, Some, None, is_none, Contains}
 use Rattle.std.specs.List.{list_any}
 use Rattle.csdn_core.specs.declared.terms.Sort.{Sort}
 use Rattle.csdn_core.specs.declared.terms.Sort.TheVariants.{Sw, Ho, Pr}
@@ -84,6 +84,13 @@ module _ (voc : Vocabulary) (n : Sort → ℕ) (j : Fact → Bool) where
 
 -- The network and the state.
 
+-- whether the network has a relation's tuples, and not the state
+abbrev pub is_static : Parts → Pred → Bool
+is_static P (Stored r) = is_fixed P r.0
+is_static P Ft = false
+is_static P Sent = false
+is_static P RcvThis = false
+
 -- how many constants each sort of a sentence has
 abbrev pub sizes : Parts → Form → Sort → ℕ
 sizes P f = constants (vocabulary P f) f
@@ -122,11 +129,11 @@ module _ (P : Parts) (f : Form) (j : Fact → Bool) where
     rows = flat_map static_rows (vocabulary P f).relations;
   }
 
-  -- of relations that the sentence doesn't use nothing holds
+  -- of relations that the sentence doesn't use nothing holds, and static ones are the network's
   abbrev pub state_of : State
   state_of r cells =
       let voc = vocabulary P f in
-      list_any (same_pred r) voc.relations && list_any (λ as'. same_cells (values_of number (voc.columns r) as') cells) (true_tuples r)
+      not (is_static P r) && (list_any (same_pred r) voc.relations && list_any (λ as'. same_cells (values_of number (voc.columns r) as') cells) (true_tuples r))
 
 -- A network and a state are those of a judgement, by any numbers for its classes: the elements are these numbers, constants
 -- have those of their classes, and a tuple of them holds where the tuple of constants is judged true.
@@ -136,3 +143,9 @@ pub record AreOfJudgement (P : Parts) (f : Form) (j : Fact → Bool) (ρ : Meani
   pub covered : (s : Sort) (m : ℕ) → Contains (elements N s) m → (a : ℕ) × (a < sizes P f s) × (m ≡ ρ s a)
   pub values : (k : ℕ) (c : Constant) → slice_get P.constants k ≡ Some c → slice_index N.constants k ≡ ρ c.sort (index_of (Const (record { 0 = k })) ((vocabulary P f).names c.sort))
   pub tuples : (r : Pred) (as' : List ℕ) → IsIn r (vocabulary P f).relations → AreBelow (sizes P f) ((vocabulary P f).columns r) as' → holds_in P N x Nothing r (values_of ρ ((vocabulary P f).columns r) as') ≡ j (Tuple r as')
+
+-- Two networks have the same elements, values of constants and tuples, in whatever order and however often listed.
+pub record ListTheSame (N M : Network) : Type 0 where
+  pub elements : (s : Sort) (m : ℕ) → Contains (elements N s) m ↔ Contains (elements M s) m
+  pub constants : N.constants ≡ M.constants
+  pub rows : (row : StaticRow) → Contains N.rows row ↔ Contains M.rows row

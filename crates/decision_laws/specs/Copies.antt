@@ -20,7 +20,7 @@ pub data Fact : Type 0 where
 
 pub data Copy : Type 0 where
   Known : (b : Bool) → Copy
-  Literal : (sign : Bool) (fact : Fact) → Copy
+  Leaf : (sign : Bool) (fact : Fact) → Copy
   Both : (p q : Copy) → Copy
   Either : (p q : Copy) → Copy
   -- the copies of a `forall` over n constants are the n members of one conjunction
@@ -64,8 +64,8 @@ module _ (voc : Vocabulary) where
   -- `and` takes those after the left side's; the sides of an `or` take the same.
   abbrev pub copies : (Sort → ℕ) → Form → Scope → (Sort → ℕ) → Copy
   copies n (Fixed b) env base = Known b
-  copies n (Atom sign r ts) env base = Literal sign (Tuple r (map (place env) ts))
-  copies n (Same sign t u) env base = Literal sign (Equation (place_sort env t) (place env t) (place env u))
+  copies n (Atom sign r ts) env base = Leaf sign (Tuple r (map (place env) ts))
+  copies n (Same sign t u) env base = Leaf sign (Equation (place_sort env t) (place env t) (place env u))
   copies n (And p q) env base = Both (copies n p env base) (copies n q env (λ t. base t + need p t))
   copies n (Or p q) env base = Either (copies n p env base) (copies n q env base)
   copies n (ForAll v s p) env base = each (n s) (λ a. copies n p ((v.0, (s, a)) ∷ env) base)
@@ -86,7 +86,7 @@ module _ (voc : Vocabulary) where
 -- what a judgement of atoms and equations says of copies
 abbrev pub judge : (Fact → Bool) → Copy → Bool
 judge j (Known b) = b
-judge j (Literal sign fact) = signed sign (j fact)
+judge j (Leaf sign fact) = signed sign (j fact)
 judge j (Both p q) = judge j p && judge j q
 judge j (Either p q) = judge j p || judge j q
 judge j (Each n c) = list_all (λ i. judge j (c i)) (places_from 0 n)

@@ -1,5 +1,5 @@
 -- What connects networks and states with judgements, and judgements with clauses.
-use Rattle.std.specs.Prelude.{◌≡◌, ℕ, ◌==◌, Bool, true, List, [], IsTrue}
+use Rattle.std.specs.Prelude.{◌≡◌, ℕ, suc, ◌+◌, ◌-◌, ◌==◌, Bool, true, List, [], IsTrue}
 use Rattle.csdn_core.specs.declared.terms.Sort.{Sort}
 use Rattle.csdn_core.specs.declared.terms.Term.{Term}
 use Rattle.csdn_core.specs.declared.event.Packet.TheVariants.{Nothing}
@@ -8,11 +8,14 @@ use Rattle.csdn_core.specs.declared.syntax.Formula.{Formula}
 use Rattle.csdn_core.specs.Truth.{value, truth}
 use Rattle.csdn_core.specs.Network.{Network, State, structure, IsNetwork}
 use Rattle.csdn_core.specs.Run.{no_values}
-use Rattle.decision_laws.specs.Forms.{Form, normal_form, in_fragment}
-use Rattle.decision_laws.specs.Vocabulary.{Vocabulary, vocabulary, fits, has_term}
+use Rattle.decision_laws.specs.Forms.{Form, normal_form, in_fragment, simplified}
+use Rattle.decision_laws.specs.Vocabulary.{Vocabulary, IsIn, vocabulary, fits, has_term}
 use Rattle.decision_laws.specs.Copies.{Fact, Equation, Copy, index_of, copies_of, judge, IsFair}
 use Rattle.decision_laws.specs.Classes.{sizes}
-use Rattle.decision_laws.specs.Clauses.{Lit, IsModel, all_clauses, IsNaming}
+use Rattle.decision_laws.specs.Clauses.{all_clauses, Naming}
+use Rattle.clause_log.specs.Literals.{IsModel, Literal}
+use Rattle.decision_laws.specs.Numbers.{fact_count, fact_number, numbered_fact}
+use Rattle.decision_laws.specs.Weights.{weight}
 use Rattle.decision_laws.specs.Tied.{IsTied, name_of}
 
 -- the normal form of a sentence
@@ -49,31 +52,40 @@ module _ (P : Parts) (F : Formula) where
     pub fair : IsFair words counts j
     pub agrees : IsTrue (judge j sentence_copies)
 
-  abbrev pub HasJudgement : Type 0
-  HasJudgement = (j : Fact → Bool) × IsJudgement j
-
   -- it judges equations of declared constants and numerals as the network does
   abbrev pub AgreesOnNames : Network → State → (Fact → Bool) → Type 0
   AgreesOnNames N x j =
       (s : Sort) (t u : Term) → IsTrue (has_term t (words.names s)) → IsTrue (has_term u (words.names s))
       → j (Equation s (index_of t (words.names s)) (index_of u (words.names s))) ≡ (value (structure P N x Nothing) no_values t == value (structure P N x Nothing) no_values u)
 
-  -- all clauses of the sentence, where facts are numbered by num, and the nodes of the copies from first on
-  abbrev pub complete_clauses : (Fact → ℕ) → ℕ → List (List Lit)
-  complete_clauses num first = all_clauses num first counts words sentence_copies
+  -- the numbers of atoms: from 1 on those of facts, and then those of the nodes of the copies
+  abbrev pub naming : Naming
+  naming = record { num = λ f. suc (fact_number counts words f); first = suc (fact_count counts words); fact_at = λ x. numbered_fact counts words (x - 1) }
 
-  -- num gives facts numbers below first, from which fact_at leads back
-  abbrev pub NamesFacts : ℕ → (Fact → ℕ) → (ℕ → Fact) → Type 0
-  NamesFacts first num fact_at = IsNaming words counts first num fact_at
+  -- how many atoms there are
+  abbrev pub atoms : ℕ
+  atoms = fact_count counts words + weight counts (simplified (form_of F))
 
-  -- what the atoms of the clauses name: a fact below first, and then the nodes of the copies
-  abbrev pub clause_names : ℕ → (ℕ → Fact) → ℕ → Copy
-  clause_names first fact_at = name_of fact_at first sentence_copies
+  -- what each atom names
+  abbrev pub name : ℕ → Copy
+  name = name_of naming sentence_copies
 
-  -- a clause is tied to the sentence by these names
-  abbrev pub IsTiedTo : ℕ → (ℕ → Fact) → List Lit → Type 0
-  IsTiedTo first fact_at c = IsTied counts words sentence_copies (clause_names first fact_at) c
+  -- what a valuation of the atoms says of facts
+  abbrev pub judged : (ℕ → Bool) → Fact → Bool
+  judged v f = v (naming.num f)
+
+  -- all clauses of the sentence
+  abbrev pub clauses : List (List Literal)
+  clauses = all_clauses naming counts words sentence_copies
+
+  -- each of the clauses is tied to the sentence by these names of the atoms
+  abbrev pub AreTiedBy : (ℕ → Copy) → List (List Literal) → Type 0
+  AreTiedBy names cs = (c : List Literal) → IsIn c cs → IsTied counts words sentence_copies names c
+
+  -- clauses are tied to the sentence
+  abbrev pub AreTied : List (List Literal) → Type 0
+  AreTied cs = (names : ℕ → Copy) × AreTiedBy names cs
 
 -- some valuation makes each of the clauses true
-abbrev pub HasModel : List (List Lit) → Type 0
+abbrev pub HasModel : List (List Literal) → Type 0
 HasModel cs = (v : ℕ → Bool) × IsModel v cs

@@ -6,8 +6,6 @@ pub mod Clauses
 pub mod Tied
 pub mod Numbers
 pub mod Sublists
+pub mod Weights
 pub mod Laws
 pub mod Example
-pub mod Trees
-pub mod Leaves
-pub mod Walk

@@ -2,14 +2,9 @@
 //!
 //! A sentence is decided over finitely many constants: copies of it, judgements of their atoms and equations, clauses.
 //! The definitions stand in `specs/`; [`laws`] connects them with the truth of the sentence in networks and states, as
-//! contracts of functions that do nothing. [`tree`] and [`copies`] compute need and copies of a given tree,
-//! and [`names`] counts the names that a program has of a sort.
+//! contracts of functions that do nothing. [`names`] counts the names that a program has of a sort.
 //! `docs/DEFINITIONS.md` says the definitions in words, with an example.
 #![tactic(auto)]
 
-pub mod copies;
 pub mod laws;
 pub mod names;
-#[cfg(test)]
-mod tests;
-pub mod tree;

@@ -5,10 +5,21 @@ ghost use Rattle.decision_laws.specs.Vocabulary.{constants_from, names_of, sort_
 ghost use Rattle.decision_laws.specs.Copies.{index_of};
 ghost use Rattle.csdn_core.specs.declared.terms.Term.TheVariants.{Const as ConstTerm, Port as PortTerm};
 ghost use Rattle.csdn_core.specs.declared.terms.Sort.TheVariants.{Pr as PortSort};
+ghost use Rattle.csdn_core.specs.Same.{same_sort};
 
-use crate::tree::is_same_sort;
 use csdn_core::program::{Constant, Parts};
 use csdn_core::terms::{ConstId, Sort};
+
+// Whether two sorts are the same.
+fn is_same_sort(a: Sort, b: Sort) -> bool
+    ensures { result ≡ same_sort a b }
+{
+    match a {
+        Sort::Sw => matches!(b, Sort::Sw),
+        Sort::Ho => matches!(b, Sort::Ho),
+        Sort::Pr => matches!(b, Sort::Pr),
+    }
+}
 
 /// One where the sorts are the same.
 pub fn one_if(a: Sort, b: Sort) -> usize

@@ -4,12 +4,13 @@ use Rattle.csdn_core.specs.declared.terms.Sort.{Sort}
 use Rattle.csdn_core.specs.declared.terms.Sort.TheVariants.{Sw, Ho, Pr}
 use Rattle.csdn_core.specs.declared.program.Parts.{Parts}
 use Rattle.csdn_core.specs.declared.syntax.Formula.{Formula}
-use Rattle.decision_laws.specs.Laws.{form_of, counts}
-use Rattle.decision_laws.specs.Forms.{Form, Fixed, Atom, Same, And, Or, ForAll, ForSome}
+use Rattle.fol_forms.specs.Constants.{counts, instances}
+use Rattle.fol_forms.specs.Forms.{form_of}
+use Rattle.fol_forms.specs.Forms.{Form, Fixed, Atom, Same, And, Or, ForAll, ForSome}
 use Rattle.fol_forms.specs.declared.instances.Counts.{Counts}
 use Rattle.fol_forms.specs.Counts.{count_of}
 use Rattle.fol_forms.specs.Limits.{capped}
-use Rattle.fol_forms.specs.Written.{instances, normal_instances}
+use Rattle.fol_forms.specs.Written.{normal_instances}
 use Rattle.fol_forms.proofs.Capped.{capped-sum, capped-product_left, capped-product_right}
 
 sum_alike : (a b x y : ℕ) → capped a ≡ capped x → capped b ≡ capped y → capped (a + b) ≡ capped (x + y)

@@ -3,8 +3,7 @@ use Rattle.std.proofs.Common.{◌≡◌, ℕ, ◌==◌, Bool, true, false, not, 
 use Rattle.std.proofs.Math.Bool.{or-false}
 use Rattle.std.specs.List.{list_any}
 use Rattle.std.specs.Cmp.{both_ways}
-use Rattle.decision_laws.proofs.Lists.{contains_in}
-use Rattle.decision_laws.proofs.Basics.{any_from, any_gives}
+use Rattle.std.proofs.lemmas.List.Folds.{list_any_at, Any-from_list_any}
 use Rattle.csdn_core.specs.declared.terms.Sort.TheVariants.{Pr}
 use Rattle.csdn_core.specs.declared.terms.Term.{Term}
 use Rattle.csdn_core.specs.declared.terms.Term.TheVariants.{Var, Const, Port}
@@ -15,8 +14,9 @@ use Rattle.csdn_core.specs.Truth.{Structure, Assignment, truth, value, values}
 use Rattle.csdn_core.specs.Network.{same_pred, same_cells}
 use Rattle.csdn_core.specs.Execution.{is_flood}
 use Rattle.csdn_core.specs.Variables.{vars_of, BindsOutside}
+use Rattle.csdn_core.specs.SortedIn.{Scope}
 use Rattle.fol_forms.specs.Replace.{floods, or_flood, add_flood}
-use Rattle.fol_forms.specs.Substitution.{Agrees, Scope, KeepsSorts, IsPort, HasEgress, SendsToPorts, with_flood}
+use Rattle.fol_forms.specs.Substitution.{Agrees, KeepsSorts, IsPort, HasEgress, SendsToPorts, with_flood}
 use Rattle.fol_forms.proofs.Replaced.{values-Agrees, AllAtoms-map, IsRight, truth-replace}
 
 module _ (u v w j o s a b i : ℕ) where
@@ -36,8 +36,8 @@ module _ (u v w j o s a b i : ℕ) where
 
   flood_test : (ports : List ℕ) → Contains ports o → its_own ≡ list_any test_of ports
   flood_test ports there = both_ways its_own (list_any test_of ports)
-      (λ h. any_from test_of ports o (contains_in ports o there) (at_own h))
-      (λ h. let m = any_gives test_of ports h in from_test m.0 m.2)
+      (λ h. list_any_at test_of ports there.0 o there.1 (ap test_of there.2 ∙ at_own h))
+      (λ h. let m = Any-from_list_any test_of ports h in from_test m.1 m.4)
 
 port_value : (M : Structure) (Γ : Scope) (d : Assignment) (t : Term) → KeepsSorts M Γ d → IsPort M Γ t → Contains (M.elements Pr) (value M d t)
 port_value M Γ d (Var v) keeps ported = keeps v.0 Pr ported

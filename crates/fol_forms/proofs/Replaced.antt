@@ -17,8 +17,9 @@ use Rattle.csdn_core.specs.Tree.{negation, conjunction, disjunction, implication
 use Rattle.csdn_core.specs.Truth.{Structure, Assignment, truth, value, values, with_var, same_truth}
 use Rattle.csdn_core.specs.Network.{same_pred, same_cells}
 use Rattle.csdn_core.specs.Variables.{Variables, vars_of, is_var, BindsOutside}
+use Rattle.csdn_core.specs.SortedIn.{Scope, no_scope, with_sort}
 use Rattle.fol_forms.specs.Replace.{replace, same, or_row, add_row, not_row, drop_row, is_row, fix_packet}
-use Rattle.fol_forms.specs.Substitution.{with_relations, with_row, without_row, with_packet, Scope, no_scope, with_sort, AllAtoms, AllFit, Agrees, FitsRow, KeepsSorts}
+use Rattle.fol_forms.specs.Substitution.{with_relations, with_row, without_row, with_packet, AllAtoms, AllFit, Agrees, FitsRow, KeepsSorts}
 
 -- a variable that is bound outside the set may stand for anything
 pub Agrees-with_var : (s : Variables) (e d : Assignment) (v : VarId) (m : ℕ) → IsFalse (s v.0) → Agrees s e d → Agrees s e (with_var d v m)

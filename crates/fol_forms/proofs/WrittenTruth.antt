@@ -4,8 +4,8 @@ use Rattle.std.proofs.Math.Path.{fun_ext}
 use Rattle.std.specs.List.{list_all, list_any}
 use Rattle.csdn_core.specs.declared.syntax.Formula.{Formula}
 use Rattle.csdn_core.specs.Truth.{Structure, Assignment, truth, with_var}
-use Rattle.decision_laws.specs.Forms.{Form, Fixed, Atom, Same, And, Or, ForAll, ForSome, normal_form, form_truth, signed}
-use Rattle.decision_laws.proofs.NormalTruth.{truth-normal}
+use Rattle.fol_forms.specs.Forms.{Form, Fixed, Atom, Same, And, Or, ForAll, ForSome, normal_form, form_truth, signed}
+use Rattle.fol_forms.proofs.NormalTruth.{truth-normal}
 use Rattle.fol_forms.specs.Written.{written}
 
 pub truth-written : (M : Structure) (p : Form) (e : Assignment) → truth M (written p) e ≡ form_truth M p e

@@ -1,6 +1,6 @@
 -- Whether a normal form is in the fragment, at what the code reads.
 use Rattle.std.specs.Prelude.{◌≡◌, Bool, true, false, not, ◌&&◌, List, if◌then◌else◌, refl}
-use Rattle.decision_laws.specs.Forms.{normal_form}
+use Rattle.fol_forms.specs.Forms.{normal_form}
 use Rattle.fol_forms.specs.Written.{normal_universal, normal_fragment}
 use Rattle.csdn_core.specs.declared.terms.VarId.{VarId}
 use Rattle.csdn_core.specs.declared.terms.Sort.{Sort}

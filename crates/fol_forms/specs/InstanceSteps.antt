@@ -1,6 +1,6 @@
 -- The instances of a normal form, at what the code reads.
 use Rattle.std.specs.Prelude.{◌≡◌, ℕ, ◌+◌, ◌*◌, Bool, true, false, not, List, if◌then◌else◌, refl}
-use Rattle.decision_laws.specs.Forms.{normal_form}
+use Rattle.fol_forms.specs.Forms.{normal_form}
 use Rattle.fol_forms.specs.Written.{normal_instances}
 use Rattle.csdn_core.specs.declared.terms.VarId.{VarId}
 use Rattle.csdn_core.specs.declared.terms.Sort.{Sort}

@@ -1,4 +1,6 @@
 pub mod Limits
+pub mod Forms
+pub mod Constants
 pub mod Written
 pub mod Signed
 pub mod Answers

@@ -1,6 +1,7 @@
 -- What a normal form needs, at what the code reads.
 use Rattle.std.specs.Prelude.{◌≡◌, ◌+◌, max, Bool, true, false, not, List, if◌then◌else◌, refl}
-use Rattle.decision_laws.specs.Forms.{normal_form, one_if}
+use Rattle.fol_forms.specs.Constants.{one_if}
+use Rattle.fol_forms.specs.Forms.{normal_form}
 use Rattle.fol_forms.specs.Written.{normal_need}
 use Rattle.csdn_core.specs.declared.terms.VarId.{VarId}
 use Rattle.csdn_core.specs.declared.terms.Sort.{Sort}

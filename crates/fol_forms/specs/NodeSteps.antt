@@ -1,7 +1,7 @@
 -- The nodes of normal forms, at what the code reads.
 use Rattle.std.specs.Prelude.{◌≡◌, ◌+◌, Bool, true, false, not, List, if◌then◌else◌, refl}
 use Rattle.csdn_core.specs.Nodes.{nodes}
-use Rattle.decision_laws.specs.Forms.{normal_form}
+use Rattle.fol_forms.specs.Forms.{normal_form}
 use Rattle.fol_forms.specs.Written.{normal, normal_nodes}
 use Rattle.csdn_core.specs.declared.terms.VarId.{VarId}
 use Rattle.csdn_core.specs.declared.terms.Sort.{Sort}

@@ -1,6 +1,6 @@
 -- Normal forms, at what the code writes.
 use Rattle.std.specs.Prelude.{◌≡◌, Bool, true, false, not, List, refl}
-use Rattle.decision_laws.specs.Forms.{normal_form}
+use Rattle.fol_forms.specs.Forms.{normal_form}
 use Rattle.fol_forms.specs.Written.{normal}
 use Rattle.fol_forms.specs.Signed.{truth_value, literal, joined, quantified}
 use Rattle.csdn_core.specs.declared.terms.VarId.{VarId}

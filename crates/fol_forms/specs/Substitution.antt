@@ -1,18 +1,18 @@
 -- Truth of a formula in which atoms were replaced.
-use Rattle.std.specs.Prelude.{◌≡◌, ℕ, ◌==◌, Bool, not, ◌&&◌, ◌||◌, List, [], ◌∷◌, length, Option, Some, None, if◌then◌else◌, IsTrue, Contains}
-use Rattle.csdn_core.specs.declared.terms.VarId.{VarId}
+use Rattle.std.specs.Prelude.{◌≡◌, ℕ, Bool, false, not, ◌&&◌, ◌||◌, List, [], ◌∷◌, length, Some, if◌then◌else◌, IsTrue, Contains}
 use Rattle.csdn_core.specs.declared.terms.Sort.{Sort}
 use Rattle.csdn_core.specs.declared.terms.Sort.TheVariants.{Pr}
 use Rattle.csdn_core.specs.declared.terms.Term.{Term}
 use Rattle.csdn_core.specs.declared.terms.Term.TheVariants.{Var, Const, Port}
 use Rattle.csdn_core.specs.declared.terms.Pred.{Pred}
-use Rattle.csdn_core.specs.declared.terms.Pred.TheVariants.{Sent, RcvThis}
+use Rattle.csdn_core.specs.declared.terms.Pred.TheVariants.{Ft, Sent, RcvThis}
 use Rattle.csdn_core.specs.declared.syntax.Formula.{Formula}
 use Rattle.csdn_core.specs.declared.syntax.Formula.TheVariants as f
 use Rattle.csdn_core.specs.Tree.{negation, conjunction, disjunction, implication, equivalence, universal, existential}
 use Rattle.csdn_core.specs.Truth.{Structure, Assignment}
+use Rattle.csdn_core.specs.SortedIn.{Scope, no_scope, with_sort}
 use Rattle.csdn_core.specs.Network.{same_pred, same_cells}
-use Rattle.csdn_core.specs.Execution.{is_flood}
+use Rattle.csdn_core.specs.Execution.{is_flood, is_rule_of}
 use Rattle.csdn_core.specs.Variables.{Variables}
 
 -- the structure with other relations
@@ -27,6 +27,10 @@ with_row M r cells = with_relations M (λ q ds. M.holds q ds || (same_pred q r &
 abbrev pub without_row : Structure → Pred → List ℕ → Structure
 without_row M r cells = with_relations M (λ q ds. M.holds q ds && not (same_pred q r && same_cells ds cells))
 
+-- .. with every rule of a match of four elements taken out of `ft`
+abbrev pub without_match : Structure → List ℕ → Structure
+without_match M cells = with_relations M (λ q ds. M.holds q ds && not (same_pred q Ft && is_rule_of cells ds))
+
 -- .. with a packet of four elements sent from every port but its own
 abbrev pub with_flood : Structure → List ℕ → Structure
 with_flood M cells = with_relations M (λ q ds. M.holds q ds || (same_pred q Sent && is_flood (M.elements Pr) cells ds))
@@ -35,15 +39,9 @@ with_flood M cells = with_relations M (λ q ds. M.holds q ds || (same_pred q Sen
 abbrev pub with_packet : Structure → List ℕ → Structure
 with_packet M cells = with_relations M (λ q ds. if same_pred q RcvThis then same_cells ds cells else M.holds q ds)
 
--- the sorts of variables in scope, by their numbers
-abbrev pub Scope : Type 0
-Scope = ℕ → Option Sort
-
-abbrev pub no_scope : Scope
-no_scope = λ v. None
-
-abbrev pub with_sort : Scope → VarId → Sort → Scope
-with_sort Γ v s = λ w. if w == v.0 then Some s else Γ w
+-- .. and in which there is no packet
+abbrev pub without_packet : Structure → Structure
+without_packet M = with_relations M (λ q ds. if same_pred q RcvThis then false else M.holds q ds)
 
 -- each atom of the formula meets a fact, which may depend on the sorts in scope
 unfoldable pub AllAtoms : (Scope → Pred → List Term → Type 0) → Scope → Formula → Type 0

@@ -1,11 +1,12 @@
--- Normal forms as formulas, and how often they are copied.
-use Rattle.std.specs.Prelude.{ℕ, ◌+◌, ◌*◌, Bool, true, false}
+-- Normal forms as formulas.
+use Rattle.std.specs.Prelude.{ℕ, Bool, true, false}
 use Rattle.csdn_core.specs.declared.terms.Sort.{Sort}
 use Rattle.csdn_core.specs.declared.syntax.Formula.{Formula}
 use Rattle.csdn_core.specs.declared.syntax.Formula.TheVariants as f
 use Rattle.csdn_core.specs.Tree.{negation, conjunction, disjunction, universal, existential}
 use Rattle.csdn_core.specs.Nodes.{nodes}
-use Rattle.decision_laws.specs.Forms.{Form, Fixed, Atom, Same, And, Or, ForAll, ForSome, normal_form, is_universal, in_fragment, need}
+use Rattle.fol_forms.specs.Constants.{need, instances}
+use Rattle.fol_forms.specs.Forms.{Form, Fixed, Atom, Same, And, Or, ForAll, ForSome, normal_form, is_universal, in_fragment}
 
 -- the formula that a normal form is: the sign `false` is a negation
 abbrev pub written : Form → Formula
@@ -23,16 +24,6 @@ written (ForSome v s p) = existential v s (written p)
 -- the normal form of a formula, or for the sign `false` of its negation, as a formula
 unfoldable pub normal : Bool → Formula → Formula
 normal sign p = written (normal_form sign p)
-
--- how many atoms and equations a normal form has when each `forall` is replaced by one copy per constant of its sort
-abbrev pub instances : (Sort → ℕ) → Form → ℕ
-instances n (Fixed b) = 0
-instances n (Atom sign r ts) = 1
-instances n (Same sign t u) = 1
-instances n (And p q) = instances n p + instances n q
-instances n (Or p q) = instances n p + instances n q
-instances n (ForAll v s p) = n s * instances n p
-instances n (ForSome v s p) = instances n p
 
 -- What is said of the normal form of a formula, or for the sign `false` of its negation.
 

@@ -2,8 +2,8 @@
 #![tactic(auto)]
 
 ghost use Rattle.std.specs.Prelude.{◌≡◌, true};
-ghost use Rattle.decision_laws.specs.Forms.{in_fragment as is_in_fragment};
-ghost use Rattle.decision_laws.specs.Laws.{form_of};
+ghost use Rattle.fol_forms.specs.Forms.{in_fragment as is_in_fragment};
+ghost use Rattle.fol_forms.specs.Forms.{form_of};
 ghost use Rattle.fol_forms.specs.Written.{normal_universal, normal_fragment};
 
 use csdn_core::syntax::Formula;

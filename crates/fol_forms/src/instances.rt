@@ -2,17 +2,17 @@
 #![tactic(auto)]
 
 ghost use Rattle.std.specs.Prelude.{◌≡◌, ◌+◌, ◌*◌, max, true};
-ghost use Rattle.decision_laws.specs.Forms.{one_if as one_if_same};
-ghost use Rattle.decision_laws.specs.Laws.{form_of, counts as counts_of};
+ghost use Rattle.fol_forms.specs.Constants.{counts as counts_of, instances as instances_of};
 ghost use Rattle.fol_forms.specs.Counts.{count_of};
+ghost use Rattle.fol_forms.specs.Forms.{form_of};
 ghost use Rattle.fol_forms.specs.Limits.{capped};
-ghost use Rattle.fol_forms.specs.Written.{instances as instances_of, normal_need, normal_instances};
+ghost use Rattle.fol_forms.specs.Written.{normal_need, normal_instances};
 
+use crate::constants::{known, one_if};
 use crate::count::sum;
 use csdn_core::program::{Parts, Program};
 use csdn_core::syntax::Formula;
 use csdn_core::terms::Sort;
-use decision_laws::names;
 
 /// How many atoms and equations the normal form of a formula has when each `forall` is replaced by one copy per constant of
 /// its sort: those that the program names, and those that the normal form needs; at least one. 2^64 - 1 where there are more.
@@ -49,17 +49,11 @@ impl Counts {
     }
 }
 
-fn one_if(a: Sort, b: Sort) -> u64
-    ensures { result ≡ one_if_same a b }
-{
-    names::one_if(a, b) as u64
-}
-
 // How many constants a sort has.
 fn constants(parts: &Parts, formula: &Formula, sort: Sort) -> u64
     ensures { result ≡ capped (counts_of parts.now formula.now sort) }
 {
-    let known = names::known(parts, sort) as u64;
+    let known = known(parts, sort) as u64;
     let need = need(formula, true, sort);
     sum(known, need).max(1)
 }
@@ -113,12 +107,12 @@ fn need(formula: &Formula, sign: bool, sort: Sort) -> u64
             if sign {
                 0
             } else {
-                sum(need(p.get(), sign, sort), one_if(*own, sort))
+                sum(need(p.get(), sign, sort), one_if(*own, sort) as u64)
             }
         }
         Formula::Exists(_, own, p) => {
             if sign {
-                sum(need(p.get(), sign, sort), one_if(*own, sort))
+                sum(need(p.get(), sign, sort), one_if(*own, sort) as u64)
             } else {
                 0
             }

@@ -2,17 +2,18 @@
 ghost use Rattle.std.specs.Prelude.{◌≡◌, ◌↔◌, ◌<◌, ℕ, Bool, length, List, [], ◌∷◌, IsTrue};
 ghost use Rattle.csdn_core.specs.declared.terms.Term.{Term as AnyTerm};
 ghost use Rattle.csdn_core.specs.declared.terms.Pred.{Pred as AnyPred};
-ghost use Rattle.csdn_core.specs.declared.terms.Pred.TheVariants.{RcvThis};
+ghost use Rattle.csdn_core.specs.declared.terms.Pred.TheVariants.{Ft, RcvThis};
 ghost use Rattle.csdn_core.specs.declared.syntax.Formula.{Formula as AnyFormula};
+ghost use Rattle.csdn_core.specs.SortedIn.{Scope};
 ghost use Rattle.csdn_core.specs.Truth.{Structure, Assignment, truth, values};
 ghost use Rattle.csdn_core.specs.Variables.{vars_of, free_in, BindsOutside};
-ghost use Rattle.decision_laws.specs.Forms.{Form, normal_form, signed};
-ghost use Rattle.decision_laws.specs.Laws.{form_of};
+ghost use Rattle.fol_forms.specs.Forms.{Form, normal_form, signed};
+ghost use Rattle.fol_forms.specs.Forms.{form_of};
 ghost use Rattle.fol_forms.specs.declared.close.Bind.{Bind as AnyBind};
 ghost use Rattle.fol_forms.specs.Closed.{closed, IsTrueForAll};
 ghost use Rattle.fol_forms.specs.Renumber.{renumber};
-ghost use Rattle.fol_forms.specs.Replace.{add_row, drop_row, add_flood, fix_packet};
-ghost use Rattle.fol_forms.specs.Substitution.{AllFit, Scope, KeepsSorts, SendsToPorts, with_row, without_row, with_flood, with_packet};
+ghost use Rattle.fol_forms.specs.Replace.{add_row, drop_row, drop_match, add_flood, fix_packet, no_packet};
+ghost use Rattle.fol_forms.specs.Substitution.{AllFit, KeepsSorts, SendsToPorts, with_row, without_row, without_match, with_flood, with_packet, without_packet};
 ghost use Rattle.fol_forms.specs.Written.{written};
 
 /// A normal form has the formula's truth, or that of its negation; and it is its own normal form.
@@ -35,6 +36,17 @@ pub fn drop_row_is_exact()
 /// `fix_packet` is true exactly where the formula is true when the packet is the tuple.
 pub fn fix_packet_is_exact()
     ensures { (M : Structure) (ts : List AnyTerm) (e : Assignment) (F : AnyFormula) → AllFit RcvThis (length ts) F → BindsOutside (vars_of ts) F → truth M (fix_packet F ts) e ≡ truth (with_packet M (values M e ts)) F e }
+{}
+
+/// `no_packet` is true exactly where the formula is true when there is no packet.
+pub fn no_packet_is_exact()
+    ensures { (M : Structure) (e : Assignment) (F : AnyFormula) → truth M (no_packet F) e ≡ truth (without_packet M) F e }
+{}
+
+/// `drop_match` is true exactly where the formula is true once every rule of the match is out of the flow tables, where each
+/// atom of `ft` has five terms.
+pub fn drop_match_is_exact()
+    ensures { (M : Structure) (s a b i : AnyTerm) (e : Assignment) (F : AnyFormula) → AllFit Ft 5 F → BindsOutside (vars_of (s ∷ a ∷ b ∷ i ∷ [])) F → truth M (drop_match F (s ∷ a ∷ b ∷ i ∷ [])) e ≡ truth (without_match M (values M e (s ∷ a ∷ b ∷ i ∷ []))) F e }
 {}
 
 /// `add_flood` is true exactly where the formula is true once the packet was sent from every port but its own. Here sorts

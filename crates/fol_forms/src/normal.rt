@@ -4,7 +4,7 @@
 ghost use Rattle.std.specs.Prelude.{◌≡◌, ◌<◌, ◌↔◌, IfOk, Err, true, false, not};
 ghost use Rattle.csdn_core.specs.Nodes.{nodes};
 ghost use Rattle.csdn_core.specs.declared.syntax.Formula.TheVariants as formulas;
-ghost use Rattle.decision_laws.specs.Forms.{normal_form};
+ghost use Rattle.fol_forms.specs.Forms.{normal_form};
 ghost use Rattle.fol_forms.specs.declared.refusal.FormRefusal.TheVariants.{Large};
 ghost use Rattle.fol_forms.specs.Limits.{capped, most_nodes};
 ghost use Rattle.fol_forms.specs.Signed.{truth_value as truth_value_of, literal as literal_of, joined as joined_of, quantified as quantified_of};

@@ -2,12 +2,11 @@
 #![tactic(auto)]
 
 ghost use Rattle.std.specs.Prelude.{◌≡◌, ◌<◌, ◌≤◌, ◌↔◌, IfOk, Err, length};
-ghost use Rattle.csdn_core.specs.Network.{same_pred};
 ghost use Rattle.csdn_core.specs.Nodes.{nodes};
 ghost use Rattle.fol_forms.specs.declared.refusal.FormRefusal.TheVariants.{Large};
-ghost use Rattle.fol_forms.specs.Changes.{replacement};
+ghost use Rattle.fol_forms.specs.Changes.{replacement, is_match};
 ghost use Rattle.fol_forms.specs.Limits.{capped, most_nodes};
-ghost use Rattle.fol_forms.specs.Replace.{replace as replace_of, same as same_of, add_row as add_row_of, drop_row as drop_row_of, add_flood as add_flood_of, fix_packet as fix_packet_of, or_row as or_row_of, not_row as not_row_of, is_row as is_row_of, or_flood as or_flood_of, floods as floods_of};
+ghost use Rattle.fol_forms.specs.Replace.{replace as replace_of, same as same_of, add_row as add_row_of, drop_row as drop_row_of, add_flood as add_flood_of, fix_packet as fix_packet_of, drop_match as drop_match_of, no_packet as no_packet_of, or_row as or_row_of, not_row as not_row_of, is_row as is_row_of, not_match as not_match_of, no_row as no_row_of, rule_of as rule_of_terms, or_flood as or_flood_of, floods as floods_of};
 
 use crate::count::{and_one, sum_and_one};
 use crate::refusal::{FormRefusal, MOST_NODES, or_memory};
@@ -21,8 +20,10 @@ use std::alloc::{AllocError, Global};
 pub enum Change {
     AddRow(Pred, Terms),
     DropRow(Pred, Terms),
+    DropMatch(Terms),
     AddFlood(Terms),
     FixPacket(Terms),
+    NoPacket,
 }
 
 /// What is true where the formula is true once the tuple is in the relation.
@@ -51,6 +52,14 @@ pub fn drop_row(
     changed(alloc, formula, &Change::DropRow(pred, terms.copy()))
 }
 
+/// What is true where the formula is true once every rule of the match of the four terms is out of the flow tables.
+pub fn drop_match(alloc: Global, formula: &Formula, terms: &Terms) -> Result<Formula, FormRefusal>
+    ensures form { IfOk result (λ p. p ≡ drop_match_of formula.now terms.now) }
+    ensures large { (result ≡ Err Large) ↔ (most_nodes < nodes (drop_match_of formula.now terms.now)) }
+{
+    changed(alloc, formula, &Change::DropMatch(terms.copy()))
+}
+
 /// What is true where the formula is true once the packet of the four terms was sent from every port but its own.
 pub fn add_flood(alloc: Global, formula: &Formula, terms: &Terms) -> Result<Formula, FormRefusal>
     ensures form { IfOk result (λ p. p ≡ add_flood_of formula.now terms.now) }
@@ -65,6 +74,14 @@ pub fn fix_packet(alloc: Global, formula: &Formula, terms: &Terms) -> Result<For
     ensures large { (result ≡ Err Large) ↔ (most_nodes < nodes (fix_packet_of formula.now terms.now)) }
 {
     changed(alloc, formula, &Change::FixPacket(terms.copy()))
+}
+
+/// What is true where the formula is true when there is no packet.
+pub fn no_packet(alloc: Global, formula: &Formula) -> Result<Formula, FormRefusal>
+    ensures form { IfOk result (λ p. p ≡ no_packet_of formula.now) }
+    ensures large { (result ≡ Err Large) ↔ (most_nodes < nodes (no_packet_of formula.now)) }
+{
+    changed(alloc, formula, &Change::NoPacket)
 }
 
 // The formula with each atom replaced, whose nodes are counted before it is made.
@@ -100,33 +117,41 @@ fn count_at_atom(change: &Change, pred: Pred, terms: &Terms) -> u64
 {
     match change {
         Change::AddRow(r, ts) => {
-            if is_same_pred(pred, *r) {
+            if pred.is_same(*r) {
                 count_of_same(terms, ts) + 2
             } else {
                 1
             }
         }
         Change::DropRow(r, ts) => {
-            if is_same_pred(pred, *r) {
+            if pred.is_same(*r) {
                 count_of_same(terms, ts) + 3
             } else {
                 1
             }
         }
+        Change::DropMatch(ts) => {
+            if pred.is_same(Pred::Ft) {
+                count_of_rule(ts, terms) + 3
+            } else {
+                1
+            }
+        }
         Change::AddFlood(ts) => {
-            if is_same_pred(pred, Pred::Sent) {
+            if pred.is_same(Pred::Sent) {
                 count_of_floods(ts, terms) + 2
             } else {
                 1
             }
         }
         Change::FixPacket(ts) => {
-            if is_same_pred(pred, Pred::RcvThis) {
+            if pred.is_same(Pred::RcvThis) {
                 count_of_same(terms, ts)
             } else {
                 1
             }
         }
+        Change::NoPacket => 1,
     }
 }
 
@@ -151,22 +176,31 @@ fn count_of_equations(us: &[Term], ts: &[Term]) -> u64
     }
 }
 
+// Whether these are the terms of a match and of a rule.
+fn are_match(ts: &Terms, us: &Terms) -> bool
+    ensures { result ≡ is_match ts.now us.now }
+{
+    match ts.as_slice() {
+        [_, _, _, _] => match us.as_slice() {
+            [_, _, _, _, _] => true,
+            _ => false,
+        },
+        _ => false,
+    }
+}
+
+fn count_of_rule(ts: &Terms, us: &Terms) -> u64
+    ensures count { result ≡ nodes (rule_of_terms ts.now us.now) }
+    ensures few { result ≤ 7 }
+{
+    if are_match(ts, us) { 7 } else { 1 }
+}
+
 fn count_of_floods(ts: &Terms, us: &Terms) -> u64
     ensures count { result ≡ nodes (floods_of ts.now us.now) }
     ensures few { result ≤ 10 }
 {
-    count_of_flood(ts.as_slice(), us.as_slice())
-}
-
-fn count_of_flood(ts: &[Term], us: &[Term]) -> u64
-    ensures count { result ≡ nodes (floods_of ts.now us.now) }
-    ensures few { result ≤ 10 }
-{
-    if ts.len() == 4 && us.len() == 5 {
-        10
-    } else {
-        1
-    }
+    if are_match(ts, us) { 10 } else { 1 }
 }
 
 #[cycle(made)]
@@ -225,8 +259,10 @@ fn at_atom(alloc: Global, change: &Change, pred: Pred, terms: &Terms) -> Result<
     match change {
         Change::AddRow(r, ts) => or_row(alloc, *r, ts, pred, terms),
         Change::DropRow(r, ts) => not_row(alloc, *r, ts, pred, terms),
+        Change::DropMatch(ts) => not_match(alloc, ts, pred, terms),
         Change::AddFlood(ts) => or_flood(alloc, ts, pred, terms),
         Change::FixPacket(ts) => is_row(alloc, ts, pred, terms),
+        Change::NoPacket => Ok(no_row(pred, terms)),
     }
 }
 
@@ -235,7 +271,7 @@ fn or_row(alloc: Global, r: Pred, ts: &Terms, q: Pred, us: &Terms) -> Result<For
     ensures { IfOk result (λ f. f ≡ or_row_of r ts.now q us.now) }
 {
     let atom = Formula::Atom(q, us.copy());
-    if is_same_pred(q, r) {
+    if q.is_same(r) {
         let atom = Boxed::new(alloc, atom)?;
         let equal = Boxed::new(alloc, same(alloc, us.as_slice(), ts.as_slice())?)?;
         Ok(Formula::Or(atom, equal))
@@ -249,7 +285,7 @@ fn not_row(alloc: Global, r: Pred, ts: &Terms, q: Pred, us: &Terms) -> Result<Fo
     ensures { IfOk result (λ f. f ≡ not_row_of r ts.now q us.now) }
 {
     let atom = Formula::Atom(q, us.copy());
-    if is_same_pred(q, r) {
+    if q.is_same(r) {
         let atom = Boxed::new(alloc, atom)?;
         let equal = Boxed::new(alloc, same(alloc, us.as_slice(), ts.as_slice())?)?;
         let differ = Boxed::new(alloc, Formula::Not(equal))?;
@@ -260,11 +296,39 @@ fn not_row(alloc: Global, r: Pred, ts: &Terms, q: Pred, us: &Terms) -> Result<Fo
 }
 
 #[tactic(auto, using(csdn_core::specs::Tree::shapes))]
+fn not_match(alloc: Global, ts: &Terms, q: Pred, us: &Terms) -> Result<Formula, AllocError>
+    ensures { IfOk result (λ f. f ≡ not_match_of ts.now q us.now) }
+{
+    let atom = Formula::Atom(q, us.copy());
+    if q.is_same(Pred::Ft) {
+        let atom = Boxed::new(alloc, atom)?;
+        let own = Boxed::new(alloc, rule_of(alloc, ts.as_slice(), us.as_slice())?)?;
+        let other = Boxed::new(alloc, Formula::Not(own))?;
+        Ok(Formula::And(atom, other))
+    } else {
+        Ok(atom)
+    }
+}
+
+// The first four of five terms are those of the match.
+fn rule_of(alloc: Global, ts: &[Term], us: &[Term]) -> Result<Formula, AllocError>
+    ensures { IfOk result (λ f. f ≡ rule_of_terms ts.now us.now) }
+{
+    match ts {
+        [s, a, b, i] => match us {
+            [u, v, w, j, _] => same(alloc, &[*u, *v, *w, *j], &[*s, *a, *b, *i]),
+            _ => Ok(Formula::False),
+        },
+        _ => Ok(Formula::False),
+    }
+}
+
+#[tactic(auto, using(csdn_core::specs::Tree::shapes))]
 fn or_flood(alloc: Global, ts: &Terms, q: Pred, us: &Terms) -> Result<Formula, AllocError>
     ensures { IfOk result (λ f. f ≡ or_flood_of ts.now q us.now) }
 {
     let atom = Formula::Atom(q, us.copy());
-    if is_same_pred(q, Pred::Sent) {
+    if q.is_same(Pred::Sent) {
         let atom = Boxed::new(alloc, atom)?;
         let flooded = Boxed::new(alloc, floods(alloc, ts.as_slice(), us.as_slice())?)?;
         Ok(Formula::Or(atom, flooded))
@@ -276,10 +340,20 @@ fn or_flood(alloc: Global, ts: &Terms, q: Pred, us: &Terms) -> Result<Formula, A
 fn is_row(alloc: Global, ts: &Terms, q: Pred, us: &Terms) -> Result<Formula, AllocError>
     ensures { IfOk result (λ f. f ≡ is_row_of ts.now q us.now) }
 {
-    if is_same_pred(q, Pred::RcvThis) {
+    if q.is_same(Pred::RcvThis) {
         same(alloc, us.as_slice(), ts.as_slice())
     } else {
         Ok(Formula::Atom(q, us.copy()))
+    }
+}
+
+fn no_row(q: Pred, us: &Terms) -> Formula
+    ensures { result ≡ no_row_of q us.now }
+{
+    if q.is_same(Pred::RcvThis) {
+        Formula::False
+    } else {
+        Formula::Atom(q, us.copy())
     }
 }
 
@@ -318,16 +392,4 @@ pub fn same(alloc: Global, us: &[Term], ts: &[Term]) -> Result<Formula, AllocErr
     let rest = same(alloc, &us[1..], &ts[1..])?;
     let rest = Boxed::new(alloc, rest)?;
     Ok(Formula::And(first, rest))
-}
-
-fn is_same_pred(p: Pred, q: Pred) -> bool
-    ensures { result ≡ same_pred p q }
-{
-    match (p, q) {
-        (Pred::Stored(r), Pred::Stored(s)) => r == s,
-        (Pred::Ft, Pred::Ft) => true,
-        (Pred::Sent, Pred::Sent) => true,
-        (Pred::RcvThis, Pred::RcvThis) => true,
-        _ => false,
-    }
 }

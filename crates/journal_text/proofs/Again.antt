@@ -7,8 +7,8 @@ use Rattle.text_lines.specs.Text.{lines_left}
 use Rattle.text_lines.specs.Machine.{run, after_step, reading}
 use Rattle.text_lines.specs.Printed.{is_word, is_line, are_lines, numbered}
 use Rattle.text_lines.proofs.PrintedLaws.{words_joined, lines_printed, word_decimal, number_again}
-use Rattle.csdn_core.specs.declared.event.Entry.{Entry}
-use Rattle.csdn_core.specs.declared.event.Entry.TheVariants.{Join, Packet}
+use Rattle.csdn_history.specs.declared.entry.Entry.{Entry}
+use Rattle.csdn_history.specs.declared.entry.Entry.TheVariants.{Join, Packet}
 use Rattle.journal_text.specs.declared.note.Note.{Note}
 use Rattle.journal_text.specs.declared.note.Note.TheVariants.{Kept, Flow}
 use Rattle.journal_text.specs.declared.read.Place.TheVariants as place

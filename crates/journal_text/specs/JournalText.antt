@@ -4,8 +4,8 @@ use Rattle.std.specs.List.{flat_map, list_all}
 use Rattle.text_lines.specs.Text.{words}
 use Rattle.text_lines.specs.Machine.{Format}
 use Rattle.text_lines.specs.Printed.{line_text}
-use Rattle.csdn_core.specs.declared.event.Entry.{Entry}
-use Rattle.csdn_core.specs.declared.event.Entry.TheVariants.{Join, Packet}
+use Rattle.csdn_history.specs.declared.entry.Entry.{Entry}
+use Rattle.csdn_history.specs.declared.entry.Entry.TheVariants.{Join, Packet}
 use Rattle.journal_text.specs.declared.note.Note.{Note}
 use Rattle.journal_text.specs.declared.note.Note.TheVariants.{Kept, Flow}
 use Rattle.journal_text.specs.declared.read.Place.{Place}

@@ -3,7 +3,7 @@ use Rattle.std.specs.Prelude.{ℕ, Bool, false, ◌&&◌, if◌then◌else◌, L
 use Rattle.std.specs.Str.{bytes_eq}
 use Rattle.text_lines.specs.Text.{next, ended}
 use Rattle.text_lines.specs.Numbers.{◌>>=◌, number_at}
-use Rattle.csdn_core.specs.declared.event.Entry.TheVariants.{Join, Packet}
+use Rattle.csdn_history.specs.declared.entry.Entry.TheVariants.{Join, Packet}
 use Rattle.journal_text.specs.declared.note.Note.{Note}
 use Rattle.journal_text.specs.declared.note.Note.TheVariants.{Kept, Flow}
 

@@ -4,7 +4,7 @@ ghost use Rattle.text_lines.specs.Numbers.{number_at};
 ghost use Rattle.journal_text.specs.Notes.{flow_of, header_of, is_end as is_end_line, join_of, most, most_seat, note_of, packet_of};
 
 use crate::note::Note;
-use csdn_core::event::Entry;
+use csdn_history::entry::Entry;
 use text_lines::Words;
 
 const MOST: u64 = 0xffff_ffff_ffff_ffff;

@@ -1,5 +1,5 @@
 //! The notes of a journal.
-use csdn_core::event::Entry;
+use csdn_history::entry::Entry;
 use sqlite_items::Items;
 
 /// The notes of a journal, in order.

@@ -6,7 +6,7 @@ ghost use Rattle.text_lines.specs.Printed.{line_text};
 ghost use Rattle.journal_text.specs.JournalText.{are_notes, entry_words, header, is_entry, is_note, journal_format, journal_text, note_words};
 
 use crate::note::{Note, Notes};
-use csdn_core::event::Entry;
+use csdn_history::entry::Entry;
 use csdn_core::program::Text;
 use sqlite_items::Items;
 use std::alloc::{AllocError, Global};

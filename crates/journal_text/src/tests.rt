@@ -1,6 +1,6 @@
 //! Worked texts: what is read, which line is refused, and what is printed.
 use super::*;
-use csdn_core::event::Entry;
+use csdn_history::entry::Entry;
 use std::alloc::Global;
 use std::test::Fail;
 

@@ -15,20 +15,7 @@ use Rattle.net_structs.specs.declared.row.Row.{Row}
 use Rattle.net_structs.specs.declared.case.Case.{Case}
 use Rattle.net_structs.specs.Rows.{row_cmp}
 use Rattle.net_structs.specs.Networks.{static_cmp}
-
--- a `rel`, `ft` or `sent`: what a state has tuples of
-abbrev pub IsKept : Parts → Pred → Type 0
-IsKept P (Stored r) = is_fixed P r.0 ≡ false
-IsKept P Ft = Unit {0}
-IsKept P Sent = Unit {0}
-IsKept P RcvThis = ⊥
-
--- a tuple of such a relation, of elements of its sorts
-pub record IsStateTuple (P : Parts) (N : Network) (row : Row) : Type 0 where
-  pub kept : IsKept P row.pred
-  pub sorts : List Sort
-  pub declared : sorts_of (signature P) row.pred ≡ Some sorts
-  pub cells : HaveElements N sorts row.cells
+pub use Rattle.net_structs.specs.StateTuples.{IsKept, IsStateTuple}
 
 abbrev pub IsState : Parts → Network → Option (List Row) → Type 0
 IsState P N None = Unit {0}

@@ -8,3 +8,5 @@ pub mod Taken
 pub mod Stored
 pub mod Exact
 pub mod OneList
+pub mod Rising
+pub mod RowParts

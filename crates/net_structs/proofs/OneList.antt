@@ -13,7 +13,7 @@ use Rattle.net_structs.specs.Rows.{row_cmp, row_total, held}
 use Rattle.net_structs.proofs.Tied.{row_is, held_tied}
 
 -- rows that compare equal are the same
-equal_rows : (q row : Row) → row_cmp q row ≡ Equal → q ≡ row
+pub equal_rows : (q row : Row) → row_cmp q row ≡ Equal → q ≡ row
 equal_rows q row equal =
     let parts = and_parts (same_pred q.pred row.pred) (same_cells q.cells row.cells) (sym (row_is q row) ∙ ap is_eq equal) in
     ap₂ (λ r cells. record { pred = r; cells = cells }) (same_pred-is q.pred row.pred parts.0) (same_cells-is q.cells row.cells parts.1)

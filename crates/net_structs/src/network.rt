@@ -9,13 +9,15 @@ ghost use Rattle.net_structs.specs.Networks.{IsServable, as_stored, bare_network
 
 use crate::cells::Cells;
 use crate::row::{Row, Rows};
-use csdn_core::event::Elements;
 use csdn_core::terms::{ConstId, Pred, RelId, Sort};
 use sqlite_items::Items;
 use std::alloc::{AllocError, Global};
 use std::cmp::Ordering;
 use std::collections::BTreeSet;
 use std::marker::Model;
+
+/// Elements of a sort.
+pub type Elements = Items<u64>;
 
 /// A tuple of a static relation. They are ordered by their relations, in the program's order, and then by their elements.
 #[derive(Drop)]
@@ -66,13 +68,24 @@ impl Ord for FixedRow {
 }
 
 /// A network of a program: what doesn't change while it runs. Clauses see it as `csdn_core` defines it.
-#[derive(Drop)]
 pub struct Network {
     pub(crate) sw: Elements,
     pub(crate) ho: Elements,
     pub(crate) pr: Elements,
     pub(crate) consts: Elements,
     pub(crate) rows: BTreeSet<FixedRow>,
+}
+
+impl Drop for Network {
+    fn drop(self) {
+        let Network {
+            sw: _sw,
+            ho: _ho,
+            pr: _pr,
+            consts: _consts,
+            rows: _rows,
+        } = self;
+    }
 }
 
 impl Model for Network {
@@ -112,20 +125,9 @@ impl Network {
     pub fn with_values(self, values: Elements) -> Network
         ensures { result ≡ record self { constants = values } }
     {
-        let Network {
-            sw,
-            ho,
-            pr,
-            rows,
-            ..
-        } = self;
-        Network {
-            sw,
-            ho,
-            pr,
-            consts: values,
-            rows,
-        }
+        let mut network = self;
+        network.consts = values;
+        network
     }
 
     /// Puts a tuple into a static relation, and says whether it is new there.

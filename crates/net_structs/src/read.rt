@@ -7,9 +7,8 @@ ghost use Rattle.net_structs.specs.Networks.{fixed_cmp, fixed_rows as fixed_rows
 ghost use Rattle.net_structs.specs.Refusals.{IsAnswer, IsRising, empty_sort as first_empty, fault_in, have_elements, is_empty as is_empty_list, is_static_tuple, missing_port as first_missing, strange_const_from, strange_row_from};
 
 use crate::cells::Cells;
-use crate::network::{FixedRow, Network, listed};
+use crate::network::{Elements, FixedRow, Network, listed};
 use crate::row::{Row, Rows};
-use csdn_core::event::Elements;
 use csdn_core::program::{Constant, Program};
 use csdn_core::terms::{Pred, Sort};
 use std::alloc::{AllocError, Global};

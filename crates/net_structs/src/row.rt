@@ -2,7 +2,6 @@
 ghost use Rattle.std.specs.Prelude.{◌≡◌, refl};
 ghost use Rattle.std.specs.Ordering.{as_partial_cmp, eq_by_cmp};
 ghost use Rattle.std.specs.Cmp.{eq_by_cmp_equiv, partial_equiv_from_equiv, partial_order_from_total};
-ghost use Rattle.csdn_core.specs.Network.{same_pred};
 ghost use Rattle.net_structs.specs.Rows.{kind_of, number_of, row_cmp, row_total};
 
 use crate::cells::Cells;
@@ -39,18 +38,6 @@ fn number(pred: Pred) -> u32
     match pred {
         Pred::Stored(rel) => rel.0,
         Pred::Ft | Pred::Sent | Pred::RcvThis => 0,
-    }
-}
-
-pub(crate) fn is_same_pred(p: Pred, q: Pred) -> bool
-    ensures { result ≡ same_pred p q }
-{
-    match (p, q) {
-        (Pred::Stored(r), Pred::Stored(s)) => r == s,
-        (Pred::Ft, Pred::Ft) => true,
-        (Pred::Sent, Pred::Sent) => true,
-        (Pred::RcvThis, Pred::RcvThis) => true,
-        _ => false,
     }
 }
 

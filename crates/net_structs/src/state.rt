@@ -1,7 +1,8 @@
 //! States.
-ghost use Rattle.std.specs.Prelude.{◌≡◌, [], not, IfOk, OnErr};
+ghost use Rattle.std.specs.Prelude.{◌≡◌, ◌++◌, [], not, IfOk, OnOk, OnErr};
 ghost use Rattle.csdn_core.specs.Execution.{put, take_out};
 ghost use Rattle.net_structs.specs.Rows.{held, row_cmp, rows_of};
+ghost use Rattle.net_structs.specs.Flows.{IsPast, output_of, outputs_of};
 ghost use Rattle.net_structs.specs.Views.{but};
 ghost use Rattle.std.specs.BTreeMap.{is_at};
 ghost use Rattle.std.specs.Set.{remove_key};
@@ -9,7 +10,9 @@ ghost use Rattle.std.specs.BTreeSet.{insert_key};
 ghost use Rattle.std.specs.List.Sorted.{IsStrictlySortedBy};
 
 use crate::cells::Cells;
-use crate::row::{Row, Rows, is_same_pred};
+use crate::network::Elements;
+use crate::row::{Row, Rows};
+use csdn_core::event::Match;
 use csdn_core::program::Program;
 use csdn_core::terms::Pred;
 use sqlite_items::Items;
@@ -93,17 +96,40 @@ impl State {
         }
     }
 
+    /// The tuples of a state rise, each once. It does nothing, and takes no memory.
+    pub fn rises(&self)
+        ensures { IsStrictlySortedBy row_cmp self.now }
+    {
+        let _rows = &self.rows;
+    }
+
     /// The tuples of a relation, rising.
     pub fn rows(&self, alloc: Global, pred: Pred) -> Result<Rows, AllocError>
-        ensures { IfOk result (λ rows. rows ≡ rows_of pred self.now) }
+        ensures rows { IfOk result (λ rows. rows ≡ rows_of pred self.now) }
+        ensures rising { IfOk result (λ rows. IsStrictlySortedBy row_cmp rows) }
     {
         let mut rows = Items::new(alloc);
         'rows: for row in &self.rows {
-            if is_same_pred(pred, row.pred) {
+            if pred.is_same(row.pred) {
                 rows.push(row.clone()?)?;
             }
         }
         Ok(rows)
+    }
+
+    /// The egress ports of the flow rules of a match, rising. It costs what is there of the match, and the way to it.
+    pub fn outputs(&self, alloc: Global, key: &Match) -> Result<Elements, AllocError>
+        ensures { IfOk result (λ ports. ports ≡ outputs_of key.now self.now) }
+    {
+        let first = Row {
+            pred: Pred::Ft,
+            cells: Cells::of(&[key.s, key.a, key.b, key.i]),
+        };
+        let mut ports = Items::new(alloc);
+        'rows: for row in self.rows.range(first..past(key)) {
+            push_output(&mut ports, key, row)?;
+        }
+        Ok(ports)
     }
 
     /// All tuples, rising.
@@ -124,5 +150,39 @@ impl State {
     {
         let rows = self.rows.clone()?;
         Ok(State { rows })
+    }
+}
+
+// A row behind the flow rules of a match.
+fn past(key: &Match) -> Row
+    ensures { IsPast key.now result }
+{
+    if key.i == 0xffff_ffff_ffff_ffff {
+        return Row {
+            pred: Pred::Sent,
+            cells: Cells::new(),
+        };
+    }
+    Row {
+        pred: Pred::Ft,
+        cells: Cells::of(&[key.s, key.a, key.b, key.i + 1]),
+    }
+}
+
+// Appends the egress port of a flow rule of the match; nothing for another row.
+fn push_output(ports: &mut Elements, key: &Match, row: &Row) -> Result<(), AllocError>
+    ensures { OnOk result (ports.new ≡ ports.old ++ output_of key.now row.now) }
+{
+    if !Pred::Ft.is_same(row.pred) {
+        return Ok(());
+    }
+    match row.cells.as_slice() {
+        [s, a, b, i, o] => {
+            if key.s == *s && (key.a == *a && (key.b == *b && (key.i == *i))) {
+                ports.push(*o)?;
+            }
+            Ok(())
+        }
+        _ => Ok(()),
     }
 }

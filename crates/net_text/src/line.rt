@@ -8,11 +8,11 @@ ghost use Rattle.net_text.specs.Gives.{Finds};
 
 use crate::place::{Open, Values};
 use crate::refusal::{Stop, Why};
-use csdn_core::event::{Elements, Packet};
+use csdn_core::event::Packet;
 use csdn_core::program::{Constant, Program, Relation};
 use csdn_core::terms::{RelId, Sort};
 use net_structs::cells::Cells;
-use net_structs::network::Network;
+use net_structs::network::{Elements, Network};
 use net_structs::read::{are_elements, missing_port};
 use sqlite_items::Items;
 use std::alloc::{AllocError, Global};

@@ -1,7 +1,7 @@
 //! How far the reader of a network has come.
-use csdn_core::event::{Elements, Packet};
+use csdn_core::event::Packet;
 use net_structs::case::Case;
-use net_structs::network::Network;
+use net_structs::network::{Elements, Network};
 use net_structs::state::State;
 use sqlite_items::Items;
 

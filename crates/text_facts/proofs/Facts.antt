@@ -6,7 +6,7 @@ use Rattle.csdn_core.specs.WellSorted.{IsNumeral}
 use Rattle.csdn_tokens.specs.declared.Token.{Token}
 use Rattle.csdn_tree.specs.declared.syntax.RawProgram.{RawProgram}
 use Rattle.csdn_tree.specs.Numerals.{items_numerals}
-use Rattle.csdn_tree.specs.FromText.{items_names, KeepsStatics, IsFromText}
+use Rattle.csdn_tree.specs.FromText.{items_names, KeepsStatics, HasSeconds, IsFromText}
 use Rattle.csdn_text.specs.Derives.{Mark, tokens_of}
 use Rattle.csdn_text.specs.Reading.{Reads}
 use Rattle.text_facts.proofs.Tokens.{Rise, AreFine, tokens_fine, tokens_rise, slack}
@@ -37,4 +37,5 @@ from_text text raw h =
       names = All-from_recursion IsName (items_names raw.items) d.0.0.0;
       numerals = All-from_recursion IsNumeral (items_numerals raw.items) d.0.0.1;
       statics = All-from_recursion KeepsStatics raw.items d.0.0.2;
+      seconds = All-from_recursion HasSeconds raw.items d.0.0.3;
     }

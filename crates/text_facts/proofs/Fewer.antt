@@ -39,6 +39,7 @@ command_fewer (raw_pick name sort p x y) a b h =
 command_fewer (c.Insert name ts) a b h = omega (arith, h.0, terms_end (name.at + 1) b ts h.1)
 command_fewer (c.Remove name ts) a b h = omega (arith, h.0, terms_end (name.at + 1) b ts h.1)
 command_fewer (c.Install w) a b h = omega (arith, terms_end a b (Name w.switch ∷ w.source ∷ w.target ∷ w.ingress ∷ w.egress ∷ []) h)
+command_fewer (c.Uninstall w) a b h = omega (arith, terms_end a b (Name w.switch ∷ w.source ∷ w.target ∷ w.ingress ∷ w.egress ∷ []) h)
 command_fewer (c.Forward w) a b h = omega (arith, terms_end a b (Name w.switch ∷ w.source ∷ w.target ∷ w.ingress ∷ w.egress ∷ []) h)
 command_fewer (c.Flood w) a b h = omega (arith, terms_end a b (Name w.switch ∷ w.source ∷ w.target ∷ w.ingress ∷ []) h)
 
@@ -52,6 +53,7 @@ item_fewer (item.Relation x) a b h = omega (arith, h.0, rows_end x.rows (x.name.
 item_fewer (item.Constant name sort) a b h = omega (arith, h.0, h.1)
 item_fewer (item.Invariant kind name p) a b h = omega (arith, h.0, formula_fewer p (name.at + 1) b h.1)
 item_fewer (item.Handler x) a b h = omega (arith, h.0, h.1, h.2, h.3, h.4, command_fewer x.body (port_place x.ingress + 1) b h.5)
+item_fewer (item.Timeout t) a b h = omega (arith, h.0, h.1)
 
 pub items_fewer : (xs : List RawItem) (a b : ℕ) → ItemsWithin a xs b → a + items_binders xs ≤ b
 unfolding ItemsWithin items_binders

@@ -1,5 +1,5 @@
--- The names in the value of whatever the grammar derives are names, the numerals are those of ports, and no `static`
--- relation has rows.
+-- The names in the value of whatever the grammar derives are names, the numerals are those of ports, no `static`
+-- relation has rows, and the seconds of timeouts are numbers.
 use Rattle.std.proofs.Common.{◌≡◌, ℕ, List, [], ◌∷◌, ◌++◌, Option, Some, None, inl, inr, subst, refl, sym, true≢false}
 use Rattle.std.proofs.ByRecursion.{All-append}
 use Rattle.std.specs.List.{AllByRecursion as ByRecursion}
@@ -16,7 +16,7 @@ use Rattle.csdn_tree.specs.declared.syntax.RawCommand.{RawCommand}
 use Rattle.csdn_tree.specs.declared.syntax.RawCommand.TheVariants as c
 use Rattle.csdn_tree.specs.RawTree.{Not-is, And-is, Or-is, Implies-is, Iff-is, Forall-is, Exists-is, Seq-is, If-is, Pick-is}
 use Rattle.csdn_tree.specs.Numerals.{term_numerals, terms_numerals, formula_numerals, command_numerals, port_numerals, rows_numerals, item_numerals, items_numerals}
-use Rattle.csdn_tree.specs.FromText.{item_names, items_names, KeepsStatics}
+use Rattle.csdn_tree.specs.FromText.{item_names, items_names, KeepsStatics, HasSeconds}
 use Rattle.csdn_text.specs.declared.parts.Action.{Action}
 use Rattle.csdn_text.specs.declared.parts.Action.TheVariants as a
 use Rattle.csdn_text.specs.declared.parts.AtomRest.{AtomRest}
@@ -25,7 +25,7 @@ use Rattle.csdn_text.specs.declared.parts.FlowTerms.{FlowTerms}
 use Rattle.csdn_text.specs.declared.parts.PacketTerms.{PacketTerms}
 use Rattle.csdn_text.specs.declared.parts.Quantifier.{Quantifier}
 use Rattle.csdn_text.specs.declared.parts.Quantifier.TheVariants as q
-use Rattle.csdn_text.specs.Symbols.{Nonterminal, program, items, item, static_item, const_item, rel_item, invariant_item, invariant_kind, handler_item, handler_port, sorts, sort_list, more_sorts, sort, initial, rows, more_rows, row, terms, more_terms, name, term, port, formula, binds, more_binds, iff, iff_tail, implies, implies_tail, either, either_tail, both, both_tail, unary, atom, atom_rest, fact, flow, packet, block, commands, more_commands, command, branch, choice, otherwise, action, Symbol, token, part, Value, Values, made, Rule}
+use Rattle.csdn_text.specs.Symbols.{Nonterminal, program, items, item, static_item, const_item, rel_item, invariant_item, invariant_kind, handler_item, handler_port, timeout_item, sorts, sort_list, more_sorts, sort, initial, rows, more_rows, row, terms, more_terms, name, term, port, formula, binds, more_binds, iff, iff_tail, implies, implies_tail, either, either_tail, both, both_tail, unary, atom, atom_rest, fact, flow, packet, block, commands, more_commands, command, branch, choice, otherwise, action, Symbol, token, part, Value, Values, made, Rule}
 use Rattle.csdn_text.specs.Grammar.{joined, quantified, atom_of, command_of}
 use Rattle.csdn_text.specs.Derives.{Mark, IsRule, Derives}
 use Rattle.csdn_text.specs.Derives.Derives.{nothing, one, by_rule}
@@ -79,19 +79,21 @@ abbrev ActionFine : Action → Type 0
 ActionFine (a.Insert ts) = Ports (terms_numerals ts)
 ActionFine (a.Remove ts) = Ports (terms_numerals ts)
 ActionFine (a.Install ts) = FlowFine ts
+ActionFine (a.Uninstall ts) = FlowFine ts
 ActionFine (a.Forward ts) = FlowFine ts
 ActionFine (a.Flood ts) = PacketFine ts
 
 -- the names and the numerals in the value of a nonterminal are such
 abbrev Fine : (n : Nonterminal) → Value n → Type 0
-Fine program raw = Names (items_names raw.items) × Ports (items_numerals raw.items) × ByRecursion KeepsStatics raw.items
-Fine items xs = Names (items_names xs) × Ports (items_numerals xs) × ByRecursion KeepsStatics xs
-Fine item x = Names (item_names x) × Ports (item_numerals x) × KeepsStatics x
-Fine static_item x = Names (item_names x) × Ports (item_numerals x) × KeepsStatics x
-Fine const_item x = Names (item_names x) × Ports (item_numerals x) × KeepsStatics x
-Fine rel_item x = Names (item_names x) × Ports (item_numerals x) × KeepsStatics x
-Fine invariant_item x = Names (item_names x) × Ports (item_numerals x) × KeepsStatics x
-Fine handler_item x = Names (item_names x) × Ports (item_numerals x) × KeepsStatics x
+Fine program raw = Names (items_names raw.items) × Ports (items_numerals raw.items) × ByRecursion KeepsStatics raw.items × ByRecursion HasSeconds raw.items
+Fine items xs = Names (items_names xs) × Ports (items_numerals xs) × ByRecursion KeepsStatics xs × ByRecursion HasSeconds xs
+Fine item x = Names (item_names x) × Ports (item_numerals x) × KeepsStatics x × HasSeconds x
+Fine static_item x = Names (item_names x) × Ports (item_numerals x) × KeepsStatics x × HasSeconds x
+Fine const_item x = Names (item_names x) × Ports (item_numerals x) × KeepsStatics x × HasSeconds x
+Fine rel_item x = Names (item_names x) × Ports (item_numerals x) × KeepsStatics x × HasSeconds x
+Fine invariant_item x = Names (item_names x) × Ports (item_numerals x) × KeepsStatics x × HasSeconds x
+Fine handler_item x = Names (item_names x) × Ports (item_numerals x) × KeepsStatics x × HasSeconds x
+Fine timeout_item x = Names (item_names x) × Ports (item_numerals x) × KeepsStatics x × HasSeconds x
 Fine handler_port x = Ports (port_numerals x)
 Fine initial rs = Ports (rows_numerals rs)
 Fine rows rs = Ports (rows_numerals rs)
@@ -189,6 +191,7 @@ unfolding command_numerals
 command_fine x (a.Insert ts) h = h
 command_fine x (a.Remove ts) h = h
 command_fine x (a.Install ts) h = h
+command_fine x (a.Uninstall ts) h = h
 command_fine x (a.Forward ts) h = h
 command_fine x (a.Flood ts) h = h
 
@@ -218,31 +221,34 @@ Keeps n r = (us : Values r.parts) → Row r.parts us → Fine n (made r.parts r.
 
 keeps : (n : Nonterminal) (r : Rule n) → IsRule n r → Keeps n r
 unfolding formula_numerals command_numerals
-keeps program r (inl e) = subst (Keeps program) e (λ us g. (All-append IsName (item_names us.0) (items_names us.1.0) g.0.0 g.1.0.0, two (item_numerals us.0) (items_numerals us.1.0) g.0.1 g.1.0.1, (g.0.2, g.1.0.2)))
+keeps program r (inl e) = subst (Keeps program) e (λ us g. (All-append IsName (item_names us.0) (items_names us.1.0) g.0.0 g.1.0.0, two (item_numerals us.0) (items_numerals us.1.0) g.0.1 g.1.0.1, (g.0.2, g.1.0.2), (g.0.3, g.1.0.3)))
 keeps program r (inr (a)) = absurd a
-keeps items r (inl e) = subst (Keeps items) e (λ us g. (All-append IsName (item_names us.0) (items_names us.1.0) g.0.0 g.1.0.0, two (item_numerals us.0) (items_numerals us.1.0) g.0.1 g.1.0.1, (g.0.2, g.1.0.2)))
-keeps items r (inr (inl e)) = subst (Keeps items) e (λ us g. (tt, tt, tt))
+keeps items r (inl e) = subst (Keeps items) e (λ us g. (All-append IsName (item_names us.0) (items_names us.1.0) g.0.0 g.1.0.0, two (item_numerals us.0) (items_numerals us.1.0) g.0.1 g.1.0.1, (g.0.2, g.1.0.2), (g.0.3, g.1.0.3)))
+keeps items r (inr (inl e)) = subst (Keeps items) e (λ us g. (tt, tt, tt, tt))
 keeps items r (inr (inr (a))) = absurd a
 keeps item r (inl e) = subst (Keeps item) e (λ us g. g.0)
 keeps item r (inr (inl e)) = subst (Keeps item) e (λ us g. g.0)
 keeps item r (inr (inr (inl e))) = subst (Keeps item) e (λ us g. g.0)
 keeps item r (inr (inr (inr (inl e)))) = subst (Keeps item) e (λ us g. g.0)
 keeps item r (inr (inr (inr (inr (inl e))))) = subst (Keeps item) e (λ us g. g.0)
-keeps item r (inr (inr (inr (inr (inr (a)))))) = absurd a
-keeps static_item r (inl e) = subst (Keeps static_item) e (λ us g. ((g.1.0, tt), tt, λ is. refl))
+keeps item r (inr (inr (inr (inr (inr (inl e)))))) = subst (Keeps item) e (λ us g. g.0)
+keeps item r (inr (inr (inr (inr (inr (inr (a))))))) = absurd a
+keeps static_item r (inl e) = subst (Keeps static_item) e (λ us g. ((g.1.0, tt), tt, (λ is. refl), tt))
 keeps static_item r (inr (a)) = absurd a
-keeps const_item r (inl e) = subst (Keeps const_item) e (λ us g. ((g.1.0, tt), tt, tt))
+keeps const_item r (inl e) = subst (Keeps const_item) e (λ us g. ((g.1.0, tt), tt, tt, tt))
 keeps const_item r (inr (a)) = absurd a
-keeps rel_item r (inl e) = subst (Keeps rel_item) e (λ us g. ((g.1.0, tt), g.1.1.1.0, λ is. absurd (true≢false (sym is))))
+keeps rel_item r (inl e) = subst (Keeps rel_item) e (λ us g. ((g.1.0, tt), g.1.1.1.0, (λ is. absurd (true≢false (sym is))), tt))
 keeps rel_item r (inr (a)) = absurd a
-keeps invariant_item r (inl e) = subst (Keeps invariant_item) e (λ us g. ((g.1.0, tt), g.1.1.1.0, tt))
+keeps invariant_item r (inl e) = subst (Keeps invariant_item) e (λ us g. ((g.1.0, tt), g.1.1.1.0, tt, tt))
 keeps invariant_item r (inr (a)) = absurd a
 keeps invariant_kind r (inl e) = subst (Keeps invariant_kind) e (λ us g. tt)
 keeps invariant_kind r (inr (inl e)) = subst (Keeps invariant_kind) e (λ us g. tt)
 keeps invariant_kind r (inr (inr (inl e))) = subst (Keeps invariant_kind) e (λ us g. tt)
 keeps invariant_kind r (inr (inr (inr (a)))) = absurd a
-keeps handler_item r (inl e) = subst (Keeps handler_item) e (λ us g. (tt, two (port_numerals us.1.1.1.1.1.1.1.1.0) (command_numerals us.1.1.1.1.1.1.1.1.1.1.0) g.1.1.1.1.1.1.1.1.0 g.1.1.1.1.1.1.1.1.1.1.0, tt))
+keeps handler_item r (inl e) = subst (Keeps handler_item) e (λ us g. (tt, two (port_numerals us.1.1.1.1.1.1.1.1.0) (command_numerals us.1.1.1.1.1.1.1.1.1.1.0) g.1.1.1.1.1.1.1.1.0 g.1.1.1.1.1.1.1.1.1.1.0, tt, tt))
 keeps handler_item r (inr (a)) = absurd a
+keeps timeout_item r (inl e) = subst (Keeps timeout_item) e (λ us g. (tt, tt, tt, g.1.0.0.number g.1.0.1))
+keeps timeout_item r (inr (a)) = absurd a
 keeps handler_port r (inl e) = subst (Keeps handler_port) e (λ us g. (g.0, tt))
 keeps handler_port r (inr (inl e)) = subst (Keeps handler_port) e (λ us g. tt)
 keeps handler_port r (inr (inr (a))) = absurd a
@@ -356,7 +362,8 @@ keeps action r (inr (inl e)) = subst (Keeps action) e (λ us g. g.1.0)
 keeps action r (inr (inr (inl e))) = subst (Keeps action) e (λ us g. g.1.0)
 keeps action r (inr (inr (inr (inl e)))) = subst (Keeps action) e (λ us g. g.1.0)
 keeps action r (inr (inr (inr (inr (inl e))))) = subst (Keeps action) e (λ us g. g.1.0)
-keeps action r (inr (inr (inr (inr (inr (a)))))) = absurd a
+keeps action r (inr (inr (inr (inr (inr (inl e)))))) = subst (Keeps action) e (λ us g. g.1.0)
+keeps action r (inr (inr (inr (inr (inr (inr (a))))))) = absurd a
 
 -- ---- all that is derived
 

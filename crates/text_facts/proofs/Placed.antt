@@ -20,7 +20,7 @@ use Rattle.csdn_text.specs.declared.parts.FlowTerms.{FlowTerms}
 use Rattle.csdn_text.specs.declared.parts.PacketTerms.{PacketTerms}
 use Rattle.csdn_text.specs.declared.parts.Quantifier.{Quantifier}
 use Rattle.csdn_text.specs.declared.parts.Quantifier.TheVariants as q
-use Rattle.csdn_text.specs.Symbols.{Nonterminal, program, items, item, static_item, const_item, rel_item, invariant_item, invariant_kind, handler_item, handler_port, sorts, sort_list, more_sorts, sort, initial, rows, more_rows, row, terms, more_terms, name, term, port, formula, binds, more_binds, iff, iff_tail, implies, implies_tail, either, either_tail, both, both_tail, unary, atom, atom_rest, fact, flow, packet, block, commands, more_commands, command, branch, choice, otherwise, action, Symbol, token, part, Value, Values, made, Rule}
+use Rattle.csdn_text.specs.Symbols.{Nonterminal, program, items, item, static_item, const_item, rel_item, invariant_item, invariant_kind, handler_item, handler_port, timeout_item, sorts, sort_list, more_sorts, sort, initial, rows, more_rows, row, terms, more_terms, name, term, port, formula, binds, more_binds, iff, iff_tail, implies, implies_tail, either, either_tail, both, both_tail, unary, atom, atom_rest, fact, flow, packet, block, commands, more_commands, command, branch, choice, otherwise, action, Symbol, token, part, Value, Values, made, Rule}
 use Rattle.csdn_text.specs.Grammar.{joined, quantified, atom_of, command_of}
 use Rattle.csdn_text.specs.Derives.{Mark, IsRule, Derives}
 use Rattle.csdn_text.specs.Derives.Derives.{nothing, one, by_rule}
@@ -52,6 +52,7 @@ abbrev ActionWithin : ℕ → Action → ℕ → Type 0
 ActionWithin from (a.Insert ts) to = TermsWithin from ts to
 ActionWithin from (a.Remove ts) to = TermsWithin from ts to
 ActionWithin from (a.Install ts) to = TermsWithin from (flow_list ts) to
+ActionWithin from (a.Uninstall ts) to = TermsWithin from (flow_list ts) to
 ActionWithin from (a.Forward ts) to = TermsWithin from (flow_list ts) to
 ActionWithin from (a.Flood ts) to = TermsWithin from (packet_list ts) to
 
@@ -66,6 +67,7 @@ Placed rel_item x from to = ItemWithin from x to
 Placed invariant_item x from to = ItemWithin from x to
 Placed invariant_kind x from to = from ≤ to
 Placed handler_item x from to = ItemWithin from x to
+Placed timeout_item x from to = ItemWithin from x to
 Placed handler_port x from to = (from ≤ port_place x) × (port_place x < to)
 Placed sorts x from to = from ≤ to
 Placed sort_list x from to = from ≤ to
@@ -177,6 +179,7 @@ unfolding CommandWithin TermsWithin
 command_within x (a.Insert ts) from m n b h k e w = (h, widen_terms ts m n (x.at + 1) b (omega (arith, k)) e w)
 command_within x (a.Remove ts) from m n b h k e w = (h, widen_terms ts m n (x.at + 1) b (omega (arith, k)) e w)
 command_within x (a.Install ts) from m n b h k e w = (h, widen_terms (flow_list ts) m n (x.at + 1) b (omega (arith, k)) e w)
+command_within x (a.Uninstall ts) from m n b h k e w = (h, widen_terms (flow_list ts) m n (x.at + 1) b (omega (arith, k)) e w)
 command_within x (a.Forward ts) from m n b h k e w = (h, widen_terms (flow_list ts) m n (x.at + 1) b (omega (arith, k)) e w)
 command_within x (a.Flood ts) from m n b h k e w = (h, widen_terms (packet_list ts) m n (x.at + 1) b (omega (arith, k)) e w)
 
@@ -217,7 +220,8 @@ keeps item r (inr (inl e)) = subst (Keeps item) e (λ us from to g. widen_item u
 keeps item r (inr (inr (inl e))) = subst (Keeps item) e (λ us from to g. widen_item us.0 from (g.0) from to (omega (arith, g.2)) (omega (arith, g.2)) g.1)
 keeps item r (inr (inr (inr (inl e)))) = subst (Keeps item) e (λ us from to g. widen_item us.0 from (g.0) from to (omega (arith, g.2)) (omega (arith, g.2)) g.1)
 keeps item r (inr (inr (inr (inr (inl e))))) = subst (Keeps item) e (λ us from to g. widen_item us.0 from (g.0) from to (omega (arith, g.2)) (omega (arith, g.2)) g.1)
-keeps item r (inr (inr (inr (inr (inr (a)))))) = absurd a
+keeps item r (inr (inr (inr (inr (inr (inl e)))))) = subst (Keeps item) e (λ us from to g. widen_item us.0 from (g.0) from to (omega (arith, g.2)) (omega (arith, g.2)) g.1)
+keeps item r (inr (inr (inr (inr (inr (inr (a))))))) = absurd a
 keeps static_item r (inl e) = subst (Keeps static_item) e (λ us from to g. ((omega (arith, g.0, g.1.1.0, g.1.1.1, g.1.2.1, g.1.2.2.0, g.1.2.2.1)), (omega (arith, g.0, g.1.1.0, g.1.1.1, g.1.2.1, g.1.2.2.0, g.1.2.2.1))))
 keeps static_item r (inr (a)) = absurd a
 keeps const_item r (inl e) = subst (Keeps const_item) e (λ us from to g. ((omega (arith, g.0, g.1.1.0, g.1.1.1, g.1.2.0, g.1.2.1.1, g.1.2.1.2.0, g.1.2.1.2.1)), (omega (arith, g.0, g.1.1.0, g.1.1.1, g.1.2.0, g.1.2.1.1, g.1.2.1.2.0, g.1.2.1.2.1))))
@@ -232,6 +236,8 @@ keeps invariant_kind r (inr (inr (inl e))) = subst (Keeps invariant_kind) e (λ 
 keeps invariant_kind r (inr (inr (inr (a)))) = absurd a
 keeps handler_item r (inl e) = subst (Keeps handler_item) e (λ us from to g. ((omega (arith, g.0, g.1.0, g.1.1.1.0, g.1.1.1.1, g.1.1.2.0, g.1.1.2.1.1.0, g.1.1.2.1.1.1, g.1.1.2.1.2.0, g.1.1.2.1.2.1.1.0, g.1.1.2.1.2.1.1.1, g.1.1.2.1.2.1.2.0, g.1.1.2.1.2.1.2.1.1.0, g.1.1.2.1.2.1.2.1.1.1, g.1.1.2.1.2.1.2.1.2.0, g.1.1.2.1.2.1.2.1.2.1.2)), (omega (arith, g.0, g.1.0, g.1.1.1.0, g.1.1.1.1, g.1.1.2.0, g.1.1.2.1.1.0, g.1.1.2.1.1.1, g.1.1.2.1.2.0, g.1.1.2.1.2.1.1.0, g.1.1.2.1.2.1.1.1, g.1.1.2.1.2.1.2.0, g.1.1.2.1.2.1.2.1.1.0, g.1.1.2.1.2.1.2.1.1.1, g.1.1.2.1.2.1.2.1.2.0, g.1.1.2.1.2.1.2.1.2.1.2)), (omega (arith, g.0, g.1.0, g.1.1.1.0, g.1.1.1.1, g.1.1.2.0, g.1.1.2.1.1.0, g.1.1.2.1.1.1, g.1.1.2.1.2.0, g.1.1.2.1.2.1.1.0, g.1.1.2.1.2.1.1.1, g.1.1.2.1.2.1.2.0, g.1.1.2.1.2.1.2.1.1.0, g.1.1.2.1.2.1.2.1.1.1, g.1.1.2.1.2.1.2.1.2.0, g.1.1.2.1.2.1.2.1.2.1.2)), (omega (arith, g.0, g.1.0, g.1.1.1.0, g.1.1.1.1, g.1.1.2.0, g.1.1.2.1.1.0, g.1.1.2.1.1.1, g.1.1.2.1.2.0, g.1.1.2.1.2.1.1.0, g.1.1.2.1.2.1.1.1, g.1.1.2.1.2.1.2.0, g.1.1.2.1.2.1.2.1.1.0, g.1.1.2.1.2.1.2.1.1.1, g.1.1.2.1.2.1.2.1.2.0, g.1.1.2.1.2.1.2.1.2.1.2)), (omega (arith, g.0, g.1.0, g.1.1.1.0, g.1.1.1.1, g.1.1.2.0, g.1.1.2.1.1.0, g.1.1.2.1.1.1, g.1.1.2.1.2.0, g.1.1.2.1.2.1.1.0, g.1.1.2.1.2.1.1.1, g.1.1.2.1.2.1.2.0, g.1.1.2.1.2.1.2.1.1.0, g.1.1.2.1.2.1.2.1.1.1, g.1.1.2.1.2.1.2.1.2.0, g.1.1.2.1.2.1.2.1.2.1.2)), widen_command us.1.1.1.1.1.1.1.1.1.1.0 (us.1.1.1.1.1.1.1.1.1.0.at + 1) (g.1.1.2.1.2.1.2.1.2.1.0) (port_place us.1.1.1.1.1.1.1.1.0 + 1) to (omega (arith, g.0, g.1.0, g.1.1.1.0, g.1.1.1.1, g.1.1.2.0, g.1.1.2.1.1.0, g.1.1.2.1.1.1, g.1.1.2.1.2.0, g.1.1.2.1.2.1.1.0, g.1.1.2.1.2.1.1.1, g.1.1.2.1.2.1.2.0, g.1.1.2.1.2.1.2.1.1.0, g.1.1.2.1.2.1.2.1.1.1, g.1.1.2.1.2.1.2.1.2.0, g.1.1.2.1.2.1.2.1.2.1.2)) (omega (arith, g.0, g.1.0, g.1.1.1.0, g.1.1.1.1, g.1.1.2.0, g.1.1.2.1.1.0, g.1.1.2.1.1.1, g.1.1.2.1.2.0, g.1.1.2.1.2.1.1.0, g.1.1.2.1.2.1.1.1, g.1.1.2.1.2.1.2.0, g.1.1.2.1.2.1.2.1.1.0, g.1.1.2.1.2.1.2.1.1.1, g.1.1.2.1.2.1.2.1.2.0, g.1.1.2.1.2.1.2.1.2.1.2)) g.1.1.2.1.2.1.2.1.2.1.1))
 keeps handler_item r (inr (a)) = absurd a
+keeps timeout_item r (inl e) = subst (Keeps timeout_item) e (λ us from to g. (g.0, omega (arith, g.1.0, g.1.1.0, g.1.1.1)))
+keeps timeout_item r (inr (a)) = absurd a
 keeps handler_port r (inl e) = subst (Keeps handler_port) e (λ us from to g. ((omega (arith, g.1.0, g.1.1, g.2)), (omega (arith, g.1.0, g.1.1, g.2))))
 keeps handler_port r (inr (inl e)) = subst (Keeps handler_port) e (λ us from to g. ((omega (arith, g.1.0, g.1.1, g.2)), (omega (arith, g.1.0, g.1.1, g.2))))
 keeps handler_port r (inr (inr (a))) = absurd a
@@ -344,8 +350,9 @@ keeps action r (inl e) = subst (Keeps action) e (λ us from to g. widen_terms us
 keeps action r (inr (inl e)) = subst (Keeps action) e (λ us from to g. widen_terms us.1.0.terms (us.1.0.at + 1) (g.1.0) from to (omega (arith, g.0, g.1.2, g.1.1.0)) (omega (arith, g.0, g.1.2)) g.1.1.1)
 keeps action r (inr (inr (inl e))) = subst (Keeps action) e (λ us from to g. widen_terms (flow_list us.1.0) (us.0.at + 1) (g.1.0) from to (omega (arith, g.0, g.1.2)) (omega (arith, g.0, g.1.2)) g.1.1)
 keeps action r (inr (inr (inr (inl e)))) = subst (Keeps action) e (λ us from to g. widen_terms (flow_list us.1.0) (us.0.at + 1) (g.1.0) from to (omega (arith, g.0, g.1.2)) (omega (arith, g.0, g.1.2)) g.1.1)
-keeps action r (inr (inr (inr (inr (inl e))))) = subst (Keeps action) e (λ us from to g. widen_terms (packet_list us.1.0) (us.0.at + 1) (g.1.0) from to (omega (arith, g.0, g.1.2)) (omega (arith, g.0, g.1.2)) g.1.1)
-keeps action r (inr (inr (inr (inr (inr (a)))))) = absurd a
+keeps action r (inr (inr (inr (inr (inl e))))) = subst (Keeps action) e (λ us from to g. widen_terms (flow_list us.1.0) (us.0.at + 1) (g.1.0) from to (omega (arith, g.0, g.1.2)) (omega (arith, g.0, g.1.2)) g.1.1)
+keeps action r (inr (inr (inr (inr (inr (inl e)))))) = subst (Keeps action) e (λ us from to g. widen_terms (packet_list us.1.0) (us.0.at + 1) (g.1.0) from to (omega (arith, g.0, g.1.2)) (omega (arith, g.0, g.1.2)) g.1.1)
+keeps action r (inr (inr (inr (inr (inr (inr (a))))))) = absurd a
 
 -- ---- all that is derived
 

@@ -54,6 +54,7 @@ widen_command (raw_pick name sort p x y) a b c d l r h =
 widen_command (c.Insert name ts) a b c d l r h = (omega (arith, l, h.0), widen_terms ts (name.at + 1) b (name.at + 1) d (le_refl (name.at + 1)) r h.1)
 widen_command (c.Remove name ts) a b c d l r h = (omega (arith, l, h.0), widen_terms ts (name.at + 1) b (name.at + 1) d (le_refl (name.at + 1)) r h.1)
 widen_command (c.Install w) a b c d l r h = widen_terms (flow_terms w) a b c d l r h
+widen_command (c.Uninstall w) a b c d l r h = widen_terms (flow_terms w) a b c d l r h
 widen_command (c.Forward w) a b c d l r h = widen_terms (flow_terms w) a b c d l r h
 widen_command (c.Flood w) a b c d l r h = widen_terms (packet_terms w) a b c d l r h
 
@@ -68,6 +69,7 @@ widen_item (item.Constant name sort) a b c d l r h = (omega (arith, l, h.0), ome
 widen_item (item.Invariant kind name p) a b c d l r h = (omega (arith, l, h.0), widen_formula p (name.at + 1) b (name.at + 1) d (le_refl (name.at + 1)) r h.1)
 widen_item (item.Handler x) a b c d l r h =
     (omega (arith, l, h.0), h.1, h.2, h.3, h.4, widen_command x.body (port_place x.ingress + 1) b (port_place x.ingress + 1) d (le_refl (port_place x.ingress + 1)) r h.5)
+widen_item (item.Timeout t) a b c d l r h = (omega (arith, l, h.0), omega (arith, r, h.1))
 
 pub widen_items : (xs : List RawItem) (a b c d : ℕ) → c ≤ a → b ≤ d → ItemsWithin a xs b → ItemsWithin c xs d
 unfolding ItemsWithin

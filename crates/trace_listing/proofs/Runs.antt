@@ -1,7 +1,7 @@
 -- Where all notes happen, their events are a run.
 use Rattle.std.proofs.Common.{◌≡◌, refl, sym, ℕ, ◌+◌, Bool, true, false, if◌then◌else◌, List, [], ◌∷◌, Some, None}
 use Rattle.std.proofs.lemmas.Option.{same_Some}
-use Rattle.csdn_core.specs.declared.event.Entry.TheVariants.{Join, Packet as PacketEntry}
+use Rattle.csdn_history.specs.declared.entry.Entry.TheVariants.{Join, Packet as PacketEntry}
 use Rattle.csdn_core.specs.declared.event.Event.{Event}
 use Rattle.csdn_core.specs.declared.event.Event.TheVariants.{PktIn, PktFlow}
 use Rattle.csdn_core.specs.declared.program.Parts.{Parts}
@@ -17,7 +17,7 @@ use Rattle.trace_listing.specs.Traces.{Traced, traced, unless_refused, with_note
 
 module _ (P : Parts) (N : Network) where
   -- an event that is not refused is a step
-  event_run : (event : Event) (j : ℕ) (x y : State) (events : List Event) (later : Traced) (known enabled : Bool) → is_of_network N event ≡ known → is_enabled x event ≡ enabled
+  event_run : (event : Event) (j : ℕ) (x y : State) (events : List Event) (later : Traced) (known enabled : Bool) → is_of_network N event ≡ known → is_enabled P N x event ≡ enabled
       → (later.last ≡ Some y → Run P N (after_event P N x event) events y)
       → (unless_refused j (if known then (if enabled then None else Some NotEnabled) else Some Stranger) later).last ≡ Some y → Run P N x (event ∷ events) y
   event_run event j x y events later true true known_is enabled_is goes_on is = (after_event P N x event, steps P N event x known_is enabled_is, goes_on is)
@@ -38,10 +38,10 @@ module _ (P : Parts) (N : Network) where
   runs j x y (Kept (PacketEntry seat session s a b i) ∷ notes) is =
       let event = PktIn s a b i in
       let z = after_event P N x event in
-      event_run event j x y (events_of notes) (with_note j (first_broken P N z (packet_of (Kept (PacketEntry seat session s a b i)))) (traced P N (j + 1) z notes)) (is_of_network N event) (is_enabled x event) refl refl
+      event_run event j x y (events_of notes) (with_note j (first_broken P N z (packet_of (Kept (PacketEntry seat session s a b i)))) (traced P N (j + 1) z notes)) (is_of_network N event) (is_enabled P N x event) refl refl
       (λ e. runs (j + 1) z y notes e) is
   runs j x y (Flow s a b i o ∷ notes) is =
       let event = PktFlow s a b i o in
       let z = after_event P N x event in
-      event_run event j x y (events_of notes) (with_note j (first_broken P N z (packet_of (Flow s a b i o))) (traced P N (j + 1) z notes)) (is_of_network N event) (is_enabled x event) refl refl
+      event_run event j x y (events_of notes) (with_note j (first_broken P N z (packet_of (Flow s a b i o))) (traced P N (j + 1) z notes)) (is_of_network N event) (is_enabled P N x event) refl refl
       (λ e. runs (j + 1) z y notes e) is

@@ -2,7 +2,7 @@
 use Rattle.std.specs.Prelude.{◌≡◌, ℕ, ◌+◌, Bool, true, false, ◌&&◌, if◌then◌else◌, List, [], ◌∷◌, ◌++◌, Option, Some, None, is_none, codes, decimal}
 use Rattle.std.specs.Option.{option_or}
 use Rattle.std.specs.List.Sorted.{IsStrictlySortedBy}
-use Rattle.csdn_core.specs.declared.event.Entry.TheVariants.{Join, Packet as PacketEntry}
+use Rattle.csdn_history.specs.declared.entry.Entry.TheVariants.{Join, Packet as PacketEntry}
 use Rattle.csdn_core.specs.declared.event.Event.{Event}
 use Rattle.csdn_core.specs.declared.event.Event.TheVariants.{PktIn, PktFlow}
 use Rattle.csdn_core.specs.declared.event.Packet.{Packet}
@@ -36,14 +36,14 @@ packet_of (Kept (PacketEntry seat session s a b i)) = At s a b i
 packet_of (Flow s a b i o) = At s a b i
 
 -- why an event can't happen, where it can't
-abbrev pub event_refusal : Network → State → Event → Option Refusal
-event_refusal N x event = if is_of_network N event then (if is_enabled x event then None else Some NotEnabled) else Some Stranger
+abbrev pub event_refusal : Parts → Network → State → Event → Option Refusal
+event_refusal P N x event = if is_of_network N event then (if is_enabled P N x event then None else Some NotEnabled) else Some Stranger
 
 -- .. and a note; a join must name a switch
-unfoldable pub refusal_of : Network → State → Note → Option Refusal
-refusal_of N x (Kept (Join seat session s)) = if has N.switches s then None else Some Stranger
-refusal_of N x (Kept (PacketEntry seat session s a b i)) = event_refusal N x (PktIn s a b i)
-refusal_of N x (Flow s a b i o) = event_refusal N x (PktFlow s a b i o)
+unfoldable pub refusal_of : Parts → Network → State → Note → Option Refusal
+refusal_of P N x (Kept (Join seat session s)) = if has N.switches s then None else Some Stranger
+refusal_of P N x (Kept (PacketEntry seat session s a b i)) = event_refusal P N x (PktIn s a b i)
+refusal_of P N x (Flow s a b i o) = event_refusal P N x (PktFlow s a b i o)
 
 -- the state after an event, with the least element at each `pick`
 abbrev pub after_event : Parts → Network → State → Event → State
@@ -110,7 +110,7 @@ abbrev pub traced : Parts → Network → ℕ → State → List Note → Traced
 traced P N j x [] = record { text = []; unbroken = true; last = Some x }
 traced P N j x (note ∷ notes) =
     let y = after P N x note in
-    unless_refused j (refusal_of N x note) (with_note j (first_broken P N y (packet_of note)) (traced P N (j + 1) y notes))
+    unless_refused j (refusal_of P N x note) (with_note j (first_broken P N y (packet_of note)) (traced P N (j + 1) y notes))
 
 abbrev pub is_stopped : Ending → Bool
 is_stopped Unbroken = false

@@ -4,8 +4,9 @@ ghost use Rattle.net_structs.specs.Rows.{held};
 ghost use Rattle.trace_listing.specs.Traces.{after, after_event, event_refusal, first_broken as first_broken_of, broken_text, note_text, packet_of as packet_of_note, refusal_of, refused_text, words_of as words_of_refusal};
 
 use crate::invariants::{Setting, first_broken};
-use csdn_core::event::{Entry, Event, Packet};
+use csdn_core::event::{Event, Packet};
 use csdn_core::terms::Sort;
+use csdn_history::entry::Entry;
 use csdn_step::{StepRefusal, fire};
 use journal_text::Note;
 use net_structs::env::Env;
@@ -29,7 +30,7 @@ fn happen(
     state: &mut State,
     event: &Event,
 ) -> Result<Option<Refusal>, AllocError>
-    ensures refusal { IfOk result (λ refusal. refusal ≡ event_refusal setting.now.network.now (held state.old) event.now) }
+    ensures refusal { IfOk result (λ refusal. refusal ≡ event_refusal setting.now.program.now setting.now.network.now (held state.old) event.now) }
     ensures after { IfOk result (λ refusal. refusal ≡ None → held state.new ≡ after_event setting.now.program.now setting.now.network.now (held state.old) event.now) }
 {
     match fire(alloc, setting.program, setting.network, state, event) {
@@ -48,7 +49,7 @@ pub fn take(
     state: &mut State,
     note: &Note,
 ) -> Result<Option<Refusal>, AllocError>
-    ensures refusal { IfOk result (λ refusal. refusal ≡ refusal_of setting.now.network.now (held state.old) note.now) }
+    ensures refusal { IfOk result (λ refusal. refusal ≡ refusal_of setting.now.program.now setting.now.network.now (held state.old) note.now) }
     ensures after { IfOk result (λ refusal. refusal ≡ None → held state.new ≡ after setting.now.program.now setting.now.network.now (held state.old) note.now) }
 {
     match *note {

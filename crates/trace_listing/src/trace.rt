@@ -112,7 +112,7 @@ fn put_last(
     ensures text { OnOk result (out.new.items ≡ out.old.items ++ net_text program.now (last_case network state)) }
     ensures rising { OnOk result (IsStrictlySortedBy row_cmp state) }
 {
-    let _rows = state.all_rows(alloc)?;
+    state.rises();
     let case = Case {
         network,
         state: Some(state),

@@ -13,7 +13,7 @@ use Rattle.csdn_core.specs.declared.program.Parts.{Parts}
 use Rattle.csdn_core.specs.declared.syntax.Formula.{Formula}
 use Rattle.csdn_core.specs.declared.syntax.Formula.TheVariants.{True, False, Atom, Same}
 use Rattle.csdn_core.specs.declared.syntax.Command.{Command}
-use Rattle.csdn_core.specs.declared.syntax.Command.TheVariants.{Skip, Insert, Remove, Install, Forward, Flood}
+use Rattle.csdn_core.specs.declared.syntax.Command.TheVariants.{Skip, Insert, Remove, Install, Uninstall, Forward, Flood}
 use Rattle.csdn_core.specs.Tree.{negation, conjunction, disjunction, implication, equivalence, universal, existential, sequence, conditional, choice}
 use Rattle.csdn_core.specs.Truth.{Assignment, truth, value}
 use Rattle.csdn_core.specs.Network.{Network, State, structure, holds_in, is_fixed}
@@ -78,6 +78,7 @@ module _ (P : Parts) (N : Network) (k : ℕ) (free : (r : ℕ) → is_fixed P r 
   length-values_after values (Insert r ts) = length-set values r.0 true
   length-values_after values (Remove r ts) = length-set values r.0 false
   length-values_after values (Install ts) = refl
+  length-values_after values (Uninstall ts) = refl
   length-values_after values (Forward ts) = refl
   length-values_after values (Flood ts) = refl
 
@@ -95,6 +96,7 @@ module _ (P : Parts) (N : Network) (k : ℕ) (free : (r : ℕ) → is_fixed P r 
   HasValues-after x y values e (Insert r ts) len agrees prop is = HasValues-put x y values e r ts len agrees prop is
   HasValues-after x y values e (Remove r ts) len agrees prop is = HasValues-take_out x y values e r ts len agrees prop is
   HasValues-after x y values e (Install ts) len agrees prop is = never prop
+  HasValues-after x y values e (Uninstall ts) len agrees prop is = never prop
   HasValues-after x y values e (Forward ts) len agrees prop is = never prop
   HasValues-after x y values e (Flood ts) len agrees prop is = never prop
 
@@ -115,5 +117,6 @@ module _ (P : Parts) (N : Network) (k : ℕ) (free : (r : ℕ) → is_fixed P r 
   ends e (Insert r ts) prop x = (_, refl)
   ends e (Remove r ts) prop x = (_, refl)
   ends e (Install ts) prop x = never prop
+  ends e (Uninstall ts) prop x = never prop
   ends e (Forward ts) prop x = never prop
   ends e (Flood ts) prop x = never prop

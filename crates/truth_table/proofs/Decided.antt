@@ -1,13 +1,13 @@
 -- A program of the first form keeps an invariant exactly where every row of the table does.
 use Rattle.std.proofs.Common.{◌≡◌, ℕ, ◌≤◌, Bool, true, false, List, [], ◌∷◌, length, Option, Some, None, IsTrue, sym, ◌∙◌, ap, refl, subst, arith, replicate, All, if◌then◌else◌, ◌≢◌, Contains, AllPairs, rules}
-use Rattle.std.specs.Prelude.{slice_get}
+use Rattle.std.specs.Prelude.{slice_get, is_some}
 use Rattle.std.proofs.lemmas.List.Elements.{All-head, All-nil}
 use Rattle.std.proofs.Math.Bool.{or-false}
 use Rattle.csdn_core.specs.declared.terms.Sort.{Sort}
 use Rattle.csdn_core.specs.declared.terms.Sort.TheVariants.{Sw, Ho, Pr}
 use Rattle.csdn_core.specs.declared.terms.Pred.TheVariants.{Stored}
 use Rattle.csdn_core.specs.declared.event.Event.{Event}
-use Rattle.csdn_core.specs.declared.event.Event.TheVariants.{PktIn, PktFlow}
+use Rattle.csdn_core.specs.declared.event.Event.TheVariants.{PktIn, PktFlow, Expire}
 use Rattle.csdn_core.specs.declared.event.Packet.TheVariants.{Nothing}
 use Rattle.csdn_core.specs.declared.program.Parts.{Parts}
 use Rattle.csdn_core.specs.declared.program.Invariant.{Invariant}
@@ -92,6 +92,8 @@ module _ (P : Parts) (form : IsFirstForm P) where
       let later : HasValues k y (seen x k) = λ r lt. ap (λ (z : State). z (Stored r) []) step.6 ∙ or-false (x (Stored r) []) ∙ HasValues-seen x k r lt in
       let before : truth_at (seen x k) i.formula ≡ true = sym (true_at N x (seen x k) v i (HasValues-seen x k) there _ refl) ∙ all_at (IsTrueOne P N x) P.safety v i there safe in
       true_at N y (seen x k) v i later there true before
+  kept_by v table N x (Expire s a b p) y safe step i there =
+      absurd (let ends : false ≡ true = sym (ap is_some form.nothing_else.timeout) ∙ step.4 in cc)
 
   -- where every row of the table keeps an invariant, every event does
   pub kept : (v : ℕ) → IsKeptByTable P v → IsKept P v

@@ -49,6 +49,7 @@ is_propositional_command k (choice v s p a b) = false
 is_propositional_command k (c.Insert r ts) = is_proposition k r ts
 is_propositional_command k (c.Remove r ts) = is_proposition k r ts
 is_propositional_command k (c.Install ts) = false
+is_propositional_command k (c.Uninstall ts) = false
 is_propositional_command k (c.Forward ts) = false
 is_propositional_command k (c.Flood ts) = false
 
@@ -61,6 +62,7 @@ conditionals (choice v s p a b) = conditionals a + conditionals b
 conditionals (c.Insert r ts) = 0
 conditionals (c.Remove r ts) = 0
 conditionals (c.Install ts) = 0
+conditionals (c.Uninstall ts) = 0
 conditionals (c.Forward ts) = 0
 conditionals (c.Flood ts) = 0
 
@@ -84,13 +86,14 @@ pub record HasLimits (P : Parts) : Type 0 where
   pub few_invariants : length P.safety ≤ 64
   pub one_handler : length P.handlers ≤ 1
 
--- nothing but relations, safety invariants and handlers
+-- nothing but relations, safety invariants and handlers, and rules that stay
 pub record HasNothingElse (P : Parts) : Type 0 where
   pub constants : P.constants ≡ []
   pub rows : P.start ≡ []
   pub topology : P.topology ≡ []
   pub transitions : P.trans ≡ []
   pub numerals : P.numerals ≡ []
+  pub timeout : P.timeout ≡ None
 
 -- A program whose relations have no arguments, with safety invariants over them and at most one handler.
 pub record IsFirstForm (P : Parts) : Type 0 where

@@ -85,6 +85,10 @@ module _ (k : ℕ) where
   unfolding is_propositional_command
   is_propositional_command-Install ts = refl
 
+  pub is_propositional_command-Uninstall : (ts : List Term) → is_propositional_command k (c.Uninstall ts) ≡ false
+  unfolding is_propositional_command
+  is_propositional_command-Uninstall ts = refl
+
   pub is_propositional_command-Forward : (ts : List Term) → is_propositional_command k (c.Forward ts) ≡ false
   unfolding is_propositional_command
   is_propositional_command-Forward ts = refl
@@ -121,6 +125,10 @@ pub conditionals-Install : (ts : List Term) → conditionals (c.Install ts) ≡ 
 unfolding conditionals
 conditionals-Install ts = refl
 
+pub conditionals-Uninstall : (ts : List Term) → conditionals (c.Uninstall ts) ≡ 0
+unfolding conditionals
+conditionals-Uninstall ts = refl
+
 pub conditionals-Forward : (ts : List Term) → conditionals (c.Forward ts) ≡ 0
 unfolding conditionals
 conditionals-Forward ts = refl
@@ -131,6 +139,6 @@ conditionals-Flood ts = refl
 
 pub ruleset is_propositional_steps = (is_propositional-True, is_propositional-False, is_propositional-Atom, is_propositional-Same, is_propositional-Not, is_propositional-And, is_propositional-Or, is_propositional-Implies, is_propositional-Iff, is_propositional-Forall, is_propositional-Exists)
 
-pub ruleset is_propositional_command_steps = (is_propositional_command-Skip, is_propositional_command-Seq, is_propositional_command-If, is_propositional_command-Pick, is_propositional_command-Insert, is_propositional_command-Remove, is_propositional_command-Install, is_propositional_command-Forward, is_propositional_command-Flood)
+pub ruleset is_propositional_command_steps = (is_propositional_command-Skip, is_propositional_command-Seq, is_propositional_command-If, is_propositional_command-Pick, is_propositional_command-Insert, is_propositional_command-Remove, is_propositional_command-Install, is_propositional_command-Uninstall, is_propositional_command-Forward, is_propositional_command-Flood)
 
-pub ruleset conditionals_steps = (conditionals-Skip, conditionals-Seq, conditionals-If, conditionals-Pick, conditionals-Insert, conditionals-Remove, conditionals-Install, conditionals-Forward, conditionals-Flood)
+pub ruleset conditionals_steps = (conditionals-Skip, conditionals-Seq, conditionals-If, conditionals-Pick, conditionals-Insert, conditionals-Remove, conditionals-Install, conditionals-Uninstall, conditionals-Forward, conditionals-Flood)

@@ -6,7 +6,7 @@ use Rattle.csdn_core.specs.declared.terms.Pred.TheVariants.{Stored, Ft, Sent, Rc
 use Rattle.csdn_core.specs.declared.syntax.Formula.{Formula}
 use Rattle.csdn_core.specs.declared.syntax.Formula.TheVariants.{True, False, Atom, Same}
 use Rattle.csdn_core.specs.declared.syntax.Command.{Command}
-use Rattle.csdn_core.specs.declared.syntax.Command.TheVariants.{Skip, Insert, Remove, Install, Forward, Flood}
+use Rattle.csdn_core.specs.declared.syntax.Command.TheVariants.{Skip, Insert, Remove, Install, Uninstall, Forward, Flood}
 use Rattle.csdn_core.specs.declared.program.Invariant.{Invariant}
 use Rattle.csdn_core.specs.declared.program.Handler.{Handler}
 use Rattle.csdn_core.specs.Tree.{negation, conjunction, disjunction, implication, equivalence, universal, existential, sequence, conditional, choice}
@@ -44,6 +44,7 @@ values_after values (choice v s p a b) = values
 values_after values (Insert r ts) = slice_set values r.0 true
 values_after values (Remove r ts) = slice_set values r.0 false
 values_after values (Install ts) = values
+values_after values (Uninstall ts) = values
 values_after values (Forward ts) = values
 values_after values (Flood ts) = values
 

@@ -86,6 +86,10 @@ module _ (values : List Bool) where
   unfolding values_after
   values_after-Install ts = refl
 
+  pub values_after-Uninstall : (ts : List Term) → values_after values (c.Uninstall ts) ≡ values
+  unfolding values_after
+  values_after-Uninstall ts = refl
+
   pub values_after-Forward : (ts : List Term) → values_after values (c.Forward ts) ≡ values
   unfolding values_after
   values_after-Forward ts = refl
@@ -96,4 +100,4 @@ module _ (values : List Bool) where
 
 pub ruleset truth_at_steps = (truth_at-True, truth_at-False, truth_at-Atom, truth_at-Same, truth_at-Not, truth_at-And, truth_at-Or, truth_at-Implies, truth_at-Iff, truth_at-Forall, truth_at-Exists)
 
-pub ruleset values_after_steps = (values_after-Skip, values_after-Seq, values_after-If, values_after-Pick, values_after-Insert, values_after-Remove, values_after-Install, values_after-Forward, values_after-Flood)
+pub ruleset values_after_steps = (values_after-Skip, values_after-Seq, values_after-If, values_after-Pick, values_after-Insert, values_after-Remove, values_after-Install, values_after-Uninstall, values_after-Forward, values_after-Flood)

@@ -71,6 +71,7 @@ fn is_propositional_command(count: usize, command: &Command) -> bool
         Command::Remove(rel, terms) => is_proposition(count, *rel, terms),
         Command::Pick(_, _, _, _, _)
         | Command::Install(_)
+        | Command::Uninstall(_)
         | Command::Forward(_)
         | Command::Flood(_) => false,
     }
@@ -95,6 +96,7 @@ fn conditionals_left(command: &Command, allowed: usize) -> Option<usize>
         | Command::Insert(_, _)
         | Command::Remove(_, _)
         | Command::Install(_)
+        | Command::Uninstall(_)
         | Command::Forward(_)
         | Command::Flood(_) => Some(allowed),
     }
@@ -138,6 +140,7 @@ fn has_nothing_else(parts: &Parts) -> bool
         && parts.topology.is_empty()
         && parts.trans.is_empty()
         && parts.numerals.is_empty()
+        && parts.timeout.is_none()
 }
 
 /// Whether a program has the first form: at most 12 relations, each a `rel` with no arguments; safety invariants of

@@ -16,6 +16,7 @@ fn nothing(alloc: Global) -> Parts {
         trans: Items::new(alloc),
         handlers: Items::new(alloc),
         numerals: Items::new(alloc),
+        timeout: None,
     }
 }
 

@@ -74,6 +74,7 @@ fn execute(values: &mut [bool], command: &Command)
         Command::Remove(rel, _) => set(values, *rel, false),
         Command::Pick(_, _, _, _, _)
         | Command::Install(_)
+        | Command::Uninstall(_)
         | Command::Forward(_)
         | Command::Flood(_) => {}
     }

@@ -2,4 +2,4 @@ use Rattle.csdn_core.proofs.Agreement.{sentence-same}
 use Rattle.csdn_core.proofs.run_laws.truth_looks_at_elements.Goals as goal
 
 pub returns : goal.returns
-returns c = sentence-same
+returns c = λ P N network x y agree packet place p sorted distinct. sentence-same P N network x y agree packet place p sorted distinct

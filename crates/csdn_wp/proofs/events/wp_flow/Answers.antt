@@ -1,16 +1,16 @@
 use Rattle.std.proofs.Common.{◌∙◌, ap, ap₂, subst}
-use Rattle.csdn_core.specs.declared.terms.Pred.TheVariants.{Ft, Sent}
-use Rattle.csdn_core.specs.declared.syntax.Formula.TheVariants.{Atom}
+use Rattle.csdn_core.specs.declared.terms.Pred.TheVariants.{Sent}
 use Rattle.fol_forms.specs.Limits.{most_nodes}
 use Rattle.fol_forms.specs.Replace.{add_row, fix_packet}
-use Rattle.csdn_wp.specs.EventPreconditions.{terms_of}
+use Rattle.csdn_wp.specs.EventPreconditions.{terms_of, wp_flow}
 use Rattle.csdn_wp.specs.Makes.{Makes}
 use Rattle.csdn_wp.proofs.Making.{all_room, refused_form}
-use Rattle.csdn_wp.proofs.Eventing.{flow_is, flow_refused, fixed_grows, added_grows}
+use Rattle.csdn_wp.proofs.Eventing.{flow_is, anew_refused, anew_grows, fixed_grows, added_grows}
 use Rattle.csdn_wp.proofs.events.wp_flow.Goals as goal
 
 pub returns-in_err-renumbered : goal.returns-in_err-renumbered
-returns-in_err-renumbered c = flow_refused c.args.post.now c.in_err-renumbered.field-0.0 c.from_residual.result c.from_residual.ensures.1 c.in_err-renumbered.ensures
+returns-in_err-renumbered c =
+    anew_refused c.args.post.now (wp_flow c.args.post.now) c.in_err-renumbered.field-0.0 c.from_residual.result (anew_grows c.args.post.now) c.from_residual.ensures.1 c.in_err-renumbered.ensures
 
 pub returns-in_err-fix_packet : goal.returns-in_err-fix_packet
 returns-in_err-fix_packet c =
@@ -29,6 +29,4 @@ returns c =
     let is_anew = c.get.ensures ∙ c.in_ok-post.ensures ∙ c.in_ok-renumbered.ensures.0 in
     let is_fixed = c.get-2.ensures ∙ c.in_ok-fixed.ensures ∙ c.in_ok-fix_packet.ensures.form ∙ ap₂ fix_packet is_anew (c.terms_of.ensures ∙ ap terms_of c.first_vars.ensures) in
     let is_later = c.in_ok-after.ensures ∙ c.in_ok-add_row.ensures.form ∙ ap₂ (λ p ts. add_row p Sent ts) is_fixed c.flow_terms.ensures in
-    subst (λ p. Makes most_nodes p c.closed_in.result)
-    (flow_is c.args.post.now c.in_ok-enabled.enabled c.in_ok-after.after c.in_ok-binds.binds c.in_ok-binds.ensures (c.in_ok-enabled.ensures ∙ ap (Atom Ft) c.flow_terms-2.ensures) is_later)
-    c.closed_in.ensures
+    subst (λ p. Makes most_nodes p c.for_rules.result) (flow_is c.args.post.now c.in_ok-after.after is_later) c.for_rules.ensures

@@ -1,10 +1,9 @@
 use Rattle.std.proofs.Common.{refl}
 use Rattle.csdn_core.specs.WellSorted.{signature}
-use Rattle.fol_forms.specs.Substitution.{no_scope}
-use Rattle.csdn_wp.specs.SortedIn.{any_relation, no_packet}
 use Rattle.csdn_wp.proofs.Sorting.{not_free, IsSortedIn-more}
 use Rattle.csdn_wp.proofs.Fitting.{sentence_fits}
 use Rattle.csdn_wp.proofs.Sentences.{truth-packet}
+use Rattle.csdn_core.specs.SortedIn.{no_scope, any_relation, no_rcv_this}
 use Rattle.csdn_wp.proofs.laws.sentences_stand_alone.Goals as goal
 
 pub returns-clause-closed : goal.returns-clause-closed
@@ -17,4 +16,4 @@ pub returns-clause-fits : goal.returns-clause-fits
 returns-clause-fits c = sentence_fits
 
 pub returns-clause-any : goal.returns-clause-any
-returns-clause-any c P F sorted = IsSortedIn-more (signature P) no_packet any_relation (λ r named. tt) no_scope no_scope (λ v s is. is) F sorted
+returns-clause-any c P F sorted = IsSortedIn-more (signature P) no_rcv_this any_relation (λ r named. tt) no_scope no_scope (λ v s is. is) F sorted

@@ -20,13 +20,17 @@ pub returns-clause-copies : goal.returns-clause-copies
 unfolding normal_form
 returns-clause-copies c = refl
 
+pub returns-clause-weight : goal.returns-clause-weight
+unfolding normal_form
+returns-clause-weight c = refl
+
 pub returns-clause-sentence : goal.returns-clause-sentence
 unfolding normal_form
 returns-clause-sentence c = record { closed = refl; inside = refl }
 
-pub returns-clause-first : goal.returns-clause-first
+pub returns-clause-atoms : goal.returns-clause-atoms
 unfolding normal_form
-returns-clause-first c = refl
+returns-clause-atoms c = refl
 
 pub returns-clause-clauses : goal.returns-clause-clauses
 unfolding normal_form

@@ -1,7 +1,7 @@
 use Rattle.std.proofs.Common.{◌∙◌, ◌+◌, ap, ap₂, max, length}
-use Rattle.decision_laws.specs.Forms.{need}
-use Rattle.decision_laws.specs.Laws.{form_of}
-use Rattle.decision_laws.specs.Vocabulary.{names_of}
+use Rattle.fol_forms.specs.Constants.{need}
+use Rattle.fol_forms.specs.Forms.{form_of}
+use Rattle.fol_forms.specs.Constants.{names_of}
 use Rattle.fol_forms.specs.Limits.{capped}
 use Rattle.fol_forms.specs.Written.{normal_need}
 use Rattle.fol_forms.proofs.Capped.{capped-constants}

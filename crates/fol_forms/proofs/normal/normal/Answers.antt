@@ -1,6 +1,6 @@
 use Rattle.std.proofs.Common.{◌≡◌, not}
 use Rattle.csdn_core.specs.Nodes.{nodes}
-use Rattle.decision_laws.specs.Forms.{normal_form}
+use Rattle.fol_forms.specs.Forms.{normal_form}
 use Rattle.fol_forms.specs.Written.{normal, normal_nodes, written}
 use Rattle.fol_forms.proofs.Sized.{refused, allowed, if_made}
 use Rattle.fol_forms.proofs.normal.normal.Goals as goal

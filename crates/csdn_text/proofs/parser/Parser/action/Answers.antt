@@ -1,5 +1,4 @@
-use Rattle.std.proofs.Common.{refl, sym, true, ◌∙◌}
-use Rattle.csdn_tree.specs.declared.syntax.RawItem.TheVariants as i
+use Rattle.std.proofs.Common.{refl, sym, ◌∙◌}
 use Rattle.csdn_text.specs.Machine.Takes.{done}
 use Rattle.csdn_text.proofs.Steps.{last, this, other, by, not_by, then_token, then, no_token, no_part, after_token, exit}
 use Rattle.csdn_text.proofs.parser.Parser.action.Goals as goal
@@ -41,10 +40,19 @@ pub returns-in_ok-flow-2-clause-parses : goal.returns-in_ok-flow-2-clause-parses
 returns-in_ok-flow-2-clause-parses c = by (other (sym c.next_is.ensures ∙ c.if-next_is.false) (other (sym c.next_is-else-next_is.ensures ∙ c.if-next_is-2.false) (other (sym c.next_is-else-next_is-2.ensures ∙ c.if-next_is-3.false) (this (sym c.next_is-else-next_is-3.ensures ∙ c.if-next_is-4.true))))) (then_token c.in_ok-take-4.ensures.parses (then c.in_ok-flow-2.ensures.parses done)) refl
 
 pub returns-in_err-take-5-clause-parses : goal.returns-in_err-take-5-clause-parses
-returns-in_err-take-5-clause-parses c = exit _ c.from_residual-in_err-take-5.ensures.1 (not_by (other (sym c.next_is.ensures ∙ c.if-next_is.false) (other (sym c.next_is-else-next_is.ensures ∙ c.if-next_is-2.false) (other (sym c.next_is-else-next_is-2.ensures ∙ c.if-next_is-3.false) (other (sym c.next_is-else-next_is-3.ensures ∙ c.if-next_is-4.false) last)))) (no_token c.in_err-take-5.ensures.parses))
+returns-in_err-take-5-clause-parses c = exit _ c.from_residual-in_err-take-5.ensures.1 (not_by (other (sym c.next_is.ensures ∙ c.if-next_is.false) (other (sym c.next_is-else-next_is.ensures ∙ c.if-next_is-2.false) (other (sym c.next_is-else-next_is-2.ensures ∙ c.if-next_is-3.false) (other (sym c.next_is-else-next_is-3.ensures ∙ c.if-next_is-4.false) (this (sym c.next_is-else-next_is-4.ensures ∙ c.if-next_is-5.true)))))) (no_token c.in_err-take-5.ensures.parses))
+
+pub returns-in_err-flow-3-clause-parses : goal.returns-in_err-flow-3-clause-parses
+returns-in_err-flow-3-clause-parses c = exit _ c.from_residual-in_err-flow-3.ensures.1 (not_by (other (sym c.next_is.ensures ∙ c.if-next_is.false) (other (sym c.next_is-else-next_is.ensures ∙ c.if-next_is-2.false) (other (sym c.next_is-else-next_is-2.ensures ∙ c.if-next_is-3.false) (other (sym c.next_is-else-next_is-3.ensures ∙ c.if-next_is-4.false) (this (sym c.next_is-else-next_is-4.ensures ∙ c.if-next_is-5.true)))))) (after_token c.in_ok-take-5.ensures.parses (no_part c.in_err-flow-3.ensures.parses)))
+
+pub returns-in_ok-flow-3-clause-parses : goal.returns-in_ok-flow-3-clause-parses
+returns-in_ok-flow-3-clause-parses c = by (other (sym c.next_is.ensures ∙ c.if-next_is.false) (other (sym c.next_is-else-next_is.ensures ∙ c.if-next_is-2.false) (other (sym c.next_is-else-next_is-2.ensures ∙ c.if-next_is-3.false) (other (sym c.next_is-else-next_is-3.ensures ∙ c.if-next_is-4.false) (this (sym c.next_is-else-next_is-4.ensures ∙ c.if-next_is-5.true)))))) (then_token c.in_ok-take-5.ensures.parses (then c.in_ok-flow-3.ensures.parses done)) refl
+
+pub returns-in_err-take-6-clause-parses : goal.returns-in_err-take-6-clause-parses
+returns-in_err-take-6-clause-parses c = exit _ c.from_residual-in_err-take-6.ensures.1 (not_by (other (sym c.next_is.ensures ∙ c.if-next_is.false) (other (sym c.next_is-else-next_is.ensures ∙ c.if-next_is-2.false) (other (sym c.next_is-else-next_is-2.ensures ∙ c.if-next_is-3.false) (other (sym c.next_is-else-next_is-3.ensures ∙ c.if-next_is-4.false) (other (sym c.next_is-else-next_is-4.ensures ∙ c.if-next_is-5.false) last))))) (no_token c.in_err-take-6.ensures.parses))
 
 pub returns-in_err-packet-clause-parses : goal.returns-in_err-packet-clause-parses
-returns-in_err-packet-clause-parses c = exit _ c.from_residual-in_err-packet.ensures.1 (not_by (other (sym c.next_is.ensures ∙ c.if-next_is.false) (other (sym c.next_is-else-next_is.ensures ∙ c.if-next_is-2.false) (other (sym c.next_is-else-next_is-2.ensures ∙ c.if-next_is-3.false) (other (sym c.next_is-else-next_is-3.ensures ∙ c.if-next_is-4.false) last)))) (after_token c.in_ok-take-5.ensures.parses (no_part c.in_err-packet.ensures.parses)))
+returns-in_err-packet-clause-parses c = exit _ c.from_residual-in_err-packet.ensures.1 (not_by (other (sym c.next_is.ensures ∙ c.if-next_is.false) (other (sym c.next_is-else-next_is.ensures ∙ c.if-next_is-2.false) (other (sym c.next_is-else-next_is-2.ensures ∙ c.if-next_is-3.false) (other (sym c.next_is-else-next_is-3.ensures ∙ c.if-next_is-4.false) (other (sym c.next_is-else-next_is-4.ensures ∙ c.if-next_is-5.false) last))))) (after_token c.in_ok-take-6.ensures.parses (no_part c.in_err-packet.ensures.parses)))
 
 pub returns-in_ok-packet-clause-parses : goal.returns-in_ok-packet-clause-parses
-returns-in_ok-packet-clause-parses c = by (other (sym c.next_is.ensures ∙ c.if-next_is.false) (other (sym c.next_is-else-next_is.ensures ∙ c.if-next_is-2.false) (other (sym c.next_is-else-next_is-2.ensures ∙ c.if-next_is-3.false) (other (sym c.next_is-else-next_is-3.ensures ∙ c.if-next_is-4.false) last)))) (then_token c.in_ok-take-5.ensures.parses (then c.in_ok-packet.ensures.parses done)) refl
+returns-in_ok-packet-clause-parses c = by (other (sym c.next_is.ensures ∙ c.if-next_is.false) (other (sym c.next_is-else-next_is.ensures ∙ c.if-next_is-2.false) (other (sym c.next_is-else-next_is-2.ensures ∙ c.if-next_is-3.false) (other (sym c.next_is-else-next_is-3.ensures ∙ c.if-next_is-4.false) (other (sym c.next_is-else-next_is-4.ensures ∙ c.if-next_is-5.false) last))))) (then_token c.in_ok-take-6.ensures.parses (then c.in_ok-packet.ensures.parses done)) refl

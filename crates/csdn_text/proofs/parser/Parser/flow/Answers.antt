@@ -1,5 +1,4 @@
 use Rattle.std.proofs.Common.{refl}
-use Rattle.csdn_tree.specs.declared.syntax.RawItem.TheVariants as i
 use Rattle.csdn_text.specs.Machine.Takes.{done}
 use Rattle.csdn_text.proofs.Steps.{last, by, not_by, then_token, then, no_token, no_part, after_token, after_part, exit}
 use Rattle.csdn_text.proofs.parser.Parser.flow.Goals as goal

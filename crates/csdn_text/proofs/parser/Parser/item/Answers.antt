@@ -1,5 +1,4 @@
-use Rattle.std.proofs.Common.{refl, sym, true, ◌∙◌}
-use Rattle.csdn_tree.specs.declared.syntax.RawItem.TheVariants as i
+use Rattle.std.proofs.Common.{refl, sym, ◌∙◌}
 use Rattle.csdn_text.specs.Machine.Takes.{done}
 use Rattle.csdn_text.proofs.Steps.{last, this, other, by, not_by, then, no_part, exit}
 use Rattle.csdn_text.proofs.parser.Parser.item.Goals as goal
@@ -29,7 +28,13 @@ pub returns-in_ok-whole-4-clause-parses : goal.returns-in_ok-whole-4-clause-pars
 returns-in_ok-whole-4-clause-parses c = by (other (sym c.begins.ensures ∙ c.if-begins.false) (other (sym c.begins-else-begins.ensures ∙ c.if-begins-2.false) (other (sym c.begins-else-begins-2.ensures ∙ c.if-begins-3.false) (this (sym c.begins-else-begins-3.ensures ∙ c.if-begins-4.true))))) (then c.in_ok-whole-4.ensures.parses done) refl
 
 pub returns-in_err-whole-5-clause-parses : goal.returns-in_err-whole-5-clause-parses
-returns-in_err-whole-5-clause-parses c = exit _ c.from_residual-in_err-whole-5.ensures.1 (not_by (other (sym c.begins.ensures ∙ c.if-begins.false) (other (sym c.begins-else-begins.ensures ∙ c.if-begins-2.false) (other (sym c.begins-else-begins-2.ensures ∙ c.if-begins-3.false) (other (sym c.begins-else-begins-3.ensures ∙ c.if-begins-4.false) last)))) (no_part c.in_err-whole-5.ensures.parses))
+returns-in_err-whole-5-clause-parses c = exit _ c.from_residual-in_err-whole-5.ensures.1 (not_by (other (sym c.begins.ensures ∙ c.if-begins.false) (other (sym c.begins-else-begins.ensures ∙ c.if-begins-2.false) (other (sym c.begins-else-begins-2.ensures ∙ c.if-begins-3.false) (other (sym c.begins-else-begins-3.ensures ∙ c.if-begins-4.false) (this (sym c.begins-else-begins-4.ensures ∙ c.if-begins-5.true)))))) (no_part c.in_err-whole-5.ensures.parses))
 
 pub returns-in_ok-whole-5-clause-parses : goal.returns-in_ok-whole-5-clause-parses
-returns-in_ok-whole-5-clause-parses c = by (other (sym c.begins.ensures ∙ c.if-begins.false) (other (sym c.begins-else-begins.ensures ∙ c.if-begins-2.false) (other (sym c.begins-else-begins-2.ensures ∙ c.if-begins-3.false) (other (sym c.begins-else-begins-3.ensures ∙ c.if-begins-4.false) last)))) (then c.in_ok-whole-5.ensures.parses done) refl
+returns-in_ok-whole-5-clause-parses c = by (other (sym c.begins.ensures ∙ c.if-begins.false) (other (sym c.begins-else-begins.ensures ∙ c.if-begins-2.false) (other (sym c.begins-else-begins-2.ensures ∙ c.if-begins-3.false) (other (sym c.begins-else-begins-3.ensures ∙ c.if-begins-4.false) (this (sym c.begins-else-begins-4.ensures ∙ c.if-begins-5.true)))))) (then c.in_ok-whole-5.ensures.parses done) refl
+
+pub returns-in_err-whole-6-clause-parses : goal.returns-in_err-whole-6-clause-parses
+returns-in_err-whole-6-clause-parses c = exit _ c.from_residual-in_err-whole-6.ensures.1 (not_by (other (sym c.begins.ensures ∙ c.if-begins.false) (other (sym c.begins-else-begins.ensures ∙ c.if-begins-2.false) (other (sym c.begins-else-begins-2.ensures ∙ c.if-begins-3.false) (other (sym c.begins-else-begins-3.ensures ∙ c.if-begins-4.false) (other (sym c.begins-else-begins-4.ensures ∙ c.if-begins-5.false) last))))) (no_part c.in_err-whole-6.ensures.parses))
+
+pub returns-in_ok-whole-6-clause-parses : goal.returns-in_ok-whole-6-clause-parses
+returns-in_ok-whole-6-clause-parses c = by (other (sym c.begins.ensures ∙ c.if-begins.false) (other (sym c.begins-else-begins.ensures ∙ c.if-begins-2.false) (other (sym c.begins-else-begins-2.ensures ∙ c.if-begins-3.false) (other (sym c.begins-else-begins-3.ensures ∙ c.if-begins-4.false) (other (sym c.begins-else-begins-4.ensures ∙ c.if-begins-5.false) last))))) (then c.in_ok-whole-6.ensures.parses done) refl

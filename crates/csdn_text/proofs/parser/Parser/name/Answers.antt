@@ -1,5 +1,4 @@
 use Rattle.std.proofs.Common.{refl, sym}
-use Rattle.csdn_tree.specs.declared.syntax.RawItem.TheVariants as i
 use Rattle.csdn_text.specs.Machine.Takes.{done}
 use Rattle.csdn_text.proofs.Steps.{last, by, not_by, then_token, no_token, exit, no_memory}
 use Rattle.csdn_text.proofs.parser.Parser.name.Goals as goal

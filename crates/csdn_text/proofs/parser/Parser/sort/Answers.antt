@@ -1,5 +1,4 @@
-use Rattle.std.proofs.Common.{refl, sym, true, ◌∙◌}
-use Rattle.csdn_tree.specs.declared.syntax.RawItem.TheVariants as i
+use Rattle.std.proofs.Common.{refl, sym, ◌∙◌}
 use Rattle.csdn_text.specs.Machine.Takes.{done}
 use Rattle.csdn_text.proofs.Steps.{last, this, other, by, not_by, then_token, no_token, exit}
 use Rattle.csdn_text.proofs.parser.Parser.sort.Goals as goal

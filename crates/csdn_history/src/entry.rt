@@ -1,0 +1,21 @@
+//! Entries of a history.
+
+/// What a controller's history records, with the seat and the session that brought it.
+#[derive(Clone, Copy, Debug, PartialEq, Eq)]
+pub enum Entry {
+    /// A switch joined.
+    Join {
+        seat: u32,
+        session: u32,
+        s: u64,
+    },
+    /// A packet came in.
+    Packet {
+        seat: u32,
+        session: u32,
+        s: u64,
+        a: u64,
+        b: u64,
+        i: u64,
+    },
+}
