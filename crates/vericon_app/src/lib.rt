@@ -19,4 +19,3 @@ mod program;
 mod show;
 mod source;
 mod trace;
-mod words;
