@@ -136,6 +136,3 @@ pub fn check_call<F: Files, S: Sink>(
         Err(_) => no_memory(out),
     }
 }
-
-#[cfg(test)]
-mod tests;
