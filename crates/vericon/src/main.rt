@@ -1,21 +1,9 @@
-//! The program: the commands over the files and the standard output of its process.
+//! The program: the commands over what its process has.
 #![tactic(auto)]
 
 use std::process::ExitCode;
-use vericon_app::call::{check_call, no_memory};
-use vericon_edge::host_files::HostFiles;
-use vericon_edge::host_sink::HostSink;
-use vericon_edge::host_words::{WordsFault, host_words};
+use vericon_app::process::serve_process;
 
 fn main(rt: HostRuntime) -> ExitCode {
-    let alloc = rt.alloc();
-    let mut files = HostFiles::new(rt);
-    let mut out = HostSink::new(rt.stdout());
-    let status = match host_words(alloc, &rt) {
-        Ok(words) => check_call(alloc, &words, &mut files, &mut out),
-        // A word that is no text belongs to no form.
-        Err(WordsFault::NotText) => check_call(alloc, &[], &mut files, &mut out),
-        Err(WordsFault::Memory) => no_memory(&mut out),
-    };
-    ExitCode::from(status)
+    serve_process(rt)
 }

@@ -15,6 +15,7 @@ pub mod laws;
 mod lines;
 mod load;
 mod outcome;
+pub mod process;
 mod program;
 mod show;
 mod source;
