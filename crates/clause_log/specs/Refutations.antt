@@ -55,6 +55,10 @@ ends_empty (s ∷ t ∷ ss) = ends_empty (t ∷ ss)
 abbrev pub is_refutation : List (List Literal) → List Step → Bool
 is_refutation cs ss = steps_hold cs ss && ends_empty ss
 
+-- the clauses, and those of the steps
+abbrev pub with_steps : List (List Literal) → List Step → List (List Literal)
+with_steps cs ss = cs ++ map (λ s. s.literals) ss
+
 -- the clauses, and those of the first n steps
 abbrev pub known : List (List Literal) → List Step → ℕ → List (List Literal)
-known cs ss n = cs ++ map (λ s. s.literals) (take n ss)
+known cs ss n = with_steps cs (take n ss)

@@ -2,7 +2,7 @@
 
 ghost use Rattle.std.specs.Prelude.{◌≡◌, ◌<◌, ◌≤◌, ℕ, Bool, true, IfOk, length, option_copied, slice_index_or};
 ghost use Rattle.clause_log.specs.Literals.{IsModel};
-ghost use Rattle.clause_log.specs.Refutations.{clause_at as clause_numbered, ends_empty as ends_in_empty, is_refutation, known, no_step, reaches_conflict as reaches, step_holds as holds};
+ghost use Rattle.clause_log.specs.Refutations.{clause_at as clause_numbered, ends_empty as ends_in_empty, is_refutation, known, no_step, reaches_conflict as reaches, step_holds as holds, with_steps};
 ghost use Rattle.clause_log.specs.Values.{assigned};
 
 use crate::assignment::{Values, assign, false_alone, is_conflict, unit};
@@ -11,8 +11,24 @@ use crate::lit::Lit;
 use crate::log::Log;
 use std::alloc::{AllocError, Global};
 
+/// The greatest hint that a log text can give.
+pub const MOST_HINT: u64 = 0x7fff_ffff_ffff_ffff;
+
+/// The clause of this number, of the clauses and then of all steps of the log, where there is one. Numbers begin
+/// at 1. The cost is constant.
+pub fn clause_at<'a>(clauses: &'a Clauses, log: &'a Log, number: u64) -> Option<&'a [Lit]>
+    ensures { option_copied result ≡ clause_numbered (with_steps clauses.now.clauses log.now) number }
+{
+    clause_among(clauses, log, log.len(), number)
+}
+
 // The clause of this number, of the clauses and of this many steps.
-fn clause_at<'a>(clauses: &'a Clauses, log: &'a Log, steps: usize, number: u64) -> Option<&'a [Lit]>
+fn clause_among<'a>(
+    clauses: &'a Clauses,
+    log: &'a Log,
+    steps: usize,
+    number: u64,
+) -> Option<&'a [Lit]>
     requires { steps ≤ length log.now }
     ensures { option_copied result ≡ clause_numbered (known clauses.now.clauses log.now steps) number }
 {
@@ -45,7 +61,7 @@ fn reaches_conflict(
 {
     let mut rest = log.hints(at);
     'hints: while let [hint, more @ ..] = rest {
-        let Some(clause) = clause_at(clauses, log, at, *hint) else {
+        let Some(clause) = clause_among(clauses, log, at, *hint) else {
             return Ok(false);
         };
         if more.is_empty() {

@@ -9,7 +9,7 @@ mod log;
 mod rows;
 mod valuation;
 
-pub use checker::accepts;
+pub use checker::{MOST_HINT, accepts, clause_at};
 pub use clauses::Clauses;
 pub use lit::Lit;
 pub use log::Log;

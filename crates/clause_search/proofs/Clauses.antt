@@ -1,5 +1,7 @@
 -- Going through a clause under the values of a trail.
-use Rattle.std.proofs.Common.{◌≡◌, ◌<◌, ℕ, get_or, Bool, true, false, cond, not, ◌||◌, List, [], ◌∷◌, ◌++◌, length, take, ◌+◌, Option, Some, None, refl, sym, ap, ◌∙◌, subst, inl, inr}
+use Rattle.std.proofs.Common.{◌≡◌, ◌<◌, ℕ, zero, suc, get_or, Bool, true, false, cond, not, ◌||◌, List, [], ◌∷◌, ◌++◌, length, take, ◌+◌, Option, Some, None, refl, sym, ap, ◌∙◌}
+use Rattle.std.specs.Prelude.{slice_get}
+use Rattle.std.proofs.lemmas.Option.{same_Some}
 use Rattle.std.proofs.lemmas.List.Folds.{list_all_more}
 use Rattle.std.proofs.lemmas.List.Sums.{AllPass-from_list_all}
 use Rattle.std.specs.List.{list_all}
@@ -7,9 +9,10 @@ use Rattle.std.proofs.lemmas.Bool.{and_parts, and_from, or_right}
 use Rattle.clause_log.specs.Literals.{Literal, ClauseList, has_distinct_atoms, is_within, is_clause}
 use Rattle.clause_log.specs.Assignments.{Assignment, literal_value, open_literals, is_empty, is_conflict, unit_literal, is_false}
 use Rattle.clause_log.proofs.Units.{found_list, IsNew, no_value_by, open-false, open-new}
-use Rattle.clause_search.specs.Searches.{is_satisfied, says_true, IsOf, IsEither}
-use Rattle.clause_search.specs.declared.clause.Candidate.{Candidate}
-use Rattle.clause_search.proofs.Learned.{only_is, only_from}
+use Rattle.clause_log.specs.Refutations.{clause_at}
+use Rattle.clause_search.specs.Searches.{is_satisfied, says_true, IsOf}
+use Rattle.clause_search.proofs.Places.{none_some}
+use Rattle.clause_search.proofs.Forced.{only_is, only_from}
 
 -- the open literals found, and those of the rest, are those of the clause
 pub record IsScanned (f : Assignment) (found : Option Literal) (rest clause : List Literal) : Type 0 where
@@ -32,11 +35,11 @@ pub scan_conflict : (f : Assignment) (clause : List Literal) → IsScanned f Non
 scan_conflict f clause h = ap is_empty (sym h.so_far)
 
 -- nothing open so far; or this literal was found
-abbrev pub IsFound : Assignment → List Literal → List Literal → Option Candidate → Type 0
+abbrev pub IsFound : Assignment → List Literal → List Literal → Option Literal → Type 0
 IsFound f clause rest None = open_literals f rest ≡ open_literals f clause
-IsFound f clause rest (Some k) = (f k.literal.atom ≡ None) × IsOf clause k.literal
+IsFound f clause rest (Some k) = (f k.atom ≡ None) × IsOf clause k
 
-pub record IsLeft (f : Assignment) (found : Option Candidate) (rest clause : List Literal) : Type 0 where
+pub record IsLeft (f : Assignment) (found : Option Literal) (rest clause : List Literal) : Type 0 where
   pub satisfied : is_satisfied f rest ≡ true → is_satisfied f clause ≡ true
   pub whole : (test : Literal → Bool) → list_all test clause ≡ true → list_all test rest ≡ true
   pub open_one : IsFound f clause rest found
@@ -50,30 +53,25 @@ later f l ls clause k e = k (or_right (says_true (literal_value f l)) (is_satisf
 tail_passes : (test : Literal → Bool) (l : Literal) (ls : List Literal) → list_all test (l ∷ ls) ≡ true → list_all test ls ≡ true
 tail_passes test l ls e = (and_parts (test l) (list_all test ls) e).1
 
-found_false : (f : Assignment) (found : Option Candidate) (l : Literal) (ls clause : List Literal) → literal_value f l ≡ Some false → IsFound f clause (l ∷ ls) found → IsFound f clause ls found
+found_false : (f : Assignment) (found : Option Literal) (l : Literal) (ls clause : List Literal) → literal_value f l ≡ Some false → IsFound f clause (l ∷ ls) found → IsFound f clause ls found
 found_false f None l ls clause e h = sym (open-false f l ls e) ∙ h
 found_false f (Some k) l ls clause e h = h
 
-pub left_false : (f : Assignment) (found : Option Candidate) (l : Literal) (ls clause : List Literal) → literal_value f l ≡ Some false → IsLeft f found (l ∷ ls) clause → IsLeft f found ls clause
+pub left_false : (f : Assignment) (found : Option Literal) (l : Literal) (ls clause : List Literal) → literal_value f l ≡ Some false → IsLeft f found (l ∷ ls) clause → IsLeft f found ls clause
 left_false f found l ls clause e h = record {
   satisfied = later f l ls clause h.satisfied;
   whole = λ test k. tail_passes test l ls (h.whole test k);
   open_one = found_false f found l ls clause e h.open_one;
 }
 
-either_passes : (found : Option Candidate) (l k : Literal) (f : Assignment) (ls clause : List Literal) → IsEither found l k → IsFound f clause ls found → f l.atom ≡ None → IsOf clause l → (f k.atom ≡ None) × IsOf clause k
-either_passes None l k f ls clause e h n o = (subst (λ (z : Literal). f z.atom ≡ None) (sym e) n, subst (λ (z : Literal). IsOf clause z) (sym e) o)
-either_passes (Some j) l k f ls clause (inl e) h n o = (subst (λ (z : Literal). f z.atom ≡ None) (sym e) h.0, subst (λ (z : Literal). IsOf clause z) (sym e) h.1)
-either_passes (Some j) l k f ls clause (inr e) h n o = (subst (λ (z : Literal). f z.atom ≡ None) (sym e) n, subst (λ (z : Literal). IsOf clause z) (sym e) o)
-
-pub left_more : (f : Assignment) (found : Option Candidate) (k : Candidate) (l : Literal) (ls clause : List Literal) → literal_value f l ≡ None → IsEither found l k.literal → IsLeft f found (l ∷ ls) clause → IsLeft f (Some k) ls clause
-left_more f found k l ls clause e either h = record {
+pub left_more : (f : Assignment) (found : Option Literal) (l : Literal) (ls clause : List Literal) → literal_value f l ≡ None → IsLeft f found (l ∷ ls) clause → IsLeft f (Some l) ls clause
+left_more f found l ls clause e h = record {
   satisfied = later f l ls clause h.satisfied;
   whole = λ test p. tail_passes test l ls (h.whole test p);
-  open_one = either_passes found l k.literal f (l ∷ ls) clause either h.open_one (no_value_by l.positive (f l.atom) e) (λ test p. (and_parts (test l) (list_all test ls) (h.whole test p)).0);
+  open_one = (no_value_by l.positive (f l.atom) e, λ test p. (and_parts (test l) (list_all test ls) (h.whole test p)).0);
 }
 
-pub left_true : (f : Assignment) (found : Option Candidate) (l : Literal) (ls clause : List Literal) → literal_value f l ≡ Some true → IsLeft f found (l ∷ ls) clause → is_satisfied f clause ≡ true
+pub left_true : (f : Assignment) (found : Option Literal) (l : Literal) (ls clause : List Literal) → literal_value f l ≡ Some true → IsLeft f found (l ∷ ls) clause → is_satisfied f clause ≡ true
 left_true f found l ls clause e h = h.satisfied (ap (λ o. says_true o || is_satisfied f ls) e)
 
 pub left_conflict : (f : Assignment) (clause : List Literal) → IsLeft f None [] clause → is_conflict f clause ≡ true
@@ -107,24 +105,22 @@ all_within atoms c h = (and_parts (has_distinct_atoms c) (list_all (is_within at
 pub within_at : (atoms : ℕ) (cs : List (List Literal)) (i : ℕ) (c : List Literal) → i < length cs → list_all (is_clause atoms) cs ≡ true → c ≡ get_or cs i [] → list_all (is_within atoms) c ≡ true
 within_at atoms cs i c l h e = all_within atoms c (ap (is_clause atoms) e ∙ AllPass-from_list_all (is_clause atoms) cs h i [] l)
 
-pub forced_within : (atoms : ℕ) (cs : List (List Literal)) (i : ℕ) (f : Assignment) (c : List Literal) (l : Literal) → i < length cs → list_all (is_clause atoms) cs ≡ true → c ≡ get_or cs i [] → unit_literal f c ≡ Some l → is_within atoms l ≡ true
-forced_within atoms cs i f c l b h e u = forced_passes (is_within atoms) f c l u (within_at atoms cs i c b h e)
+-- the clause of a number passes a test that all pass
+placed_passes : (test : List Literal → Bool) (cs : List (List Literal)) (i : ℕ) (c : List Literal) → slice_get cs i ≡ Some c → list_all test cs ≡ true → test c ≡ true
+placed_passes test [] i c e h = absurd (none_some c (sym e))
+placed_passes test (k ∷ cs) zero c e h = ap test (sym (same_Some k c e)) ∙ (and_parts (test k) (list_all test cs) h).0
+placed_passes test (k ∷ cs) (suc i) c e h = placed_passes test cs i c e (and_parts (test k) (list_all test cs) h).1
 
--- of the clauses before a place, the best candidate; where there is none, they are all true
-abbrev pub IsBest : ClauseList → Assignment → ℕ → Option Candidate → Type 0
-IsBest c f at None = list_all (is_satisfied f) (take at c.clauses) ≡ true
-IsBest c f at (Some k) = (f k.literal.atom ≡ None) × (is_within c.atoms k.literal ≡ true)
+numbered_passes : (test : List Literal → Bool) (cs : List (List Literal)) (h : ℕ) (c : List Literal) → clause_at cs h ≡ Some c → list_all test cs ≡ true → test c ≡ true
+numbered_passes test cs zero c e k = absurd (none_some c (sym e))
+numbered_passes test cs (suc i) c e k = placed_passes test cs i c e k
 
-pub best_true : (c : ClauseList) (f : Assignment) (at : ℕ) (best : Option Candidate) → at < length c.clauses → is_satisfied f (get_or c.clauses at []) ≡ true → IsBest c f at best → IsBest c f (at + 1) best
-best_true c f at None l h k =
+pub forced_within : (atoms : ℕ) (cs : List (List Literal)) (h : ℕ) (f : Assignment) (c : List Literal) (l : Literal) → list_all (is_clause atoms) cs ≡ true → clause_at cs h ≡ Some c → unit_literal f c ≡ Some l → is_within atoms l ≡ true
+forced_within atoms cs h f c l k e u = forced_passes (is_within atoms) f c l u (all_within atoms c (numbered_passes (is_clause atoms) cs h c e k))
+
+pub true_more : (c : ClauseList) (f : Assignment) (at : ℕ) → at < length c.clauses → is_satisfied f (get_or c.clauses at []) ≡ true → list_all (is_satisfied f) (take at c.clauses) ≡ true → list_all (is_satisfied f) (take (at + 1) c.clauses) ≡ true
+true_more c f at l h k =
     list_all_more (is_satisfied f) c.clauses at [] l ∙ and_from (list_all (is_satisfied f) (take at c.clauses)) (is_satisfied f (get_or c.clauses at [])) k h
-best_true c f at (Some b) l h k = k
-
-pub best_more : (c : ClauseList) (f : Assignment) (at : ℕ) (best : Option Candidate) (other k : Candidate) → IsEither best other.literal k.literal → f other.literal.atom ≡ None → is_within c.atoms other.literal ≡ true → IsBest c f at best
-    → IsBest c f (at + 1) (Some k)
-best_more c f at None other k e n w h = (subst (λ (z : Literal). f z.atom ≡ None) (sym e) n, subst (λ (z : Literal). is_within c.atoms z ≡ true) (sym e) w)
-best_more c f at (Some b) other k (inl e) n w h = (subst (λ (z : Literal). f z.atom ≡ None) (sym e) h.0, subst (λ (z : Literal). is_within c.atoms z ≡ true) (sym e) h.1)
-best_more c f at (Some b) other k (inr e) n w h = (subst (λ (z : Literal). f z.atom ≡ None) (sym e) n, subst (λ (z : Literal). is_within c.atoms z ≡ true) (sym e) w)
 
 pub open_within : (c : ClauseList) (i : ℕ) (clause : List Literal) (l : Literal) → i < length c.clauses → list_all (is_clause c.atoms) c.clauses ≡ true → clause ≡ get_or c.clauses i [] → IsOf clause l → is_within c.atoms l ≡ true
 open_within c i clause l b h e o = o (is_within c.atoms) (within_at c.atoms c.clauses i clause b h e)

@@ -1,11 +1,11 @@
 -- Trails, entry by entry.
-use Rattle.std.proofs.Common.{◌≡◌, ℕ, zero, suc, List, [], ◌∷◌, ◌++◌, Option, Some, None, refl, sym, ap, ap₂, ◌∙◌, subst}
+use Rattle.std.proofs.Common.{◌≡◌, ℕ, zero, suc, List, [], ◌∷◌, ◌++◌, Option, Some, None, refl, sym, ap, ◌∙◌, subst}
 use Rattle.std.proofs.lemmas.List.{append_assoc, append-nil}
 use Rattle.general_facts.proofs.Lists.{slice_get-append}
 use Rattle.clause_log.specs.Literals.{Literal}
 use Rattle.clause_log.specs.Assignments.{Assignment, no_values, assign}
 use Rattle.clause_log.specs.Refutations.{clause_at, unit_at}
-use Rattle.clause_search.specs.Trails.{after, values_of, AreNew, if_decided, decisions, IsForced, Fits, IsTrail, Extends}
+use Rattle.clause_search.specs.Trails.{after, values_of, AreNew, IsForced, Fits, IsTrail, Extends}
 use Rattle.clause_search.specs.declared.trail.Entry.{Entry}
 
 pub after-append : (f : Assignment) (xs ys : List Entry) → after f (xs ++ ys) ≡ after (after f xs) ys
@@ -54,42 +54,21 @@ trail-more atoms cs ds f [] h = tt
 trail-more atoms cs ds f (e ∷ es) h =
     (record { new = h.0.new; within = h.0.within; forced = forced-more cs ds f e.literal e.reason h.0.forced }, trail-more atoms cs ds (assign e.literal f) es h.1)
 
-decided-append : (r : Option ℕ) (l : Literal) (xs ys : List Literal) → if_decided r l (xs ++ ys) ≡ if_decided r l xs ++ ys
-decided-append None l xs ys = refl
-decided-append (Some r) l xs ys = refl
-
-pub decisions-append : (xs ys : List Entry) → decisions (xs ++ ys) ≡ decisions xs ++ decisions ys
-decisions-append [] ys = refl
-decisions-append (x ∷ xs) ys = ap (if_decided x.reason x.literal) (decisions-append xs ys) ∙ decided-append x.reason x.literal (decisions xs) (decisions ys)
-
-pub no_decisions-append : (xs ys : List Entry) → decisions xs ≡ [] → decisions ys ≡ [] → decisions (xs ++ ys) ≡ []
-no_decisions-append xs ys h k = decisions-append xs ys ∙ ap₂ (λ ps qs. ps ++ qs) h k
-
 pub extends_not : (atoms : ℕ) (cs : List (List Literal)) (old : List Entry) → Extends atoms cs old old
-extends_not atoms cs old = record { more = []; is = sym (append-nil old); forced = refl; fits = tt }
+extends_not atoms cs old = record { more = []; is = sym (append-nil old); fits = tt }
 
 pub extends_one : (atoms : ℕ) (cs : List (List Literal)) (old new : List Entry) (l : Literal) (h : ℕ) → new ≡ old ++ record { literal = l; reason = Some h } ∷ []
     → (let e : Entry = record { literal = l; reason = Some h } in Fits atoms cs (values_of old) e) → Extends atoms cs old new
-extends_one atoms cs old new l h e f = record { more = record { literal = l; reason = Some h } ∷ []; is = e; forced = refl; fits = (f, tt) }
+extends_one atoms cs old new l h e f = record { more = record { literal = l; reason = Some h } ∷ []; is = e; fits = (f, tt) }
 
 pub extends_on : (atoms : ℕ) (cs : List (List Literal)) (old mid new : List Entry) → Extends atoms cs old mid → Extends atoms cs mid new → Extends atoms cs old new
 extends_on atoms cs old mid new h k = record {
   more = h.more ++ k.more;
   is = k.is ∙ ap (λ z. z ++ k.more) h.is ∙ append_assoc old h.more k.more;
-  forced = no_decisions-append h.more k.more h.forced k.forced;
   fits = trail-append atoms cs (values_of old) h.more k.more h.fits
       (subst (λ f. IsTrail atoms cs f k.more) (ap values_of h.is ∙ after-append no_values old h.more) k.fits);
 }
 
 -- a trail stays one
-pub extended : (atoms : ℕ) (cs ds : List (List Literal)) (old new : List Entry) → Extends atoms cs old new → IsTrail atoms (cs ++ ds) no_values old → IsTrail atoms (cs ++ ds) no_values new
-extended atoms cs ds old new h t =
-    subst (IsTrail atoms (cs ++ ds) no_values) (sym h.is) (trail-append atoms (cs ++ ds) no_values old h.more t (trail-more atoms cs ds (values_of old) h.more h.fits))
-
-nil_left : {X : Type 0} (xs ys : List X) → [] ≡ xs ++ ys → xs ≡ []
-nil_left [] ys e = refl
-nil_left (x ∷ xs) ys e = absurd cc
-
--- where nothing is left, there was no decision
-pub all_gone : (old now last : List Entry) → ((gone : List Entry) × (old ≡ now ++ gone) × (decisions gone ≡ [])) → now ≡ [] → decisions old ≡ []
-all_gone old now last i e = ap decisions (i.1 ∙ ap (λ z. z ++ i.0) e) ∙ i.2
+pub extended : (atoms : ℕ) (cs : List (List Literal)) (old new : List Entry) → Extends atoms cs old new → IsTrail atoms cs no_values old → IsTrail atoms cs no_values new
+extended atoms cs old new h t = subst (IsTrail atoms cs no_values) (sym h.is) (trail-append atoms cs no_values old h.more t h.fits)

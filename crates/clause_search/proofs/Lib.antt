@@ -1,7 +1,11 @@
 pub mod Places
 pub mod Growth
 pub mod Entries
-pub mod Learned
+pub mod Forced
+pub mod Marked
+pub mod Listed
+pub mod CutLaws
+pub mod Points
 pub mod Logged
 pub mod Clauses
 pub mod Models

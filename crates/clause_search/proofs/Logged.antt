@@ -5,8 +5,7 @@ use Rattle.std.proofs.lemmas.Bool.{and_parts, and_from}
 use Rattle.std.proofs.lemmas.List.{append_assoc, map-append, length-map, append-nil}
 use Rattle.clause_log.specs.Literals.{Literal}
 use Rattle.clause_log.specs.Assignments.{is_empty}
-use Rattle.clause_log.specs.Refutations.{Step, clause_at, step_holds, steps_hold, ends_empty}
-use Rattle.clause_search.specs.Searches.{with_steps}
+use Rattle.clause_log.specs.Refutations.{Step, clause_at, step_holds, steps_hold, ends_empty, with_steps}
 
 abbrev pub lits : Step → List Literal
 lits s = s.literals

@@ -1,123 +1,112 @@
 -- What a turn back does.
-use Rattle.std.proofs.Common.{◌≡◌, ◌<◌, ℕ, ◌+◌, true, List, [], ◌∷◌, ◌++◌, map, length, Option, Some, None, Result, Ok, Err, IfOk, refl, sym, ap, ap₂, ◌∙◌, subst, arith, length-append}
+use Rattle.std.proofs.Common.{◌≡◌, ◌<◌, ℕ, ◌+◌, true, List, [], ◌∷◌, ◌++◌, map, take, length, Option, Some, None, Result, Ok, Err, IfOk, refl, sym, ap, ap₂, ◌∙◌, subst, arith, length-append}
 use Rattle.std.specs.List.{list_all}
-use Rattle.std.proofs.lemmas.Bool.{and_from, false≢true}
-use Rattle.std.proofs.lemmas.List.{map-append}
-use Rattle.clause_log.specs.Literals.{Literal, ClauseList, negated, has_distinct_atoms, is_within, is_clause}
-use Rattle.clause_log.specs.Assignments.{Assignment, no_values, unit_literal}
-use Rattle.clause_log.specs.Refutations.{Step, clause_at, is_conflict_at, unit_at, step_holds, steps_hold, ends_empty, is_refutation}
+use Rattle.std.proofs.Math.Seq.{take-append_seam}
+use Rattle.std.proofs.lemmas.Bool.{and_parts, and_from, false≢true}
+use Rattle.std.proofs.lemmas.List.Folds.{list_all-append}
+use Rattle.clause_log.specs.Literals.{Literal, ClauseList, has_distinct_atoms, is_within, is_clause}
+use Rattle.clause_log.specs.Assignments.{Assignment, no_values}
+use Rattle.clause_log.specs.Refutations.{Step, clause_at, is_conflict_at, unit_at, step_holds, steps_hold, ends_empty, with_steps}
+use Rattle.clause_log.specs.Limits.{is_hint, is_step}
 use Rattle.clause_log.proofs.Flat.{all_more}
-use Rattle.clause_search.specs.Outcomes.{is_hint, is_step, IsRefutationOf}
+use Rattle.clause_search.specs.Outcomes.{IsRefutationOf}
 use Rattle.clause_search.specs.declared.trail.Entry.{Entry}
-use Rattle.clause_search.specs.Trails.{values_of, decisions, reasons, Fits, IsTrail, Extends, trail_number}
-use Rattle.clause_search.specs.Searches.{IsConflict, IsSearch, Turns, with_steps}
+use Rattle.clause_search.specs.declared.cut.Jump.{Jump}
+use Rattle.clause_search.specs.Trails.{values_of, Fits, IsTrail, Extends, trail_number}
+use Rattle.clause_search.specs.Cuts.{IsJump}
+use Rattle.clause_search.specs.Searches.{IsConflict, IsSearch, Turns}
 use Rattle.clause_search.specs.declared.turn.Turn.{Turn}
 use Rattle.clause_search.specs.declared.turn.Turn.TheVariants.{GoesOn, AllTrue, Failed}
 use Rattle.clause_search.proofs.Growth.{flipped, grows, not_longer, never_falls}
-use Rattle.clause_search.proofs.Entries.{clause_at-more, trail-append, trail-front, trail-back, trail-more, decisions-append, extended}
-use Rattle.clause_search.proofs.Learned.{concludes, learned_clause, learned_distinct, learned_hints, turned_unit}
+use Rattle.clause_search.proofs.Entries.{clause_at-more, trail-append, trail-front, trail-more, extended}
+use Rattle.clause_search.proofs.Clauses.{all_within, forced_new, forced_passes}
 use Rattle.clause_search.proofs.Logged.{steps-append, hold-append, new_step_at, ends-append}
 
 conflict_by : (cs ds : List (List Literal)) (f : Assignment) (h : ℕ) (o : Option (List Literal)) → clause_at cs h ≡ o → is_conflict_at f o ≡ true → is_conflict_at f (clause_at (cs ++ ds) h) ≡ true
 conflict_by cs ds f h None e c = absurd (false≢true c)
 conflict_by cs ds f h (Some k) e c = ap (is_conflict_at f) (clause_at-more cs ds h k e) ∙ c
 
--- what is learned of a trail at a conflict
-abbrev pub learned : List Entry → ℕ → Step
-learned trail h = record { literals = map negated (decisions trail); hints = reasons trail ++ h ∷ [] }
+-- a conflict among the clauses is one among those of the steps too
+pub conflict_among : (cs : List (List Literal)) (log : List Step) (f : Assignment) (h : ℕ) (c : List Literal) → clause_at cs h ≡ Some c → is_conflict_at f (Some c) ≡ true → is_hint h ≡ true → IsConflict (with_steps cs log) f h
+conflict_among cs log f h c e k small = (conflict_by cs (map (λ s. s.literals) log) f h (Some c) e k, small)
 
-learned_holds : (c : ClauseList) (log : List Step) (trail : List Entry) (h : ℕ) → IsSearch c log trail → IsConflict c.clauses (values_of trail) h → step_holds (with_steps c.clauses log) (learned trail h) ≡ true
-learned_holds c log trail h s k =
-    concludes c.atoms (with_steps c.clauses log) h no_values trail s.fits (conflict_by c.clauses (map (λ s. s.literals) log) (values_of trail) h (clause_at c.clauses h) refl k.0)
+steps_clauses : (atoms : ℕ) (log : List Step) → list_all (is_step atoms) log ≡ true → list_all (is_clause atoms) (map (λ s. s.literals) log) ≡ true
+steps_clauses atoms [] h = refl
+steps_clauses atoms (s ∷ ss) h =
+    let p = and_parts (is_step atoms s) (list_all (is_step atoms) ss) h in
+    and_from (is_clause atoms s.literals) (list_all (is_clause atoms) (map (λ s. s.literals) ss)) (and_parts (is_clause atoms s.literals) (list_all is_hint s.hints) p.0).0 (steps_clauses atoms ss p.1)
 
-pub learned_steps : (c : ClauseList) (log : List Step) (trail : List Entry) (h : ℕ) → IsSearch c log trail → IsConflict c.clauses (values_of trail) h → steps_hold c.clauses (log ++ learned trail h ∷ []) ≡ true
-learned_steps c log trail h s k = hold-append c.clauses log (learned trail h) s.steps (learned_holds c log trail h s k)
+-- the clauses and those of the steps are clauses over the atoms
+pub all_clauses : (c : ClauseList) (log : List Step) (trail : List Entry) → list_all (is_clause c.atoms) c.clauses ≡ true → IsSearch c log trail → list_all (is_clause c.atoms) (with_steps c.clauses log) ≡ true
+all_clauses c log trail h s =
+    list_all-append (is_clause c.atoms) c.clauses (map (λ s. s.literals) log)
+    ∙ and_from (list_all (is_clause c.atoms) c.clauses) (list_all (is_clause c.atoms) (map (λ s. s.literals) log)) h (steps_clauses c.atoms log s.within)
 
-learned_is_step : (c : ClauseList) (log : List Step) (trail : List Entry) (h : ℕ) → IsSearch c log trail → IsConflict c.clauses (values_of trail) h → is_step c.atoms (learned trail h) ≡ true
-learned_is_step c log trail h s k =
-    and_from (is_clause c.atoms (map negated (decisions trail))) (list_all is_hint (reasons trail ++ h ∷ []))
-    (learned_clause c.atoms (with_steps c.clauses log) no_values trail s.fits) (learned_hints c.atoms (with_steps c.clauses log) h no_values trail k.1 s.fits)
+-- a step that was worked out and logged
+pub record IsLogged (c : ClauseList) (log now : List Step) (s : Step) : Type 0 where
+  pub holds : step_holds (with_steps c.clauses log) s ≡ true
+  pub within : is_step c.atoms s ≡ true
+  pub is : now ≡ log ++ s ∷ []
 
-pub learned_within : (c : ClauseList) (log : List Step) (trail : List Entry) (h : ℕ) → IsSearch c log trail → IsConflict c.clauses (values_of trail) h → list_all (is_step c.atoms) (log ++ learned trail h ∷ []) ≡ true
-learned_within c log trail h s k = all_more (is_step c.atoms) log (log ++ learned trail h ∷ []) (learned trail h) refl s.within (learned_is_step c log trail h s k)
+pub pushable : (atoms : ℕ) (s : Step) → is_step atoms s ≡ true → has_distinct_atoms s.literals ≡ true
+pushable atoms s h = (and_parts (has_distinct_atoms s.literals) (list_all (is_within atoms) s.literals) (and_parts (is_clause atoms s.literals) (list_all is_hint s.hints) h).0).0
 
-pub pushable : (c : ClauseList) (log : List Step) (trail : List Entry) → IsSearch c log trail → has_distinct_atoms (map negated (decisions trail)) ≡ true
-pushable c log trail s = learned_distinct c.atoms (with_steps c.clauses log) no_values trail s.fits
+steps_logged : (c : ClauseList) (log now : List Step) (s : Step) (trail : List Entry) → IsSearch c log trail → IsLogged c log now s → steps_hold c.clauses now ≡ true
+steps_logged c log now s trail search l = ap (steps_hold c.clauses) l.is ∙ hold-append c.clauses log s search.steps l.holds
 
--- without a decision, the log refutes
-pub refuted : (c : ClauseList) (log after_push : List Step) (trail : List Entry) (h : ℕ) → IsSearch c log trail → IsConflict c.clauses (values_of trail) h → decisions trail ≡ [] → after_push ≡ log ++ learned trail h ∷ [] → IsRefutationOf c after_push
-refuted c log after_push trail h s k none is = record {
-  accepted = ap (is_refutation c.clauses) is
-      ∙ and_from (steps_hold c.clauses (log ++ learned trail h ∷ [])) (ends_empty (log ++ learned trail h ∷ [])) (learned_steps c log trail h s k) (ends-append log (learned trail h) (ap (map negated) none));
-  within = ap (list_all (is_step c.atoms)) is ∙ learned_within c log trail h s k;
+within_logged : (c : ClauseList) (log now : List Step) (s : Step) (trail : List Entry) → IsSearch c log trail → IsLogged c log now s → list_all (is_step c.atoms) now ≡ true
+within_logged c log now s trail search l = all_more (is_step c.atoms) log now s l.is search.within l.within
+
+-- a step without literals: the log refutes
+pub refuted : (c : ClauseList) (log now : List Step) (s : Step) (trail : List Entry) → IsSearch c log trail → IsLogged c log now s → s.literals ≡ [] → IsRefutationOf c now
+refuted c log now s trail search l none = record {
+  accepted = and_from (steps_hold c.clauses now) (ends_empty now) (steps_logged c log now s trail search l) (ap ends_empty l.is ∙ ends-append log s none);
+  within = within_logged c log now s trail search l;
 }
 
--- the trail before its last decision, and that decision
-pub record IsBefore (old front : List Entry) (d : Literal) : Type 0 where
-  pub back : List Entry
-  pub is : old ≡ front ++ record { literal = d; reason = None } ∷ back
-  pub none : decisions back ≡ []
+-- the trail cut short
+pub cut_short : (trail : List Entry) (s : Step) (j : Jump) (front : List Entry) → (jump : IsJump trail s.literals j) → front ≡ take j.place trail → front ≡ jump.front
+cut_short trail s j front jump is =
+    is ∙ ap₂ (λ n es. take n es) (sym jump.place_is) jump.is ∙ take-append_seam jump.front (record { literal = jump.decided; reason = None } ∷ jump.back)
 
-pub before_new : (c : ClauseList) (log : List Step) (old front : List Entry) (d : Literal) → IsSearch c log old → IsBefore old front d → values_of front d.atom ≡ None
-before_new c log old front d s b =
-    let t = subst (IsTrail c.atoms (with_steps c.clauses log) no_values) b.is s.fits in
-    (trail-back c.atoms (with_steps c.clauses log) no_values front (record { literal = d; reason = None } ∷ b.back) t).0.new
+pub jump_new : (trail : List Entry) (s : Step) (j : Jump) (front : List Entry) → IsJump trail s.literals j → front ≡ take j.place trail → values_of front j.literal.atom ≡ None
+jump_new trail s j front jump is = ap (λ es. values_of es j.literal.atom) (cut_short trail s j front jump is) ∙ forced_new (values_of jump.front) s.literals j.literal jump.forces
 
-last_decisions : (old front : List Entry) (d : Literal) → IsBefore old front d → map negated (decisions old) ≡ map negated (decisions front) ++ negated d ∷ []
-last_decisions old front d b =
-    ap (map negated) (ap decisions b.is ∙ decisions-append front (record { literal = d; reason = None } ∷ b.back) ∙ ap (λ z. decisions front ++ d ∷ z) b.none)
-    ∙ map-append negated (decisions front) (d ∷ [])
-
--- the last decision's opposite fits in its place
-turned_fits : (c : ClauseList) (log : List Step) (old front : List Entry) (d : Literal) (h n : ℕ) → IsSearch c log old → IsBefore old front d → n ≡ length c.clauses + length log + 1 → is_hint n ≡ true
-    → (let e : Entry = record { literal = negated d; reason = Some n } in Fits c.atoms (with_steps c.clauses (log ++ learned old h ∷ [])) (values_of front) e)
-turned_fits c log old front d h n s b number small =
-    let cs = with_steps c.clauses log in
-    let t = subst (IsTrail c.atoms cs no_values) b.is s.fits in
-    let here = (trail-back c.atoms cs no_values front (record { literal = d; reason = None } ∷ b.back) t).0 in
-    let unit : unit_literal (values_of front) (map negated (decisions old)) ≡ Some (negated d) =
-    ap (unit_literal (values_of front)) (last_decisions old front d b) ∙ turned_unit c.atoms cs front d (trail-front c.atoms cs no_values front (record { literal = d; reason = None } ∷ b.back) t) here.new in
+jump_fits : (c : ClauseList) (log now : List Step) (s : Step) (trail : List Entry) (j : Jump) (n : ℕ) → IsLogged c log now s → (jump : IsJump trail s.literals j) → n ≡ length c.clauses + length log + 1 → is_hint n ≡ true
+    → (let e : Entry = record { literal = j.literal; reason = Some n } in Fits c.atoms (with_steps c.clauses now) (values_of jump.front) e)
+jump_fits c log now s trail j n l jump number small =
+    let f = values_of jump.front in
+    let clause : is_clause c.atoms s.literals ≡ true = (and_parts (is_clause c.atoms s.literals) (list_all is_hint s.hints) l.within).0 in
     record {
-      new = here.new;
-      within = here.within;
-      forced = (ap (unit_at (values_of front)) (new_step_at c.clauses log (learned old h) n number) ∙ unit, small);
+      new = forced_new f s.literals j.literal jump.forces;
+      within = forced_passes (is_within c.atoms) f s.literals j.literal jump.forces (all_within c.atoms s.literals clause);
+      forced = (ap (λ z. unit_at f (clause_at (with_steps c.clauses z) n)) l.is ∙ ap (unit_at f) (new_step_at c.clauses log s n number) ∙ jump.forces, small);
     }
 
-front_short : (c : ClauseList) (log : List Step) (old front : List Entry) (d : Literal) → IsSearch c log old → IsBefore old front d → length front < c.atoms
-front_short c log old front d s b =
-    let most = not_longer c.atoms (with_steps c.clauses log) no_values old s.fits in
-    let e : List Entry = record { literal = d; reason = None } ∷ b.back in
-    let parts = ap length b.is ∙ length-append front e in
-    omega (arith, most, parts)
-
-pub turned_search : (c : ClauseList) (log after_push : List Step) (old front new : List Entry) (d : Literal) (h n : ℕ) → IsSearch c log old → IsConflict c.clauses (values_of old) h → IsBefore old front d → n ≡ length c.clauses + length log + 1 → is_hint n ≡ true
-    → after_push ≡ log ++ learned old h ∷ [] → new ≡ front ++ record { literal = negated d; reason = Some n } ∷ [] → IsSearch c after_push new
-turned_search c log after_push old front new d h n s k b number small is made =
+pub turned : (c : ClauseList) (log now : List Step) (s : Step) (trail front new : List Entry) (j : Jump) (n : ℕ) → IsSearch c log trail → IsLogged c log now s → IsJump trail s.literals j → n ≡ length c.clauses + length log + 1 → is_hint n ≡ true
+    → front ≡ take j.place trail → new ≡ front ++ record { literal = j.literal; reason = Some n } ∷ [] → IsSearch c now new × (trail_number c.atoms trail < trail_number c.atoms new)
+turned c log now s trail front new j n search l jump number small short made =
     let cs = with_steps c.clauses log in
-    let ds = with_steps c.clauses (log ++ learned old h ∷ []) in
-    let t = subst (IsTrail c.atoms cs no_values) b.is s.fits in
-    let before : IsTrail c.atoms cs no_values front = trail-front c.atoms cs no_values front (record { literal = d; reason = None } ∷ b.back) t in
-    let more : IsTrail c.atoms ds no_values front = subst (λ z. IsTrail c.atoms z no_values front) (sym (steps-append c.clauses log (learned old h))) (trail-more c.atoms cs ((learned old h).literals ∷ []) no_values front before) in
-    let whole : IsTrail c.atoms ds no_values new = subst (IsTrail c.atoms ds no_values) (sym made) (trail-append c.atoms ds no_values front (record { literal = negated d; reason = Some n } ∷ []) more (turned_fits c log old front d h n s b number small, tt)) in
-    record {
-      steps = ap (steps_hold c.clauses) is ∙ learned_steps c log old h s k;
-      within = ap (list_all (is_step c.atoms)) is ∙ learned_within c log old h s k;
-      fits = subst (λ z. IsTrail c.atoms (with_steps c.clauses z) no_values new) (sym is) whole;
-    }
-
-pub turned_grows : (c : ClauseList) (log : List Step) (old front new : List Entry) (d : Literal) (n : ℕ) → IsSearch c log old → IsBefore old front d → new ≡ front ++ record { literal = negated d; reason = Some n } ∷ [] → trail_number c.atoms old < trail_number c.atoms new
-turned_grows c log old front new d n s b made =
-    let less = flipped c.atoms front b.back d (negated d) n (front_short c log old front d s b) in
-    let before = ap (trail_number c.atoms) b.is in
-    let now = ap (trail_number c.atoms) made in
-    omega (arith, less, before, now)
-
-pub before_from : (old front : List Entry) (d : Literal) → ((back : List Entry) × (old ≡ front ++ record { literal = d; reason = None } ∷ back) × (decisions back ≡ [])) → IsBefore old front d
-before_from old front d u = record { back = u.0; is = u.1; none = u.2 }
-
-pub learned_is : (log after_push : List Step) (trail : List Entry) (h : ℕ) (literals : List Literal) (hints : List ℕ) → literals ≡ map negated (decisions trail) → hints ≡ reasons trail ++ h ∷ []
-    → after_push ≡ log ++ record { literals = literals; hints = hints } ∷ [] → after_push ≡ log ++ learned trail h ∷ []
-learned_is log after_push trail h literals hints e f is = is ∙ ap₂ (λ ls hs. log ++ record { literals = ls; hints = hs } ∷ []) e f
+    let ds = with_steps c.clauses now in
+    let d : Entry = record { literal = jump.decided; reason = None } in
+    let e : Entry = record { literal = j.literal; reason = Some n } in
+    let made_of : new ≡ jump.front ++ e ∷ [] = made ∙ ap (λ z. z ++ e ∷ []) (cut_short trail s j front jump short) in
+    let before : IsTrail c.atoms cs no_values jump.front = trail-front c.atoms cs no_values jump.front (d ∷ jump.back) (subst (IsTrail c.atoms cs no_values) jump.is search.fits) in
+    let more : cs ++ s.literals ∷ [] ≡ ds = sym (ap (with_steps c.clauses) l.is ∙ steps-append c.clauses log s) in
+    let kept : IsTrail c.atoms ds no_values jump.front = subst (λ z. IsTrail c.atoms z no_values jump.front) more (trail-more c.atoms cs (s.literals ∷ []) no_values jump.front before) in
+    let whole : IsTrail c.atoms ds no_values (jump.front ++ e ∷ []) = trail-append c.atoms ds no_values jump.front (e ∷ []) kept (jump_fits c log now s trail j n l jump number small, tt) in
+    let most = not_longer c.atoms cs no_values trail search.fits in
+    let parts = ap length jump.is ∙ length-append jump.front (d ∷ jump.back) in
+    let less = flipped c.atoms jump.front jump.back jump.decided j.literal n (omega (arith, most, parts)) in
+    let was = ap (trail_number c.atoms) jump.is in
+    let is = ap (trail_number c.atoms) made_of in (
+      record {
+        steps = steps_logged c log now s trail search l;
+        within = within_logged c log now s trail search l;
+        fits = subst (IsTrail c.atoms ds no_values) (sym made_of) whole;
+      },
+      omega (arith, less, was, is),
+    )
 
 -- a literal more is decided
 pub decided_search : (c : ClauseList) (log : List Step) (old new : List Entry) (l : Literal) → IsSearch c log old → values_of old l.atom ≡ None → is_within c.atoms l ≡ true → new ≡ old ++ record { literal = l; reason = None } ∷ []
@@ -132,18 +121,18 @@ decided_search c log old new l s none inside made =
     let more = grows c.atoms old e (omega (arith, most, parts)) in
     (record { steps = s.steps; within = s.within; fits = subst (IsTrail c.atoms cs no_values) (sym made) whole }, subst (λ z. trail_number c.atoms old < trail_number c.atoms z) (sym made) more)
 
-pub extended_search : (c : ClauseList) (log : List Step) (old new : List Entry) → IsSearch c log old → Extends c.atoms c.clauses old new → IsSearch c log new
-extended_search c log old new s e = record { steps = s.steps; within = s.within; fits = extended c.atoms c.clauses (map (λ s. s.literals) log) old new e s.fits }
+pub extended_search : (c : ClauseList) (log : List Step) (old new : List Entry) → IsSearch c log old → Extends c.atoms (with_steps c.clauses log) old new → IsSearch c log new
+extended_search c log old new s e = record { steps = s.steps; within = s.within; fits = extended c.atoms (with_steps c.clauses log) old new e s.fits }
 
-turns_by : (c : ClauseList) (old mid new : List Entry) (log : List Step) (t : Turn) → Extends c.atoms c.clauses old mid → Turns c mid log new t → Turns c old log new t
-turns_by c old mid new log GoesOn e h =
+turns_by : (c : ClauseList) (cs : List (List Literal)) (old mid new : List Entry) (log : List Step) (t : Turn) → Extends c.atoms cs old mid → Turns c mid log new t → Turns c old log new t
+turns_by c cs old mid new log GoesOn e h =
     let less = never_falls c.atoms old e.more in
     let same = ap (trail_number c.atoms) e.is in
     (h.0, omega (arith, less, same, h.1))
-turns_by c old mid new log AllTrue e h = h
-turns_by c old mid new log Failed e h = h
+turns_by c cs old mid new log AllTrue e h = h
+turns_by c cs old mid new log Failed e h = h
 
 -- a turn of the longer trail is one of the shorter
-pub turns_from : {E : Type 0} (r : Result Turn E) (c : ClauseList) (old mid new : List Entry) (log : List Step) → Extends c.atoms c.clauses old mid → IfOk r (λ t. Turns c mid log new t) → IfOk r (λ t. Turns c old log new t)
-turns_from (Ok t) c old mid new log e h = turns_by c old mid new log t e h
-turns_from (Err x) c old mid new log e h = h
+pub turns_from : {E : Type 0} (r : Result Turn E) (c : ClauseList) (cs : List (List Literal)) (old mid new : List Entry) (log : List Step) → Extends c.atoms cs old mid → IfOk r (λ t. Turns c mid log new t) → IfOk r (λ t. Turns c old log new t)
+turns_from (Ok t) c cs old mid new log e h = turns_by c cs old mid new log t e h
+turns_from (Err x) c cs old mid new log e h = h

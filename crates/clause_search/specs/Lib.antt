@@ -1,3 +1,4 @@
 pub mod Outcomes
 pub mod Trails
+pub mod Cuts
 pub mod Searches

@@ -1,15 +1,15 @@
 -- What a search keeps, and what its parts find.
-use Rattle.std.specs.Prelude.{◌≡◌, ◌⊎◌, ◌<◌, ℕ, Bool, true, false, List, [], ◌∷◌, ◌++◌, map, slice_index_or, Option, Some, None}
+use Rattle.std.specs.Prelude.{◌≡◌, ◌<◌, ℕ, Bool, true, false, List, [], slice_index_or, Option, Some, None}
 use Rattle.std.specs.List.{list_any, list_all}
 use Rattle.clause_log.specs.Literals.{Literal, ClauseList, is_within}
 use Rattle.clause_log.specs.Assignments.{Assignment, literal_value, no_values, is_conflict, unit_literal}
-use Rattle.clause_log.specs.Refutations.{Step, clause_at, is_conflict_at, steps_hold}
-use Rattle.clause_search.specs.Outcomes.{is_hint, is_step, IsRefutationOf}
-use Rattle.clause_search.specs.Trails.{IsTrail, decisions, values_of, trail_number}
+use Rattle.clause_log.specs.Refutations.{Step, clause_at, is_conflict_at, steps_hold, with_steps}
+use Rattle.clause_log.specs.Limits.{is_hint, is_step}
+use Rattle.clause_search.specs.Outcomes.{IsRefutationOf}
+use Rattle.clause_search.specs.Trails.{IsTrail, values_of, trail_number}
 use Rattle.clause_search.specs.declared.trail.Entry.{Entry}
 use Rattle.clause_search.specs.declared.clause.Verdict.{Verdict}
 use Rattle.clause_search.specs.declared.clause.Verdict.TheVariants.{Quiet, Forces, Conflict}
-use Rattle.clause_search.specs.declared.clause.Candidate.{Candidate}
 use Rattle.clause_search.specs.declared.clause.Choice.{Choice}
 use Rattle.clause_search.specs.declared.clause.Choice.TheVariants.{True, Open, False}
 use Rattle.clause_search.specs.declared.turn.Turn.{Turn}
@@ -35,15 +35,10 @@ Does f c Quiet = Unit {0}
 Does f c (Forces l) = unit_literal f c ≡ Some l
 Does f c Conflict = is_conflict f c ≡ true
 
--- the literal is one that was found, or this other one
-abbrev pub IsEither : Option Candidate → Literal → Literal → Type 0
-IsEither None other l = l ≡ other
-IsEither (Some k) other l = (l ≡ k.literal) ⊎ (l ≡ other)
-
 -- a clause has a true literal; or it has one without a value; or its literals are false
 abbrev pub Leaves : Assignment → List Literal → Choice → Type 0
 Leaves f c True = is_satisfied f c ≡ true
-Leaves f c (Open k) = (f k.literal.atom ≡ None) × IsOf c k.literal
+Leaves f c (Open l) = (f l.atom ≡ None) × IsOf c l
 Leaves f c False = is_conflict f c ≡ true
 
 -- the clause of this number has false literals alone
@@ -55,20 +50,11 @@ abbrev pub MayConflict : List (List Literal) → Assignment → Option ℕ → T
 MayConflict cs f None = Unit {0}
 MayConflict cs f (Some h) = IsConflict cs f h
 
--- the clauses, and those of the steps so far
-abbrev pub with_steps : List (List Literal) → List Step → List (List Literal)
-with_steps cs log = cs ++ map (λ s. s.literals) log
-
 -- each step holds, and each entry of the trail fits after those before it
 pub record IsSearch (c : ClauseList) (log : List Step) (trail : List Entry) : Type 0 where
   pub steps : steps_hold c.clauses log ≡ true
   pub within : list_all (is_step c.atoms) log ≡ true
   pub fits : IsTrail c.atoms (with_steps c.clauses log) no_values trail
-
--- the literals behind the last decision are gone, with it; where there was none, all are
-abbrev pub Undone : List Entry → List Entry → Option Literal → Type 0
-Undone old new None = decisions old ≡ []
-Undone old new (Some l) = (back : List Entry) × (old ≡ new ++ record { literal = l; reason = None } ∷ back) × (decisions back ≡ [])
 
 -- a turn: the search goes on, and its trail's number has grown; or all clauses are true; or the log refutes them
 abbrev pub Turns : ClauseList → List Entry → List Step → List Entry → Turn → Type 0

@@ -1,9 +1,9 @@
 -- The literals that a search holds true, in the order in which they became so: decided, or forced by a clause.
-use Rattle.std.specs.Prelude.{◌≡◌, ℕ, zero, suc, ◌+◌, true, List, [], ◌∷◌, ◌++◌, Option, Some, None, option_to_list, if◌then◌else◌}
+use Rattle.std.specs.Prelude.{◌≡◌, ℕ, zero, suc, ◌+◌, true, List, [], ◌∷◌, ◌++◌, Option, Some, None, if◌then◌else◌}
 use Rattle.clause_log.specs.Literals.{Literal, is_within}
 use Rattle.clause_log.specs.Assignments.{Assignment, no_values, assign}
 use Rattle.clause_log.specs.Refutations.{clause_at, unit_at}
-use Rattle.clause_search.specs.Outcomes.{is_hint}
+use Rattle.clause_log.specs.Limits.{is_hint}
 use Rattle.clause_search.specs.declared.trail.Entry.{Entry}
 
 -- the assignment after these entries
@@ -19,24 +19,10 @@ abbrev pub AreNew : Assignment → List Entry → Type 0
 AreNew f [] = Unit {0}
 AreNew f (e ∷ es) = (f e.literal.atom ≡ None) × AreNew (assign e.literal f) es
 
--- a literal without a reason was decided
-abbrev pub if_decided : Option ℕ → Literal → List Literal → List Literal
-if_decided None l ls = l ∷ ls
-if_decided (Some r) l ls = ls
-
-abbrev pub decisions : List Entry → List Literal
-decisions [] = []
-decisions (e ∷ es) = if_decided e.reason e.literal (decisions es)
-
 -- the atoms that are true
 abbrev pub positives : List Entry → List ℕ
 positives [] = []
 positives (e ∷ es) = if e.literal.positive then e.literal.atom ∷ positives es else positives es
-
--- the numbers of the clauses that forced literals
-abbrev pub reasons : List Entry → List ℕ
-reasons [] = []
-reasons (e ∷ es) = option_to_list e.reason ++ reasons es
 
 -- the clause of this number, if there is to be one, forces the literal
 abbrev pub IsForced : List (List Literal) → Assignment → Literal → Option ℕ → Type 0
@@ -54,11 +40,10 @@ abbrev pub IsTrail : ℕ → List (List Literal) → Assignment → List Entry �
 IsTrail atoms cs f [] = Unit {0}
 IsTrail atoms cs f (e ∷ es) = Fits atoms cs f e × IsTrail atoms cs (assign e.literal f) es
 
--- the trail with some forced literals more
+-- the trail with some entries more
 pub record Extends (atoms : ℕ) (cs : List (List Literal)) (old new : List Entry) : Type 0 where
   pub more : List Entry
   pub is : new ≡ old ++ more
-  pub forced : decisions more ≡ []
   pub fits : IsTrail atoms cs (values_of old) more
 
 -- how many values a trail with room for so many entries has

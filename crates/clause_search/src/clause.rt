@@ -2,9 +2,8 @@
 
 ghost use Rattle.std.specs.Prelude.{◌≡◌};
 ghost use Rattle.clause_search.specs.Trails.{values_of};
-ghost use Rattle.clause_search.specs.Searches.{Does, IsEither, Leaves};
+ghost use Rattle.clause_search.specs.Searches.{Does, Leaves};
 
-use crate::occurrences::Occurrences;
 use crate::trail::Trail;
 use clause_log::Lit;
 
@@ -18,20 +17,13 @@ pub enum Verdict {
     Conflict,
 }
 
-/// A literal without a value, of a clause with so many of them.
-#[derive(Clone, Copy, Debug)]
-pub struct Candidate {
-    pub literal: Lit,
-    pub open: usize,
-}
-
 /// What the values of a trail leave of a clause.
 #[derive(Clone, Copy, Debug)]
 pub enum Choice {
     /// One of its literals is true.
     True,
     /// None is true, and this one has no value.
-    Open(Candidate),
+    Open(Lit),
     /// Its literals are false.
     False,
 }
@@ -61,45 +53,22 @@ pub fn verdict_of(trail: &Trail, clause: &[Lit]) -> Verdict
     }
 }
 
-// Of two literals the one that more clauses hold, counted once more.
-fn more_held(occurrences: &Occurrences, found: Option<Candidate>, l: Lit) -> Candidate
-    ensures { IsEither found l result.literal }
-{
-    match found {
-        None => Candidate {
-            literal: l,
-            open: 1,
-        },
-        Some(k) => {
-            let open = k.open.saturating_add(1);
-            if occurrences.holding(l).len() > occurrences.holding(k.literal).len() {
-                Candidate { literal: l, open }
-            } else {
-                Candidate {
-                    literal: k.literal,
-                    open,
-                }
-            }
-        }
-    }
-}
-
-/// What is left of the clause: a true literal, else, of those without a value, the one that most clauses hold.
-pub fn choice_of(trail: &Trail, occurrences: &Occurrences, clause: &[Lit]) -> Choice
+/// What is left of the clause: a true literal, else the last one without a value.
+pub fn choice_of(trail: &Trail, clause: &[Lit]) -> Choice
     ensures { Leaves (values_of trail.now) clause.now result }
 {
     let mut rest = clause;
-    let mut found: Option<Candidate> = None;
+    let mut found: Option<Lit> = None;
     'literals: while let [l, more @ ..] = rest {
         match trail.value(*l) {
             Some(true) => return Choice::True,
             Some(false) => {}
-            None => found = Some(more_held(occurrences, found, *l)),
+            None => found = Some(*l),
         }
         rest = more;
     }
     match found {
-        Some(candidate) => Choice::Open(candidate),
+        Some(l) => Choice::Open(l),
         None => Choice::False,
     }
 }

@@ -2,14 +2,17 @@
 #![tactic(auto)]
 
 mod clause;
-mod conflict;
+mod cut;
+mod marks;
 mod model;
-mod occurrences;
+mod order;
 mod outcome;
 mod propagate;
 mod search;
+mod table;
 mod trail;
 mod turn;
+mod watches;
 
 pub use outcome::Outcome;
 pub use search::solve;

@@ -2,9 +2,9 @@
 
 ghost use Rattle.std.specs.Prelude.{◌≡◌, ◌++◌, [], ◌∷◌, OnOk, OnErr, None, option_to_list};
 
+use crate::table::{put, replace};
 use clause_log::Lit;
 use std::alloc::{AllocError, Global};
-use std::collections::BTreeMap;
 use std::marker::Model;
 
 /// A literal that is held true: decided, or forced by the clause of a number.
@@ -16,16 +16,18 @@ pub struct Entry {
 
 /// Entries of distinct atoms, and the values that they give.
 ///
-/// In contracts it is the list of its entries, the oldest first.
+/// In contracts it is the list of its entries, the oldest first. The places, by atom, and the places of decisions
+/// save time, and no answer rests on them. All tables are as long as the greatest atom with an entry.
 #[derive(Drop)]
 pub struct Trail {
     entries: Vec<Entry>,
-    values: BTreeMap<u64, bool>,
+    values: Vec<Option<bool>>,
+    places: Vec<usize>,
+    decisions: Vec<usize>,
 }
 
 impl Model for Trail {
-    ghost use Rattle.std.specs.Prelude.{◌≡◌, List};
-    ghost use Rattle.clause_log.specs.Values.{assigned};
+    ghost use Rattle.std.specs.Prelude.{◌≡◌, List, None, slice_index_or};
     ghost use Rattle.clause_log.specs.Assignments.{no_values};
     ghost use Rattle.clause_search.specs.Trails.{values_of, AreNew};
     ghost use Rattle.clause_search.specs.declared.trail.Entry.{Entry};
@@ -34,11 +36,11 @@ impl Model for Trail {
 
     ghost view = { λ t. t.entries.items };
 
-    ghost invariant = { λ t. (assigned t.values ≡ values_of t.entries.items) × AreNew no_values t.entries.items };
+    ghost invariant = { λ t. ((λ a. slice_index_or t.values.items a None) ≡ values_of t.entries.items) × AreNew no_values t.entries.items };
 }
 
 impl Trail {
-    ghost use Rattle.std.specs.Prelude.{◌≡◌, ◌++◌, [], ◌∷◌, OnOk, OnErr, IfNone, None, option_to_list};
+    ghost use Rattle.std.specs.Prelude.{◌≡◌, ◌++◌, [], ◌∷◌, OnOk, OnErr, IfNone, None, is_none, option_to_list};
     ghost use Rattle.clause_log.specs.Assignments.{literal_value, no_values};
     ghost use Rattle.clause_search.specs.Trails.{values_of, AreNew};
 
@@ -48,7 +50,9 @@ impl Trail {
     {
         Trail {
             entries: Vec::new(alloc),
-            values: BTreeMap::new(alloc),
+            values: Vec::new(alloc),
+            places: Vec::new(alloc),
+            decisions: Vec::new(alloc),
         }
     }
 
@@ -56,9 +60,19 @@ impl Trail {
     pub fn value(&self, l: Lit) -> Option<bool>
         ensures { result ≡ literal_value (values_of self.now) l }
     {
-        match self.values.get(&l.atom()) {
-            None => None,
-            Some(value) => Some(if l.is_positive() { *value } else { !*value }),
+        match self.values.get(l.atom() as usize) {
+            Some(Some(value)) => Some(if l.is_positive() { *value } else { !*value }),
+            _ => None,
+        }
+    }
+
+    /// Whether the literal's atom has no value.
+    pub fn is_new(&self, l: Lit) -> bool
+        ensures { result ≡ is_none (values_of self.now l.atom) }
+    {
+        match self.values.get(l.atom() as usize) {
+            Some(Some(_)) => false,
+            _ => true,
         }
     }
 
@@ -68,15 +82,13 @@ impl Trail {
         ensures ok { OnOk result (self.new ≡ self.old ++ record { literal = literal; reason = reason } ∷ []) }
         ensures err { OnErr result (self.new ≡ self.old) }
     {
-        let entry = Entry { literal, reason };
-        if self.entries.push(entry).is_err() {
+        let place = self.entries.len();
+        let atom = literal.atom() as usize;
+        note(&mut self.places, &mut self.decisions, atom, place, reason)?;
+        if self.entries.push(Entry { literal, reason }).is_err() {
             return Err(AllocError);
         }
-        if self
-            .values
-            .insert(literal.atom(), literal.is_positive())
-            .is_err()
-        {
+        if put(&mut self.values, atom, Some(literal.is_positive()), None).is_err() {
             self.entries.pop();
             return Err(AllocError);
         }
@@ -89,7 +101,8 @@ impl Trail {
         ensures empty { IfNone result (self.old ≡ []) }
     {
         let entry = self.entries.pop()?;
-        self.values.remove(&entry.literal.atom());
+        forget(&mut self.decisions, entry.reason);
+        replace(&mut self.values, entry.literal.atom() as usize, None, None);
         Some(entry)
     }
 
@@ -99,5 +112,42 @@ impl Trail {
         ensures new { AreNew no_values result.now }
     {
         &self.entries
+    }
+
+    /// The place of the atom's entry, where it has one.
+    pub fn place(&self, atom: u64) -> usize {
+        match self.places.get(atom as usize) {
+            Some(place) => *place,
+            None => 0,
+        }
+    }
+
+    /// The place of the last decision, or 0.
+    pub fn level(&self) -> usize {
+        match self.decisions.last() {
+            Some(place) => *place,
+            None => 0,
+        }
+    }
+}
+
+// Notes the place of an entry, and that it is a decision's.
+fn note(
+    places: &mut Vec<usize>,
+    decisions: &mut Vec<usize>,
+    atom: usize,
+    place: usize,
+    reason: Option<u64>,
+) -> Result<(), AllocError> {
+    if reason.is_none() {
+        decisions.push(place)?;
+    }
+    put(places, atom, place, 0)
+}
+
+// Takes the place of a decision away again.
+fn forget(decisions: &mut Vec<usize>, reason: Option<u64>) {
+    if reason.is_none() {
+        decisions.pop();
     }
 }

@@ -1,17 +1,19 @@
-//! One turn of a search.
+//! A turn of a search.
 
-ghost use Rattle.std.specs.Prelude.{◌≡◌, ◌+◌, true, IfOk, IfSome, length};
+ghost use Rattle.std.specs.Prelude.{◌≡◌, ◌+◌, [], Some, true, IfOk, IfSome, OnOk, length, slice_index_or, take};
 ghost use Rattle.std.specs.List.{list_all};
 ghost use Rattle.clause_log.specs.Literals.{is_clause};
-ghost use Rattle.clause_search.specs.Outcomes.{is_hint};
+ghost use Rattle.clause_log.specs.Refutations.{clause_at, with_steps};
+ghost use Rattle.clause_log.specs.Limits.{is_hint};
 ghost use Rattle.clause_search.specs.Trails.{values_of};
-ghost use Rattle.clause_search.specs.Searches.{IsConflict, IsEither, IsSearch, Picks, Turns};
+ghost use Rattle.clause_search.specs.Searches.{IsConflict, IsSearch, Picks, Turns};
 
-use crate::clause::{Candidate, Choice, choice_of};
-use crate::conflict::{learn, undo};
-use crate::occurrences::Occurrences;
-use crate::propagate::{number_of, propagate};
+use crate::clause::{Choice, choice_of};
+use crate::cut::{Cut, learn};
+use crate::order::Order;
+use crate::propagate::propagate;
 use crate::trail::Trail;
+use crate::watches::Watches;
 use clause_log::{Clauses, Lit, Log};
 use std::alloc::{AllocError, Global};
 
@@ -25,7 +27,7 @@ pub enum Turn {
     Failed,
 }
 
-/// What is to be done where nothing is forced.
+/// What is to be done where nothing is forced and the order gives no literal.
 #[derive(Clone, Copy, Debug)]
 pub enum Pick {
     /// This literal has no value.
@@ -36,15 +38,35 @@ pub enum Pick {
     Nothing,
 }
 
+/// What a search works with besides its trail and its log. No answer rests on it.
+#[derive(Drop)]
+pub struct Tools {
+    pub order: Order,
+    pub watches: Watches,
+    pub cut: Cut,
+}
+
+impl Tools {
+    /// Those for a search among these clauses.
+    pub fn of(alloc: Global, clauses: &Clauses) -> Result<Tools, AllocError> {
+        let order = Order::of(alloc, clauses)?;
+        let watches = Watches::of(alloc, clauses)?;
+        Ok(Tools {
+            order,
+            watches,
+            cut: Cut::new(alloc),
+        })
+    }
+}
+
 // Half the numbers that a clause may have.
 const HALF: usize = 0x3fff_ffff_ffff_ffff;
 
-/// One turn: what clauses force is made true; then a conflict is learned and the last decision turned, or, without
-/// a conflict, a literal decided.
+/// One turn: what clauses force is made true; then a conflict is learned and the trail cut short, or, without a
+/// conflict, a literal decided.
 pub fn advance(
-    alloc: Global,
     clauses: &Clauses,
-    occurrences: &Occurrences,
+    tools: &mut Tools,
     trail: &mut Trail,
     log: &mut Log,
 ) -> Result<Turn, AllocError>
@@ -53,17 +75,16 @@ pub fn advance(
     ensures { IfOk result (λ t. Turns clauses.now trail.old log.new trail.new t) }
 {
     let from = trail.entries().len().saturating_sub(1);
-    match propagate(clauses, occurrences, trail, from)? {
-        Some(number) => turn_back(alloc, clauses, trail, log, number),
-        None => decide(alloc, clauses, occurrences, trail, log),
+    match propagate(clauses, log, &mut tools.watches, trail, from)? {
+        Some(number) => turn_back(clauses, tools, trail, log, number),
+        None => decide(clauses, tools, trail, log),
     }
 }
 
-// Decides a literal of a clause that isn't true yet.
+// Decides the next literal of the order, or one of a clause that isn't true yet.
 fn decide(
-    alloc: Global,
     clauses: &Clauses,
-    occurrences: &Occurrences,
+    tools: &mut Tools,
     trail: &mut Trail,
     log: &mut Log,
 ) -> Result<Turn, AllocError>
@@ -71,7 +92,7 @@ fn decide(
     requires search { IsSearch clauses.now log.old trail.old }
     ensures { IfOk result (λ t. Turns clauses.now trail.old log.new trail.new t) }
 {
-    match best_pick(clauses, occurrences, trail) {
+    match next_pick(clauses, &mut tools.order, trail) {
         Pick::Nothing => Ok(Turn::AllTrue),
         Pick::Decide(l) => {
             trail.push(l, None)?;
@@ -81,50 +102,47 @@ fn decide(
             let Some(number) = number_of(clauses, at) else {
                 return Err(AllocError);
             };
-            turn_back(alloc, clauses, trail, log, number)
+            turn_back(clauses, tools, trail, log, number)
         }
     }
 }
 
-// Of two candidates the one whose clause has fewer literals without a value.
-fn fewer_open(best: Option<Candidate>, other: Candidate) -> Candidate
-    ensures { IsEither best other.literal result.literal }
+// What is to be done: by the order, and where that is empty by a look at all clauses.
+fn next_pick(clauses: &Clauses, order: &mut Order, trail: &Trail) -> Pick
+    requires { list_all (is_clause clauses.now.atoms) clauses.now.clauses ≡ true }
+    ensures { Picks clauses.now (values_of trail.now) result }
 {
-    match best {
-        None => other,
-        Some(candidate) => {
-            if other.open < candidate.open {
-                other
-            } else {
-                candidate
-            }
-        }
+    match order.next(trail) {
+        Some(l) if l.atom() <= clauses.atoms() => Pick::Decide(l),
+        _ => last_look(clauses, trail),
     }
 }
 
-// What is to be done, by the clauses without a true literal: the first one with at most two literals that have no
-// value, else one with as few as there are.
-fn best_pick(clauses: &Clauses, occurrences: &Occurrences, trail: &Trail) -> Pick
+// What is to be done, by the first clause without a true literal.
+fn last_look(clauses: &Clauses, trail: &Trail) -> Pick
     requires { list_all (is_clause clauses.now.atoms) clauses.now.clauses ≡ true }
     ensures { Picks clauses.now (values_of trail.now) result }
 {
     let count = clauses.len();
-    let mut best: Option<Candidate> = None;
     'clauses: for at in 0..count {
-        match choice_of(trail, occurrences, clauses.clause(at)) {
+        match choice_of(trail, clauses.clause(at)) {
             Choice::True => {}
-            Choice::Open(candidate) => {
-                if candidate.open <= 2 {
-                    return Pick::Decide(candidate.literal);
-                }
-                best = Some(fewer_open(best, candidate));
-            }
+            Choice::Open(l) => return Pick::Decide(l),
             Choice::False => return Pick::Conflict(at),
         }
     }
-    match best {
-        Some(candidate) => Pick::Decide(candidate.literal),
-        None => Pick::Nothing,
+    Pick::Nothing
+}
+
+// The number of the clause at this place. (No memory holds so many that a place has none.)
+fn number_of(clauses: &Clauses, at: usize) -> Option<u64>
+    ensures clause { IfSome result (λ h. clause_at clauses.now.clauses h ≡ Some (slice_index_or clauses.now.clauses at [])) }
+    ensures hint { IfSome result (λ h. is_hint h ≡ true) }
+{
+    if at < clauses.len() && at < HALF {
+        Some(at as u64 + 1)
+    } else {
+        None
     }
 }
 
@@ -142,29 +160,78 @@ fn next_number(clauses: &Clauses, log: &Log) -> Option<u64>
     }
 }
 
-// Logs what is learned of the conflict, and makes the last decided literal false in its place. Where there is no
-// decision, what is learned has no literal, and the log is a refutation.
+// Takes the entries from this place on away.
+fn undo(trail: &mut Trail, order: &mut Order, place: usize) -> Result<(), AllocError>
+    ensures { OnOk result (trail.new ≡ take place trail.old) }
+{
+    'entries: while trail.entries().len() > place {
+        if let Some(entry) = trail.pop() {
+            order.put_back(entry.literal)?;
+        }
+    }
+    Ok(())
+}
+
+// Watches what was learned, by the literal that it forces and the last one beside it that the trail has.
+fn watch(
+    watches: &mut Watches,
+    trail: &Trail,
+    number: u64,
+    literals: &[Lit],
+    forced: Lit,
+) -> Result<(), AllocError> {
+    let mut last: Option<Lit> = None;
+    let mut latest = 0usize;
+    for l in literals {
+        let place = trail.place(l.atom());
+        if *l != forced && (last.is_none() || place > latest) {
+            last = Some(*l);
+            latest = place;
+        }
+    }
+    match last {
+        Some(l) => watches.enter(number, forced, l),
+        None => Ok(()),
+    }
+}
+
+// Logs what is learned of the conflict, cuts the trail short, and makes true there what is learned. Where that is
+// an empty clause, the log is a refutation.
 fn turn_back(
-    alloc: Global,
     clauses: &Clauses,
+    tools: &mut Tools,
     trail: &mut Trail,
     log: &mut Log,
     conflict: u64,
 ) -> Result<Turn, AllocError>
     requires search { IsSearch clauses.now log.old trail.old }
-    requires conflict { IsConflict clauses.now.clauses (values_of trail.old) conflict }
+    requires conflict { IsConflict (with_steps clauses.now.clauses log.old) (values_of trail.old) conflict }
     ensures { IfOk result (λ t. Turns clauses.now trail.old log.new trail.new t) }
 {
     let Some(number) = next_number(clauses, log) else {
         return Err(AllocError);
     };
-    let learned = learn(alloc, trail, conflict)?;
-    log.push(&learned.literals, &learned.hints)?;
-    match undo(trail) {
-        None => Ok(Turn::Failed),
-        Some(decided) => {
-            trail.push(decided.negated(), Some(number))?;
-            Ok(Turn::GoesOn)
-        }
-    }
+    let jump = learn(
+        clauses,
+        log,
+        trail,
+        &mut tools.order,
+        &mut tools.cut,
+        conflict,
+    )?;
+    tools.order.age();
+    log.push(&tools.cut.literals, &tools.cut.hints)?;
+    let Some(jump) = jump else {
+        return Ok(Turn::Failed);
+    };
+    watch(
+        &mut tools.watches,
+        trail,
+        number,
+        &tools.cut.literals,
+        jump.literal,
+    )?;
+    undo(trail, &mut tools.order, jump.place)?;
+    trail.push(jump.literal, Some(number))?;
+    Ok(Turn::GoesOn)
 }

@@ -3,7 +3,7 @@ use Rattle.std.specs.Prelude.{ℕ, List, [], ◌∷◌, ◌++◌, Option, Some, 
 use Rattle.csdn_core.specs.declared.program.Parts.{Parts}
 use Rattle.csdn_core.specs.declared.program.Invariant.{Invariant}
 use Rattle.csdn_conditions.specs.declared.kinds.EventKind.{EventKind}
-use Rattle.csdn_conditions.specs.declared.kinds.EventKind.TheVariants.{PktIn, PktFlow}
+use Rattle.csdn_conditions.specs.declared.kinds.EventKind.TheVariants.{PktIn, PktFlow, Expire}
 use Rattle.csdn_conditions.specs.declared.kinds.CondKind.{CondKind}
 use Rattle.csdn_conditions.specs.declared.kinds.CondKind.TheVariants.{Network, Init, Step, Trans}
 use Rattle.csdn_conditions.specs.declared.class.Class.{Class}
@@ -12,6 +12,7 @@ use Rattle.csdn_conditions.specs.declared.class.Class.TheVariants.{Inside, Nodes
 abbrev pub event_word : EventKind → List ℕ
 event_word PktIn = codes "pktIn"
 event_word PktFlow = codes "pktFlow"
+event_word Expire = codes "expire"
 
 abbrev pub name_in : Option Invariant → List ℕ
 name_in None = []

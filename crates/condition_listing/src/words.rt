@@ -16,6 +16,7 @@ fn event_word(event: EventKind) -> &'static [u8]
     match event {
         EventKind::PktIn => b"pktIn",
         EventKind::PktFlow => b"pktFlow",
+        EventKind::Expire => b"expire",
     }
 }
 

@@ -1,10 +1,6 @@
 -- Counts that stand at the greatest number, compared with smaller limits.
-use Rattle.std.proofs.Common.{◌≡◌, ℕ, ◌+◌, ◌-◌, ◌<◌, ◌≤◌, true, refl, arith}
-use Rattle.csdn_core.specs.declared.syntax.Formula.{Formula}
-use Rattle.csdn_core.specs.Nodes.{nodes}
-use Rattle.decision_laws.specs.Laws.{form_of}
+use Rattle.std.proofs.Common.{◌≡◌, ℕ, ◌+◌, ◌-◌, ◌<◌, ◌≤◌, arith}
 use Rattle.fol_forms.specs.Limits.{capped, most_nodes}
-use Rattle.fol_forms.specs.Written.{written, normal, normal_nodes}
 use Rattle.csdn_conditions.specs.Classes.{most_instances}
 
 pub over_nodes : (n count : ℕ) → count ≡ capped n → most_nodes < count → most_nodes < n
@@ -22,10 +18,6 @@ over_instances n count is more = omega (arith, is, more)
 pub under_instances : (n count : ℕ) → count ≡ capped n → count ≤ most_instances → n ≤ most_instances
 unfolding capped
 under_instances n count is few = omega (arith, is, few)
-
-pub normal_nodes-is : (p : Formula) → normal_nodes true p ≡ nodes (written (form_of p))
-unfolding normal_nodes normal
-normal_nodes-is p = refl
 
 -- beside the formula and one node more
 

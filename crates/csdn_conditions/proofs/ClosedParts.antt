@@ -6,7 +6,6 @@ use Rattle.std.proofs.lemmas.List.Elements.{All-tail, All-contains}
 use Rattle.std.proofs.lemmas.Bool.{ne_eqb}
 use Rattle.general_facts.proofs.Numbers.{self_equal}
 use Rattle.std.proofs.lemmas.Option.{same_Some}
-use Rattle.decision_laws.proofs.SortedForms.{distinct_left, distinct_right, distinct_pairs}
 use Rattle.csdn_core.specs.declared.terms.Sort.{Sort}
 use Rattle.csdn_core.specs.declared.terms.Term.{Term}
 use Rattle.csdn_core.specs.declared.terms.Pred.{Pred}
@@ -24,10 +23,6 @@ use Rattle.csdn_core.specs.Sorted.{IsSorted, IsAllowed, HaveSorts, bound_in, flo
 use Rattle.csdn_core.specs.WellSorted.{IsStartRow, IsWellSorted, invariant_bound_in, handler_bound_in, signature}
 use Rattle.fol_forms.specs.Closed.{closed}
 use Rattle.fol_forms.specs.Replace.{same}
-use Rattle.fol_forms.specs.Substitution.{Scope, no_scope, with_sort}
-use Rattle.decision_laws.specs.Clauses.{AreDistinct}
-use Rattle.csdn_wp.specs.SortedIn.{Relations, any_relation, no_packet, HaveSortsIn, IsSortedIn}
-use Rattle.csdn_wp.proofs.Scopes.{AreInScope-none, AreNew-none, all_in_scope, sorted_in}
 use Rattle.csdn_wp.proofs.Sorted.{IsSortedIn-same}
 use Rattle.csdn_conditions.specs.declared.lists.Join.{Join}
 use Rattle.csdn_conditions.specs.declared.lists.Join.TheVariants.{And, Or}
@@ -35,6 +30,10 @@ use Rattle.csdn_conditions.specs.Lists.{joined}
 use Rattle.csdn_conditions.specs.Conditions.{formulas}
 use Rattle.csdn_conditions.specs.Start.{binds_from, terms_of, rows_among, is_one_of, holds_rows, stored_at, stored_from, start}
 use Rattle.csdn_conditions.specs.Closed.{IsClosed}
+use Rattle.csdn_core.proofs.Members.{distinct_left, distinct_right, distinct_pairs}
+use Rattle.csdn_core.specs.SortedIn.{Scope, no_scope, with_sort, Relations, any_relation, no_rcv_this, HaveSortsIn, IsSortedIn}
+use Rattle.csdn_core.specs.Members.{AreDistinct}
+use Rattle.csdn_core.proofs.Scopes.{AreInScope-none, AreNew-none, all_in_scope, sorted_in}
 
 module _ (P : Parts) (R : Relations) where
   abbrev pub AreSortedIn : Scope → List Formula → Type 0
@@ -78,23 +77,23 @@ module _ (P : Parts) (sorted : IsWellSorted P) where
   distinct_trans : AreDistinct (flat_map invariant_bound_in P.trans)
   distinct_trans = distinct_left _ _ (distinct_right (flat_map invariant_bound_in P.safety) _ (distinct_right (flat_map invariant_bound_in P.topology) _ all_distinct))
 
-  topology_names : (r : Pred) → IsAllowed (signature P) Topology r → no_packet r
+  topology_names : (r : Pred) → IsAllowed (signature P) Topology r → no_rcv_this r
   topology_names (Stored r) allowed = refl
   topology_names Ft allowed = absurd allowed
   topology_names Sent allowed = absurd allowed
   topology_names RcvThis allowed = absurd allowed
 
-  safety_names : (r : Pred) → IsAllowed (signature P) Safety r → no_packet r
+  safety_names : (r : Pred) → IsAllowed (signature P) Safety r → no_rcv_this r
   safety_names (Stored r) allowed = refl
   safety_names Ft allowed = refl
   safety_names Sent allowed = refl
   safety_names RcvThis allowed = absurd allowed
 
-  pub topology_sorted : AreSortedIn P no_packet no_scope (formulas P.topology)
-  topology_sorted = invariants_sorted P no_packet Topology topology_names P.topology distinct_topology sorted.topology
+  pub topology_sorted : AreSortedIn P no_rcv_this no_scope (formulas P.topology)
+  topology_sorted = invariants_sorted P no_rcv_this Topology topology_names P.topology distinct_topology sorted.topology
 
-  pub safety_sorted : AreSortedIn P no_packet no_scope (formulas P.safety)
-  safety_sorted = invariants_sorted P no_packet Safety safety_names P.safety distinct_safety sorted.safety
+  pub safety_sorted : AreSortedIn P no_rcv_this no_scope (formulas P.safety)
+  safety_sorted = invariants_sorted P no_rcv_this Safety safety_names P.safety distinct_safety sorted.safety
 
   pub trans_sorted : AreSortedIn P any_relation no_scope (formulas P.trans)
   trans_sorted = invariants_sorted P any_relation Trans (λ r allowed. tt) P.trans distinct_trans sorted.trans
@@ -111,7 +110,7 @@ scope-below k (s ∷ ss) Γ j less =
     scope-below (k + 1) ss (with_sort Γ (record { 0 = k }) s) j (omega (arith, less)) ∙ ap (λ b. if b then Some s else Γ j) (ne_eqb j k (λ same. omega (arith, less, same)))
 
 module _ (P : Parts) where
-  closed_sorted : (k : ℕ) (ss : List Sort) (Γ : Scope) (p : Formula) → IsSortedIn (signature P) no_packet (scope_from k ss Γ) p → IsSortedIn (signature P) no_packet Γ (closed (binds_from k ss) p)
+  closed_sorted : (k : ℕ) (ss : List Sort) (Γ : Scope) (p : Formula) → IsSortedIn (signature P) no_rcv_this (scope_from k ss Γ) p → IsSortedIn (signature P) no_rcv_this Γ (closed (binds_from k ss) p)
   unfolding IsSortedIn
   closed_sorted k [] Γ p has = has
   closed_sorted k (s ∷ ss) Γ p has = closed_sorted (k + 1) ss (with_sort Γ (record { 0 = k }) s) p has
@@ -128,17 +127,17 @@ module _ (P : Parts) where
   -- the terms are one of these rows
   module _ (Γ : Scope) (ss : List Sort) (xs : List Term) (have : HaveSortsIn (signature P) Γ ss xs) where
     rows_sorted : (rows : List StartRow) (test : StartRow → Bool) → ((row : StartRow) → Contains rows row → test row ≡ true → HaveSorts (signature P) [] ss row.terms)
-        → AreSortedIn P no_packet Γ (map (same xs) (map (λ row. row.terms) (filter test rows)))
+        → AreSortedIn P no_rcv_this Γ (map (same xs) (map (λ row. row.terms) (filter test rows)))
     rows_sorted [] test each = tt
     rows_sorted (row ∷ rows) test each = by_test (test row) (each row (0, omega arith, refl)) (rows_sorted rows test (λ other there. each other (suc there.0, omega (arith, there.1), there.2)))
       where
-        by_test : (b : Bool) → (b ≡ true → HaveSorts (signature P) [] ss row.terms) → AreSortedIn P no_packet Γ (map (same xs) (map (λ z. z.terms) (filter test rows)))
-            → AreSortedIn P no_packet Γ (map (same xs) (map (λ z. z.terms) (if b then row ∷ filter test rows else filter test rows)))
-        by_test true own rest = (IsSortedIn-same (signature P) no_packet Γ ss xs row.terms have (all_in_scope (signature P) [] Γ (AreInScope-none Γ) ss row.terms (own refl)), rest)
+        by_test : (b : Bool) → (b ≡ true → HaveSorts (signature P) [] ss row.terms) → AreSortedIn P no_rcv_this Γ (map (same xs) (map (λ z. z.terms) (filter test rows)))
+            → AreSortedIn P no_rcv_this Γ (map (same xs) (map (λ z. z.terms) (if b then row ∷ filter test rows else filter test rows)))
+        by_test true own rest = (IsSortedIn-same (signature P) no_rcv_this Γ ss xs row.terms have (all_in_scope (signature P) [] Γ (AreInScope-none Γ) ss row.terms (own refl)), rest)
         by_test false own rest = rest
 
-  holds_sorted : (r : Pred) (ss : List Sort) (rows : List StartRow) → no_packet r → sorts_of (signature P) r ≡ Some ss
-      → ((Γ : Scope) (xs : List Term) → HaveSortsIn (signature P) Γ ss xs → AreSortedIn P no_packet Γ (map (same xs) (rows_among rows r))) → IsClosed P (holds_rows rows r ss)
+  holds_sorted : (r : Pred) (ss : List Sort) (rows : List StartRow) → no_rcv_this r → sorts_of (signature P) r ≡ Some ss
+      → ((Γ : Scope) (xs : List Term) → HaveSortsIn (signature P) Γ ss xs → AreSortedIn P no_rcv_this Γ (map (same xs) (rows_among rows r))) → IsClosed P (holds_rows rows r ss)
   unfolding IsSortedIn
   holds_sorted r ss rows named declared each =
       let xs : List Term = terms_of (binds_from 0 ss) in
@@ -146,7 +145,7 @@ module _ (P : Parts) where
       let have : HaveSortsIn (signature P) Γ ss xs = vars_sorted 0 ss no_scope in
       closed_sorted 0 ss no_scope (equivalence (Atom r xs) (is_one_of xs (rows_among rows r))) (
         (record { sorts = ss; declared = declared; terms = have }, named),
-        joined_sorted P no_packet Γ Or (map (same xs) (rows_among rows r)) (each Γ xs have),
+        joined_sorted P no_rcv_this Γ Or (map (same xs) (rows_among rows r)) (each Γ xs have),
       )
 
   module _ (sorted : IsWellSorted P) where
@@ -160,19 +159,19 @@ module _ (P : Parts) where
         let its : is_row.relation ≡ relation = same_Some is_row.relation relation (sym is_row.declared ∙ ap (slice_get P.relations) number ∙ declared) in
         subst (λ (z : Relation). HaveSorts (signature P) [] z.sorts row.terms) its is_row.terms))
 
-    none_sorted : (Γ : Scope) (xs : List Term) (rows : List StartRow) → AreSortedIn P no_packet Γ (map (same xs) (map (λ row. row.terms) (filter (λ row. false) rows)))
+    none_sorted : (Γ : Scope) (xs : List Term) (rows : List StartRow) → AreSortedIn P no_rcv_this Γ (map (same xs) (map (λ row. row.terms) (filter (λ row. false) rows)))
     none_sorted Γ xs [] = tt
     none_sorted Γ xs (row ∷ rows) = none_sorted Γ xs rows
 
-    at_sorted : (b : Bool) (p : Formula) → IsClosed P p → AreSortedIn P no_packet no_scope (if b then [] else (p ∷ []))
+    at_sorted : (b : Bool) (p : Formula) → IsClosed P p → AreSortedIn P no_rcv_this no_scope (if b then [] else (p ∷ []))
     at_sorted true p has = tt
     at_sorted false p has = (has, tt)
 
-    each_stored : (k : ℕ) (rs : List Relation) → ((j : ℕ) (r : Relation) → slice_get rs j ≡ Some r → slice_get P.relations (k + j) ≡ Some r) → AreSortedIn P no_packet no_scope (stored_from P.start k rs)
+    each_stored : (k : ℕ) (rs : List Relation) → ((j : ℕ) (r : Relation) → slice_get rs j ≡ Some r → slice_get P.relations (k + j) ≡ Some r) → AreSortedIn P no_rcv_this no_scope (stored_from P.start k rs)
     each_stored k [] there = tt
     each_stored k (r ∷ rs) there =
         let here : k + 0 ≡ k = omega arith in
-        both_sorted P no_packet no_scope (stored_at P.start k r) (stored_from P.start (k + 1) rs)
+        both_sorted P no_rcv_this no_scope (stored_at P.start k r) (stored_from P.start (k + 1) rs)
         (at_sorted r.fixed (holds_rows P.start (Stored (record { 0 = k })) r.sorts) (stored_closed k r (ap (slice_get P.relations) (sym here) ∙ there 0 r refl)))
         (each_stored (k + 1) rs
         (λ j q is.
@@ -183,6 +182,6 @@ module _ (P : Parts) where
     start_closed =
         let ft : IsClosed P (holds_rows P.start Ft flow_sorts) = holds_sorted Ft flow_sorts P.start refl refl (λ Γ xs have. none_sorted Γ xs P.start) in
         let sent : IsClosed P (holds_rows P.start Sent flow_sorts) = holds_sorted Sent flow_sorts P.start refl refl (λ Γ xs have. none_sorted Γ xs P.start) in
-        joined_sorted P no_packet no_scope And (stored_from P.start 0 P.relations ++ (holds_rows P.start Ft flow_sorts ∷ holds_rows P.start Sent flow_sorts ∷ []))
-        (both_sorted P no_packet no_scope (stored_from P.start 0 P.relations) (holds_rows P.start Ft flow_sorts ∷ holds_rows P.start Sent flow_sorts ∷ [])
+        joined_sorted P no_rcv_this no_scope And (stored_from P.start 0 P.relations ++ (holds_rows P.start Ft flow_sorts ∷ holds_rows P.start Sent flow_sorts ∷ []))
+        (both_sorted P no_rcv_this no_scope (stored_from P.start 0 P.relations) (holds_rows P.start Ft flow_sorts ∷ holds_rows P.start Sent flow_sorts ∷ [])
         (each_stored 0 P.relations (λ j r is. let same : 0 + j ≡ j = omega arith in ap (slice_get P.relations) same ∙ is)) (ft, (sent, tt)))

@@ -1,39 +1,26 @@
 -- The conditions of an inductive program are valid.
-use Rattle.std.proofs.Common.{◌≡◌, ◌≢◌, ◌↔◌, ◌∙◌, sym, ap, ap₂, subst, refl, ℕ, zero, suc, ◌+◌, ◌*◌, ◌-◌, ◌/◌, ◌%◌, ◌<◌, ◌≤◌, ◌==◌, ◌⊎◌, inl, inr, Bool, true, false, not, ◌&&◌, ◌||◌, List, [], ◌∷◌, length, map, Option, Some, None, Contains, IsTrue, if◌then◌else◌, arith, true≢false}
-use Rattle.std.specs.Prelude.{slice_get, slice_index, slice_index_or, option_map}
+use Rattle.std.proofs.Common.{◌≡◌, ◌≢◌, ◌↔◌, ◌∙◌, sym, ap, subst, refl, ℕ, zero, suc, ◌+◌, ◌*◌, ◌-◌, ◌/◌, ◌%◌, ◌<◌, ◌≤◌, ◌⊎◌, inl, inr, Bool, true, false, not, List, [], ◌∷◌, length, map, Some, IsTrue, if◌then◌else◌, arith, true≢false}
+use Rattle.std.specs.Prelude.{slice_get, slice_index_or, is_some}
 use Rattle.std.specs.List.{flat_map, list_all, range_with_len}
 use Rattle.std.proofs.Math.Nat.{mod-lt}
-use Rattle.std.proofs.lemmas.Option.{slice_get_within, slice_get-get_or}
-use Rattle.std.proofs.lemmas.List.Elements.{All-contains}
-use Rattle.std.proofs.lemmas.Bool.{and_parts}
+use Rattle.std.proofs.lemmas.Option.{slice_get_within, slice_get-get_or, none-some}
+use Rattle.std.proofs.lemmas.Bool.{and_parts, true_from_ne_false}
 use Rattle.std.proofs.lemmas.List.Folds.{list_all-append}
-use Rattle.general_facts.proofs.Lists.{list_all-same, list_any-same}
 use Rattle.csdn_core.specs.declared.terms.Sort.{Sort}
-use Rattle.csdn_core.specs.declared.terms.Term.{Term}
-use Rattle.csdn_core.specs.declared.terms.Term.TheVariants.{Var, Const, Port}
 use Rattle.csdn_core.specs.declared.terms.Pred.{Pred}
 use Rattle.csdn_core.specs.declared.terms.Pred.TheVariants.{Stored, Ft, Sent, RcvThis}
 use Rattle.csdn_core.specs.declared.terms.Place.TheVariants.{Topology}
 use Rattle.csdn_core.specs.declared.event.Event.{Event}
-use Rattle.csdn_core.specs.declared.event.Event.TheVariants.{PktIn, PktFlow}
 use Rattle.csdn_core.specs.declared.event.Packet.TheVariants.{Nothing}
 use Rattle.csdn_core.specs.declared.program.Parts.{Parts}
-use Rattle.csdn_core.specs.declared.program.Constant.{Constant}
 use Rattle.csdn_core.specs.declared.program.Invariant.{Invariant}
 use Rattle.csdn_core.specs.declared.syntax.Formula.{Formula}
-use Rattle.csdn_core.specs.declared.syntax.Formula.TheVariants as f
-use Rattle.csdn_core.specs.Tree.{negation, conjunction, disjunction, implication, equivalence, universal, existential}
-use Rattle.csdn_core.specs.Truth.{Assignment, with_var, truth, value, values, same_truth}
-use Rattle.csdn_core.specs.Network.{Network, State, elements, structure, holds_in, is_fixed, HaveElements, IsNetwork}
+use Rattle.csdn_core.specs.Truth.{truth}
+use Rattle.csdn_core.specs.Network.{Network, State, structure, holds_in, is_fixed, HaveElements, IsNetwork}
 use Rattle.csdn_core.specs.Run.{empty_state, no_values, initial, packet_of, Step}
 use Rattle.csdn_core.specs.Holds.{AllTrue, IsTopology, IsSafe, IsSafeFor, IsInductive}
 use Rattle.csdn_core.specs.Sorted.{sorts_of}
 use Rattle.csdn_core.specs.WellSorted.{IsWellSorted, signature}
-use Rattle.fol_forms.specs.Substitution.{Scope, no_scope, with_sort, KeepsSorts}
-use Rattle.fol_forms.proofs.Replaced.{KeepsSorts-with, KeepsSorts-none}
-use Rattle.csdn_wp.specs.SortedIn.{any_relation, no_packet, HasSortIn, HaveSortsIn, IsSortedIn}
-use Rattle.csdn_wp.proofs.Flow.{flow_exact}
-use Rattle.csdn_wp.proofs.Programs.{in_exact}
 use Rattle.csdn_conditions.specs.declared.kinds.EventKind.{EventKind}
 use Rattle.csdn_conditions.specs.declared.kinds.EventKind.TheVariants as e
 use Rattle.csdn_conditions.specs.declared.kinds.CondKind.{CondKind}
@@ -46,72 +33,44 @@ use Rattle.csdn_conditions.specs.Initial.{is_of_states, IsInitial}
 use Rattle.csdn_conditions.specs.Valid.{IsValid}
 use Rattle.csdn_conditions.proofs.ClosedParts.{AreSortedIn, invariants_sorted, distinct_topology}
 use Rattle.csdn_conditions.proofs.ClosedConditions.{any_event, events_closed, safety_closed, trans_any, kind_of_member}
-use Rattle.csdn_conditions.proofs.KindLaws.{init_at, init_within, step_at, step_within, trans_at, trans_within}
+use Rattle.csdn_conditions.proofs.KindLaws.{IsOneOf, some_where, init_at, init_within, step_at, step_within, trans_at, trans_within}
+use Rattle.csdn_core.proofs.Agreement.{structure_of, elements_there, truth_sees}
 use Rattle.csdn_conditions.proofs.StartTruth.{truth-all, is_initial}
-use Rattle.csdn_conditions.proofs.Inductive.{IsStatic, static_names, truth-state, formula_there, kind_of, value-state, values-state, topology_true, quiet, runs_end, ends_true}
+use Rattle.csdn_conditions.proofs.Inductive.{IsStatic, static_names, truth-state, formula_there, kind_of, Breaks, event_breaks, topology_true, quiet, runs_end, ends_true}
+use Rattle.csdn_core.specs.SortedIn.{no_scope, any_relation, no_rcv_this, IsSortedIn}
 
 -- sentences have the same truth in states that agree on a network's elements
 
 module _ (P : Parts) (N : Network) (network : IsNetwork P N) (x y : State)
     (agree : (r : Pred) (ss : List Sort) (cells : List ℕ) → IsTrue (is_of_states P r) → sorts_of (signature P) r ≡ Some ss → HaveElements N ss cells → x r cells ≡ y r cells) where
-  constant_there : (k : ℕ) (s : Sort) → option_map (λ (d : Constant). d.sort) (slice_get P.constants k) ≡ Some s → Contains (elements N s) (slice_index N.constants k)
-  constant_there k s is = at (slice_get P.constants k) refl is
-    where
-      at : (o : Option Constant) → slice_get P.constants k ≡ o → option_map (λ (d : Constant). d.sort) o ≡ Some s → Contains (elements N s) (slice_index N.constants k)
-      at None here is = absurd (cc)
-      at (Some d) here is = let same : d.sort ≡ s = cc in subst (λ (t : Sort). Contains (elements N t) (slice_index N.constants k)) same (network.sorted k d here)
-
-  value_has : (Γ : Scope) (d : Assignment) → KeepsSorts (structure P N x Nothing) Γ d → (s : Sort) (t : Term) → HasSortIn (signature P) Γ s t → Contains (elements N s) (value (structure P N x Nothing) d t)
-  value_has Γ d keeps s (Var v) has = keeps v.0 s has
-  value_has Γ d keeps s (Const k) has = constant_there k.0 s has
-  value_has Γ d keeps s (Port k) has = subst (λ (t : Sort). Contains (elements N t) k) (sym has.0) (All-contains (Contains N.ports) P.numerals k network.numerals has.1)
-
-  values_have : (Γ : Scope) (d : Assignment) → KeepsSorts (structure P N x Nothing) Γ d → (ss : List Sort) (ts : List Term) → HaveSortsIn (signature P) Γ ss ts → HaveElements N ss (values (structure P N x Nothing) d ts)
-  unfolding HaveSortsIn HaveElements
-  values_have Γ d keeps [] [] have = tt
-  values_have Γ d keeps [] (t ∷ ts) have = absurd have
-  values_have Γ d keeps (s ∷ ss) [] have = absurd have
-  values_have Γ d keeps (s ∷ ss) (t ∷ ts) have = (value_has Γ d keeps s t have.0, values_have Γ d keeps ss ts have.1)
-
   unless_fixed : (b : Bool) (u v w : Bool) → (not b ≡ true → v ≡ w) → (if b then u else v) ≡ (if b then u else w)
   unless_fixed true u v w same = refl
   unless_fixed false u v w same = same refl
 
-  holds_agree : (r : Pred) (ss : List Sort) (cells : List ℕ) → no_packet r → sorts_of (signature P) r ≡ Some ss → HaveElements N ss cells → holds_in P N x Nothing r cells ≡ holds_in P N y Nothing r cells
+  holds_agree : (r : Pred) (ss : List Sort) (cells : List ℕ) → no_rcv_this r → sorts_of (signature P) r ≡ Some ss → HaveElements N ss cells → holds_in P N x Nothing r cells ≡ holds_in P N y Nothing r cells
   holds_agree (Stored r) ss cells named declared have = unless_fixed (is_fixed P r.0) _ _ _ (λ states. agree (Stored r) ss cells states declared have)
   holds_agree Ft ss cells named declared have = agree Ft ss cells refl declared have
   holds_agree Sent ss cells named declared have = agree Sent ss cells refl declared have
   holds_agree RcvThis ss cells named declared have = absurd (true≢false named)
 
-  truth-agree : (Γ : Scope) (p : Formula) (d : Assignment) → IsSortedIn (signature P) no_packet Γ p → KeepsSorts (structure P N x Nothing) Γ d
-      → truth (structure P N x Nothing) p d ≡ truth (structure P N y Nothing) p d
-  unfolding truth IsSortedIn
-  truth-agree Γ f.True d sorted keeps = refl
-  truth-agree Γ f.False d sorted keeps = refl
-  truth-agree Γ (f.Atom r ts) d sorted keeps =
-      holds_agree r sorted.0.sorts (values (structure P N x Nothing) d ts) sorted.1 sorted.0.declared (values_have Γ d keeps sorted.0.sorts ts sorted.0.terms)
-      ∙ ap (holds_in P N y Nothing r) (values-state P N x y d ts)
-  truth-agree Γ (f.Same t u) d sorted keeps = ap₂ (λ a b. a == b) (value-state P N x y d t) (value-state P N x y d u)
-  truth-agree Γ (negation p) d sorted keeps = ap not (truth-agree Γ p d sorted keeps)
-  truth-agree Γ (conjunction p q) d sorted keeps = ap₂ (λ a b. a && b) (truth-agree Γ p d sorted.0 keeps) (truth-agree Γ q d sorted.1 keeps)
-  truth-agree Γ (disjunction p q) d sorted keeps = ap₂ (λ a b. a || b) (truth-agree Γ p d sorted.0 keeps) (truth-agree Γ q d sorted.1 keeps)
-  truth-agree Γ (implication p q) d sorted keeps = ap₂ (λ a b. not a || b) (truth-agree Γ p d sorted.0 keeps) (truth-agree Γ q d sorted.1 keeps)
-  truth-agree Γ (equivalence p q) d sorted keeps = ap₂ same_truth (truth-agree Γ p d sorted.0 keeps) (truth-agree Γ q d sorted.1 keeps)
-  truth-agree Γ (universal v s p) d sorted keeps =
-      list_all-same (λ m. truth (structure P N x Nothing) p (with_var d v m)) (λ m. truth (structure P N y Nothing) p (with_var d v m)) (elements N s)
-      (λ m there. truth-agree (with_sort Γ v s) p (with_var d v m) sorted (KeepsSorts-with (structure P N x Nothing) Γ d v s m keeps there))
-  truth-agree Γ (existential v s p) d sorted keeps =
-      list_any-same (λ m. truth (structure P N x Nothing) p (with_var d v m)) (λ m. truth (structure P N y Nothing) p (with_var d v m)) (elements N s)
-      (λ m there. truth-agree (with_sort Γ v s) p (with_var d v m) sorted (KeepsSorts-with (structure P N x Nothing) Γ d v s m keeps there))
+  pub truth-agree : (p : Formula) → IsClosed P p → truth (structure P N x Nothing) p no_values ≡ truth (structure P N y Nothing) p no_values
+  truth-agree p closed =
+      truth_sees (signature P) no_rcv_this (structure P N x Nothing) (structure P N y Nothing) (structure_of P N network x Nothing)
+      (record { elements = λ s. refl; constants = λ k. refl; tuples = λ r ss cells named declared there. holds_agree r ss cells named declared (elements_there P N network x Nothing ss cells there) })
+      no_scope p no_values no_values closed (record { there = λ v s is. absurd (none-some s is); same = λ v s is. refl })
 
 -- what the kinds of a level are, past the first
 
-module _ (n s t : ℕ) where
+module _ (es : List EventKind) (some_events : 0 < length es) (n s t : ℕ) where
   some_kind : (a b : CondKind) → Some a ≡ Some b → a ≡ b
   some_kind a b is = cc
 
-  some_event : (p : ℕ) → slice_get events (p % 2) ≡ Some (slice_index_or events (p % 2) e.PktIn)
-  some_event p = slice_get-get_or events (p % 2) e.PktIn (mod-lt p (omega arith))
+  event_at : ℕ → EventKind
+  event_at p = slice_index_or es (p % length es) e.PktIn
+
+  some_event : (p : ℕ) → slice_get es (p % length es) ≡ Some (event_at p)
+  unfolding event_at
+  some_event p = slice_get-get_or es (p % length es) e.PktIn (mod-lt p some_events)
 
   small_or_not : (a b : ℕ) → (a < b) ⊎ (b ≤ a)
   small_or_not a b = grind arith
@@ -120,24 +79,23 @@ module _ (n s t : ℕ) where
   abbrev pub IsOfEvents : CondKind → Type 0
   IsOfEvents NetworkKind = ⊥
   IsOfEvents (Init k v) = (k ≤ n) × (v < s)
-  IsOfEvents (StepKind v event) = v < s
-  IsOfEvents (Trans u event) = u < t
+  IsOfEvents (StepKind v event) = (v < s) × IsOneOf es event
+  IsOfEvents (Trans u event) = (u < t) × IsOneOf es event
 
-  pub of_events : (i : ℕ) (kind : CondKind) → slice_get (kinds_of n s t) i ≡ Some kind → 0 < i → IsOfEvents kind
+  pub of_events : (i : ℕ) (kind : CondKind) → slice_get (kinds_of es n s t) i ≡ Some kind → 0 < i → IsOfEvents kind
   of_events i kind there past =
-      let within : i < length (kinds_of n s t) = slice_get_within (kinds_of n s t) i kind there in
+      let m : ℕ = length es in
+      let within : i < length (kinds_of es n s t) = slice_get_within (kinds_of es n s t) i kind there in
       let some : i ≢ 0 = λ is. omega (arith, is, past) in
       elim (small_or_not (i - 1) ((n + 1) * s)) [
-        | inl first ↦ subst IsOfEvents (some_kind (Init ((i - 1) / s) ((i - 1) % s)) kind (sym (init_at n s t i some first) ∙ there)) (init_within n s (i - 1) first)
-        | inr later ↦ elim (small_or_not (i - 1 - (n + 1) * s) (2 * s)) [
+        | inl first ↦ subst IsOfEvents (some_kind (Init ((i - 1) / s) ((i - 1) % s)) kind (sym (init_at es m refl some_events n s t i some first) ∙ there)) (init_within n s (i - 1) first)
+        | inr later ↦ elim (small_or_not (i - 1 - (n + 1) * s) (s * m)) [
           | inl second ↦
               let p : ℕ = i - 1 - (n + 1) * s in
-              let event : EventKind = slice_index_or events (p % 2) e.PktIn in
-              subst IsOfEvents (some_kind (StepKind (p / 2) event) kind (sym (step_at n s t i event some later second (some_event p)) ∙ there)) (step_within s p second)
+              subst IsOfEvents (some_kind (StepKind (p / m) (event_at p)) kind (sym (step_at es m refl some_events n s t i (event_at p) some later second (some_event p)) ∙ there)) (step_within es m refl some_events n s t p second, (p % m, some_event p))
           | inr last ↦
-              let p : ℕ = i - 1 - (n + 1) * s - 2 * s in
-              let event : EventKind = slice_index_or events (p % 2) e.PktIn in
-              subst IsOfEvents (some_kind (Trans (p / 2) event) kind (sym (trans_at n s t i event within some later last (some_event p)) ∙ there)) (trans_within n s t i within some later last)
+              let p : ℕ = i - 1 - (n + 1) * s - s * m in
+              subst IsOfEvents (some_kind (Trans (p / m) (event_at p)) kind (sym (trans_at es m refl some_events n s t i within some later last (event_at p) (some_event p)) ∙ there)) (trans_within es m refl some_events n s t i within some later last, (p % m, some_event p))
         ]
       ]
 
@@ -148,10 +106,11 @@ module _ (P : Parts) (well : IsWellSorted P) (N : Network) (network : IsNetwork 
   abbrev T : State → Formula → Bool
   T x p = truth (structure P N x Nothing) p no_values
 
-  event_from : (kind : EventKind) (q : Formula) → IsSortedIn (signature P) any_relation no_scope q → (x : State)
+  event_from : (kind : EventKind) → IsOneOf (events P) kind → (q : Formula) → IsSortedIn (signature P) any_relation no_scope q → (x : State)
       → ((event : Event) (y : State) → kind_of event ≡ kind → Step P N x event y → IsTrue (truth (structure P N y (packet_of event)) q no_values)) → Sat x (after_event P kind q)
-  event_from e.PktIn q sorted x h = (in_exact P well N network q sorted x).1 (λ s a b i y step. h (PktIn s a b i) y refl step)
-  event_from e.PktFlow q sorted x h = (flow_exact P q sorted N x).1 (λ s a b i o y step. h (PktFlow s a b i o) y refl step)
+  unfolding Breaks
+  event_from kind there q sorted x h =
+      true_from_ne_false _ (λ isnt. (let (event, is, y, step, wrong) = event_breaks P well N network kind there q sorted x isnt in true≢false (sym (h event y is step) ∙ wrong)))
 
   -- what hypotheses say
 
@@ -159,7 +118,7 @@ module _ (P : Parts) (well : IsWellSorted P) (N : Network) (network : IsNetwork 
   all_more v vs h rest zero d within = h
   all_more v vs h rest (suc k) d within = rest k d (omega arith)
 
-  topology_holds : (x : State) → Sat x (topology P) → AllTrue P N empty_state Nothing P.topology
+  pub topology_holds : (x : State) → Sat x (topology P) → AllTrue P N empty_state Nothing P.topology
   topology_holds x h =
       each P.topology (invariants_sorted P (IsStatic P) Topology (static_names P) P.topology (distinct_topology P well) well.topology)
       (sym (truth-all (structure P N x Nothing) no_values (formulas P.topology)) ∙ h)
@@ -167,7 +126,7 @@ module _ (P : Parts) (well : IsWellSorted P) (N : Network) (network : IsNetwork 
       each : (vs : List Invariant) → AreSortedIn P (IsStatic P) no_scope (formulas vs) → list_all (T x) (formulas vs) ≡ true → AllTrue P N empty_state Nothing vs
       each [] sorted all = λ k d within. absurd (omega arith)
       each (v ∷ vs) sorted all =
-          all_more v vs (sym (truth-state P N x empty_state no_scope v.formula no_values sorted.0) ∙ (and_parts _ _ all).0) (each vs sorted.1 (and_parts _ _ all).1)
+          all_more v vs (sym (truth-state P N x empty_state v.formula sorted.0) ∙ (and_parts _ _ all).0) (each vs sorted.1 (and_parts _ _ all).1)
 
   -- a formula of a list all of whose formulas are true after k events
   after_at : (k : ℕ) (x : State) (vs : List Invariant) (v : ℕ) → v < length vs → list_all (T x) (map (after_events P k) (formulas vs)) ≡ true → Sat x (after_events P k (formula_at vs v))
@@ -215,7 +174,7 @@ module _ (P : Parts) (well : IsWellSorted P) (N : Network) (network : IsNetwork 
       at (u ∷ vs) (suc k) within all = at vs k (omega arith) (λ j d less. all (suc j) d (omega (arith, less)))
 
   module _ (n : ℕ) (inductive : IsInductive n P) where
-    by_kind : (kind : CondKind) → IsOfEvents n (length P.safety) (length P.trans) kind → (x : State) → Sat x (hypothesis P n kind) → Sat x (conclusion P n kind)
+    by_kind : (kind : CondKind) → IsOfEvents (events P) (some_where (is_some P.timeout)) n (length P.safety) (length P.trans) kind → (x : State) → Sat x (hypothesis P n kind) → Sat x (conclusion P n kind)
     unfolding truth
     by_kind NetworkKind some x h = absurd some
     by_kind (Init k v) some x h =
@@ -223,7 +182,7 @@ module _ (P : Parts) (well : IsWellSorted P) (N : Network) (network : IsNetwork 
         let points = inductive N (record { network = network; topology = all }) in
         let agree : IsInitial P N x = is_initial P N x Nothing well (and_parts _ _ h).1 in
         let q : Formula = formula_at P.safety v in
-        truth-agree P N network x (initial P N) agree no_scope (after_events P k q) no_values (events_closed P well k q (safety_closed P well v)) (KeepsSorts-none (structure P N x Nothing) no_values)
+        truth-agree P N network x (initial P N) agree (after_events P k q) (events_closed P well k q (safety_closed P well v))
         ∙ ends_true P well N network k q (safety_closed P well v) (initial P N)
         (λ es y many run. safe_at y v some.1 (points.initially es y (omega (arith, many, some.0)) run))
     by_kind (StepKind v kind) some x h =
@@ -232,21 +191,21 @@ module _ (P : Parts) (well : IsWellSorted P) (N : Network) (network : IsNetwork 
         let safe : IsSafeFor P N n x = safe_from n x (and_parts _ _ h).1 in
         let q : Formula = formula_at P.safety v in
         let closed : IsClosed P (after_events P n q) = events_closed P well n q (safety_closed P well v) in
-        event_from kind (after_events P n q) (any_event P well (after_events P n q) closed) x
+        event_from kind some.1 (after_events P n q) (any_event P well (after_events P n q) closed) x
         (λ event y is step.
         quiet P well N network (after_events P n q) closed y (packet_of event)
-        ∙ ends_true P well N network n q (safety_closed P well v) y (λ es z many run. safe_at z v some (points.safety x (event ∷ es) z safe (ap suc many) (y, step, run))))
+        ∙ ends_true P well N network n q (safety_closed P well v) y (λ es z many run. safe_at z v some.0 (points.safety x (event ∷ es) z safe (ap suc many) (y, step, run))))
     by_kind (Trans u kind) some x h =
         let all = topology_holds x (and_parts _ _ h).0 in
         let points = inductive N (record { network = network; topology = all }) in
         let safe : IsSafeFor P N n x = safe_from n x (and_parts _ _ h).1 in
-        event_from kind (formula_at P.trans u) (trans_any P well u) x (λ event y is step. trans_at_event y event u some (points.trans x event y safe step))
+        event_from kind some.1 (formula_at P.trans u) (trans_any P well u) x (λ event y is step. trans_at_event y event u some.0 (points.trans x event y safe step))
 
 pub complete : (P : Parts) → IsWellSorted P → (n : ℕ) → IsInductive n P → (i : ℕ) (c : Condition) → slice_get (conditions P n) i ≡ Some c → 0 < i → IsValid P c
 complete P well n inductive i c there past =
     let found = kind_of_member P well n i c there in
     subst (IsValid P) found.2
-    (λ N x network h. by_kind P well N network n inductive found.0 (of_events n (length P.safety) (length P.trans) i found.0 found.1 past) x h)
+    (λ N x network h. by_kind P well N network n inductive found.0 (of_events (events P) (some_where (is_some P.timeout)) n (length P.safety) (length P.trans) i found.0 found.1 past) x h)
 
 -- the first condition
 

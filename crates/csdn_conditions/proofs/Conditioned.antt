@@ -11,13 +11,13 @@ use Rattle.fol_forms.specs.declared.refusal.FormRefusal.TheVariants.{Large, Memo
 use Rattle.fol_forms.specs.Limits.{capped, most_nodes}
 use Rattle.csdn_wp.specs.Makes.{Makes}
 use Rattle.csdn_conditions.specs.declared.kinds.EventKind.{EventKind}
-use Rattle.csdn_conditions.specs.declared.kinds.EventKind.TheVariants.{PktIn, PktFlow}
+use Rattle.csdn_conditions.specs.declared.kinds.EventKind.TheVariants.{PktIn, PktFlow, Expire}
 use Rattle.csdn_conditions.specs.declared.kinds.CondKind.{CondKind}
 use Rattle.csdn_conditions.specs.declared.sentence.Condition.{Condition}
 use Rattle.csdn_conditions.specs.Kinds.{kinds}
 use Rattle.csdn_conditions.specs.Conditions.{after_event, after_events, all_after, condition, sentence}
 use Rattle.csdn_conditions.specs.Answers.{Answers, OfCondition}
-use Rattle.csdn_conditions.proofs.Growth.{grows-in, grows-flow}
+use Rattle.csdn_conditions.proofs.Growth.{grows-in, grows-flow, grows-expire}
 
 -- after no event
 
@@ -31,6 +31,7 @@ all_after_none P ps = append-nil (map (after_events P 0) ps) ∙ map_same P ps
 pub grows-event : (P : Parts) (event : EventKind) (q : Formula) → nodes q ≤ nodes (after_event P event q)
 grows-event P PktIn q = grows-in P q
 grows-event P PktFlow q = grows-flow q
+grows-event P Expire q = grows-expire q
 
 pub small_false : nodes False ≤ most_nodes
 unfolding nodes

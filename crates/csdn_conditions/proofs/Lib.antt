@@ -11,3 +11,4 @@ mod ClosedParts
 mod ClosedConditions
 mod Inductive
 mod Complete
+pub mod Cases

@@ -9,7 +9,7 @@ use Rattle.general_facts.proofs.Numbers.{self_equal}
 use Rattle.general_facts.proofs.Lists.{list_any-map}
 use Rattle.std.proofs.lemmas.Option.{same_Some}
 use Rattle.std.proofs.lemmas.List.Folds.{list_all-append}
-use Rattle.decision_laws.proofs.NormalTruth.{same_truth-is}
+use Rattle.fol_forms.proofs.NormalTruth.{same_truth-is}
 use Rattle.csdn_core.proofs.Same.{same_cells-turned}
 use Rattle.csdn_core.specs.declared.terms.RelId.{RelId}
 use Rattle.csdn_core.specs.declared.terms.Sort.{Sort}

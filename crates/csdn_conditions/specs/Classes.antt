@@ -3,10 +3,10 @@ use Rattle.std.specs.Prelude.{◌≡◌, ◌⊎◌, ℕ, ◌<◌, ◌≤◌, IsT
 use Rattle.csdn_core.specs.declared.program.Parts.{Parts}
 use Rattle.csdn_core.specs.declared.syntax.Formula.{Formula}
 use Rattle.csdn_core.specs.Nodes.{nodes}
-use Rattle.decision_laws.specs.Forms.{in_fragment}
-use Rattle.decision_laws.specs.Laws.{form_of, counts}
+use Rattle.fol_forms.specs.Forms.{form_of, in_fragment}
+use Rattle.fol_forms.specs.Constants.{counts, instances}
 use Rattle.fol_forms.specs.Limits.{capped, most_nodes}
-use Rattle.fol_forms.specs.Written.{written, instances}
+use Rattle.fol_forms.specs.Written.{written}
 use Rattle.csdn_conditions.specs.declared.class.Class.{Class}
 use Rattle.csdn_conditions.specs.declared.class.Class.TheVariants.{Inside, Nodes, Outside, Instances}
 

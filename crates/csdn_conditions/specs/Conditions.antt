@@ -1,18 +1,18 @@
 -- The conditions of a level. Where each of them is valid in all networks and states, the program is inductive at that level.
-use Rattle.std.specs.Prelude.{ℕ, zero, suc, ◌+◌, List, map, slice_index_or}
+use Rattle.std.specs.Prelude.{ℕ, zero, suc, ◌+◌, List, map, slice_index_or, is_some}
 use Rattle.std.specs.List.{flat_map}
 use Rattle.csdn_core.specs.declared.program.Invariant.{Invariant}
 use Rattle.csdn_core.specs.declared.program.Parts.{Parts}
 use Rattle.csdn_core.specs.declared.syntax.Formula.{Formula}
 use Rattle.csdn_core.specs.declared.syntax.Formula.TheVariants.{True, False}
 use Rattle.csdn_core.specs.Tree.{negation, conjunction}
-use Rattle.csdn_wp.specs.EventPreconditions.{wp_in, wp_flow}
+use Rattle.csdn_wp.specs.EventPreconditions.{wp_in, wp_flow, wp_expire}
 use Rattle.csdn_conditions.specs.declared.kinds.EventKind.{EventKind}
-use Rattle.csdn_conditions.specs.declared.kinds.EventKind.TheVariants.{PktIn, PktFlow}
+use Rattle.csdn_conditions.specs.declared.kinds.EventKind.TheVariants.{PktIn, PktFlow, Expire}
 use Rattle.csdn_conditions.specs.declared.kinds.CondKind.{CondKind}
 use Rattle.csdn_conditions.specs.declared.kinds.CondKind.TheVariants.{Network, Init, Step, Trans}
 use Rattle.csdn_conditions.specs.declared.sentence.Condition.{Condition}
-use Rattle.csdn_conditions.specs.Kinds.{below, kinds}
+use Rattle.csdn_conditions.specs.Kinds.{below, rule_events, events, kinds}
 use Rattle.csdn_conditions.specs.Lists.{conjunction_of}
 use Rattle.csdn_conditions.specs.Start.{start}
 
@@ -28,11 +28,20 @@ module _ (P : Parts) where
   abbrev pub after_event : EventKind → Formula → Formula
   after_event PktIn q = wp_in P q
   after_event PktFlow q = wp_flow q
+  after_event Expire q = wp_expire q
+
+  -- .. after every event of flow rules
+  abbrev pub after_rules : Formula → Formula
+  after_rules q = conjunction_of (map (λ event. after_event event q) (rule_events (is_some P.timeout)))
+
+  -- .. after every event of the program
+  abbrev pub after_any : Formula → Formula
+  after_any q = conjunction_of (map (λ event. after_event event q) (events P))
 
   -- .. after every run of k events
   abbrev pub after_events : ℕ → Formula → Formula
   after_events zero q = q
-  after_events (suc k) q = conjunction (wp_in P (after_events k q)) (wp_flow (after_events k q))
+  after_events (suc k) q = after_any (after_events k q)
 
   -- the formulas after no event, then those after one, and so on to n events
   abbrev pub all_after : ℕ → List Formula → List Formula

@@ -4,16 +4,17 @@
 ghost use Rattle.std.specs.Prelude.{◌≡◌, ◌≤◌, ◌+◌, ◌++◌, [], ◌∷◌, OnOk, map};
 ghost use Rattle.csdn_core.specs.Tree.{conjunction};
 ghost use Rattle.fol_forms.specs.Limits.{most_nodes};
+ghost use Rattle.csdn_wp.specs.EventPreconditions.{wp_flow as wp_flow_of, wp_expire as wp_expire_of};
 ghost use Rattle.csdn_wp.specs.Makes.{Makes};
 ghost use Rattle.csdn_conditions.specs.Lists.{conjunction_of};
-ghost use Rattle.csdn_conditions.specs.Conditions.{formulas, after_event as after_event_of, after_events as after_events_of, all_after as all_after_of};
+ghost use Rattle.csdn_conditions.specs.Conditions.{formulas, after_event as after_event_of, after_rules as after_rules_of, after_any as after_any_of, after_events as after_events_of, all_after as all_after_of};
 ghost use Rattle.csdn_conditions.specs.Answers.{TakesRoom};
 
 use crate::kinds::EventKind;
 use crate::lists::{Formulas, Join, joined};
 use csdn_core::program::{Invariant, Program};
 use csdn_core::syntax::Formula;
-use csdn_wp::events::{wp_flow, wp_in};
+use csdn_wp::events::{wp_expire, wp_flow, wp_in};
 use fol_forms::count::{node_count, sum_and_one};
 use fol_forms::refusal::{FormRefusal, MOST_NODES, or_memory};
 use std::alloc::{AllocError, Global};
@@ -31,6 +32,7 @@ pub fn after_event(
     match event {
         EventKind::PktIn => wp_in(alloc, program, formula),
         EventKind::PktFlow => wp_flow(alloc, formula),
+        EventKind::Expire => wp_expire(alloc, formula),
     }
 }
 
@@ -47,16 +49,34 @@ pub fn after_events(
         return copy_of(alloc, formula);
     }
     let before = after_events(alloc, program, count - 1, formula)?;
-    after_both(alloc, program, &before)
+    after_any(alloc, program, &before)
 }
 
-// After every event.
-fn after_both(alloc: Global, program: &Program, formula: &Formula) -> Result<Formula, FormRefusal>
-    ensures { Makes most_nodes (after_events_of program.now 1 formula.now) result }
+// After every event of the program.
+fn after_any(alloc: Global, program: &Program, formula: &Formula) -> Result<Formula, FormRefusal>
+    ensures { Makes most_nodes (after_any_of program.now formula.now) result }
 {
     let packet = wp_in(alloc, program, formula)?;
+    let later = after_rules(alloc, program, formula)?;
+    both(alloc, packet, later)
+}
+
+// After every event of flow rules.
+fn after_rules(alloc: Global, program: &Program, formula: &Formula) -> Result<Formula, FormRefusal>
+    ensures { Makes most_nodes (after_rules_of program.now formula.now) result }
+{
+    if program.parts().timeout.is_none() {
+        return wp_flow(alloc, formula);
+    }
+    after_flow_and_expiry(alloc, formula)
+}
+
+fn after_flow_and_expiry(alloc: Global, formula: &Formula) -> Result<Formula, FormRefusal>
+    ensures { Makes most_nodes (conjunction (wp_flow_of formula.now) (wp_expire_of formula.now)) result }
+{
     let flow = wp_flow(alloc, formula)?;
-    both(alloc, packet, flow)
+    let expire = wp_expire(alloc, formula)?;
+    both(alloc, flow, expire)
 }
 
 fn copy_of(alloc: Global, formula: &Formula) -> Result<Formula, FormRefusal>

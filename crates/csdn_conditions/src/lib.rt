@@ -3,11 +3,11 @@
 //! `specs/` says what each condition is; [`condition`](condition::condition) makes one of them.
 #![tactic(auto)]
 
-pub mod after;
+pub(crate) mod after;
 pub mod class;
 pub mod condition;
 pub mod kinds;
 pub mod laws;
-pub mod lists;
+pub(crate) mod lists;
 pub mod sentence;
-pub mod start;
+pub(crate) mod start;

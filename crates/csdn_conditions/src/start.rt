@@ -10,14 +10,11 @@ ghost use Rattle.csdn_conditions.specs.Start.{binds_from, terms_of, rows_among, 
 use crate::lists::{Formulas, Join, joined};
 use csdn_core::program::{Parts, Program, Relation, StartRow};
 use csdn_core::syntax::Formula;
-use csdn_core::terms::{Pred, RelId, Sort, Term, Terms, VarId};
+use csdn_core::terms::{FLOW_SORTS, Pred, RelId, Sort, Term, Terms, VarId};
 use fol_forms::close::{Bind, Binds, closed_by};
 use fol_forms::replace::same;
 use sqlite_items::Boxed;
 use std::alloc::{AllocError, Global};
-
-/// The sorts of `ft` and `sent`.
-const FLOW_SORTS: [Sort; 5] = [Sort::Sw, Sort::Ho, Sort::Ho, Sort::Pr, Sort::Pr];
 
 /// What is true exactly where each `rel`, `ft` and `sent` holds its initial tuples alone.
 pub fn start(alloc: Global, program: &Program) -> Result<Formula, AllocError>

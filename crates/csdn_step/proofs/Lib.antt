@@ -8,3 +8,6 @@ pub mod Starts
 pub mod Room
 pub mod Steps
 pub mod Quiet
+pub mod Elements
+pub mod Telling
+pub mod Changes

@@ -178,7 +178,7 @@ found {X = X} f (x ∷ xs) is = by_test (f x) refl is (found f xs)
     by_test true here is later = (x, (zero, omega arith, refl), here)
     by_test false here is later = let one = later is in (one.0, contains_later xs x one.0 one.1, one.2)
 
-any_more : {X : Type 0} (f g : X → Bool) → ((x : X) → f x ≡ true → g x ≡ true) → (xs : List X) → list_any f xs ≡ true → list_any g xs ≡ true
+pub any_more : {X : Type 0} (f g : X → Bool) → ((x : X) → f x ≡ true → g x ≡ true) → (xs : List X) → list_any f xs ≡ true → list_any g xs ≡ true
 any_more f g to [] is = is
 any_more f g to (x ∷ xs) is = by_test (f x) refl is (any_more f g to xs)
   where

@@ -41,7 +41,7 @@ lesser_is m (Some n) = at (min_either m n)
     at (inr is) = inr (ap (λ (k : ℕ). Some k) (sym is))
 
 -- an element of the list that passes
-abbrev IsFound : (ℕ → Bool) → List ℕ → ℕ → Type 0
+abbrev pub IsFound : (ℕ → Bool) → List ℕ → ℕ → Type 0
 IsFound test ms m = Contains ms m × (test m ≡ true)
 
 found_by : (test : ℕ → Bool) (n m : ℕ) (ms : List ℕ) (b : Bool) → test n ≡ b → (least test ms ≡ Some m → IsFound test ms m) → (if b then Some (lesser n (least test ms)) else least test ms) ≡ Some m → IsFound test (n ∷ ms) m

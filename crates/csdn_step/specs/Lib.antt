@@ -5,3 +5,4 @@ pub mod CommandDepth
 pub mod Drafts
 pub mod Answers
 pub mod Starting
+pub mod OfNetwork

@@ -8,6 +8,7 @@
 mod commands;
 mod draft;
 mod events;
+mod laws;
 mod sends;
 mod setting;
 mod settle;
@@ -16,4 +17,5 @@ mod tallies;
 
 pub use draft::Draft;
 pub use events::{StepRefusal, begin, begin_quiet, fire, fire_quiet};
+pub use laws::{changed_matches_differ, steps_keep_elements, tallies_name_elements};
 pub use start::initial;

@@ -1,7 +1,6 @@
 -- Small programs, by computing.
 use Rattle.std.proofs.Common.{◌≡◌, ℕ, List, [], ◌∷◌, false, refl}
 use Rattle.csdn_core.specs.declared.terms.Sort.TheVariants.{Sw, Ho}
-use Rattle.csdn_core.specs.declared.syntax.Formula.TheVariants as t
 use Rattle.csdn_tree.specs.declared.names.RawName.{RawName}
 use Rattle.csdn_tree.specs.declared.names.RawTerm.TheVariants.{Name}
 use Rattle.csdn_types.specs.declared.refusal.SortRefusal.TheVariants.{Duplicate, WrongArity, WrongSort, NotAllowed}

@@ -2,8 +2,6 @@
 use Rattle.std.specs.Prelude.{◌≡◌, ◌+◌, List, [], ◌∷◌, ◌++◌, refl}
 use Rattle.csdn_core.specs.declared.terms.Place.TheVariants.{Handler as InHandler}
 use Rattle.csdn_core.specs.declared.terms.Sort.{Sort}
-use Rattle.csdn_core.specs.declared.terms.Pred.TheVariants as pred
-use Rattle.csdn_core.specs.declared.syntax.Formula.TheVariants as formula
 use Rattle.csdn_core.specs.declared.syntax.Command.TheVariants as command
 use Rattle.csdn_tree.specs.declared.names.RawName.{RawName}
 use Rattle.csdn_tree.specs.declared.names.RawTerm.{RawTerm}
@@ -11,7 +9,6 @@ use Rattle.csdn_tree.specs.declared.names.RawTerm.TheVariants.{Name}
 use Rattle.csdn_tree.specs.declared.syntax.RawFlow.{RawFlow}
 use Rattle.csdn_tree.specs.declared.syntax.RawPacket.{RawPacket}
 use Rattle.csdn_tree.specs.declared.syntax.RawFormula.{RawFormula}
-use Rattle.csdn_tree.specs.declared.syntax.RawFormula.TheVariants as f
 use Rattle.csdn_tree.specs.declared.syntax.RawCommand.{RawCommand}
 use Rattle.csdn_tree.specs.declared.syntax.RawCommand.TheVariants as c
 use Rattle.csdn_tree.specs.RawTree.{Seq-is, If-is, Pick-is}

@@ -1,11 +1,8 @@
 -- The clauses of the rules on formulas, at what the code sees.
-use Rattle.std.specs.Prelude.{◌≡◌, ℕ, ◌+◌, List, [], ◌++◌, refl}
+use Rattle.std.specs.Prelude.{◌≡◌, ℕ, List, [], ◌++◌, refl}
 use Rattle.csdn_core.specs.declared.terms.Place.{Place}
 use Rattle.csdn_core.specs.declared.terms.Sort.{Sort}
 use Rattle.csdn_core.specs.declared.terms.Sort.TheVariants.{Sw}
-use Rattle.csdn_core.specs.declared.terms.Pred.TheVariants as pred
-use Rattle.csdn_core.specs.declared.syntax.Formula.TheVariants as formula
-use Rattle.csdn_core.specs.declared.syntax.Command.TheVariants as command
 use Rattle.csdn_tree.specs.declared.names.RawName.{RawName}
 use Rattle.csdn_tree.specs.declared.names.RawTerm.{RawTerm}
 use Rattle.csdn_tree.specs.declared.names.RawTerm.TheVariants.{Name}
@@ -14,7 +11,6 @@ use Rattle.csdn_tree.specs.declared.syntax.RawFlow.{RawFlow}
 use Rattle.csdn_tree.specs.declared.syntax.RawPacket.{RawPacket}
 use Rattle.csdn_tree.specs.declared.syntax.RawFormula.{RawFormula}
 use Rattle.csdn_tree.specs.declared.syntax.RawFormula.TheVariants as f
-use Rattle.csdn_tree.specs.declared.syntax.RawCommand.TheVariants as c
 use Rattle.csdn_tree.specs.RawTree.{Not-is, And-is, Or-is, Implies-is, Iff-is, Forall-is, Exists-is}
 use Rattle.csdn_types.specs.declared.refusal.SortRefusal.TheVariants.{NotAllowed}
 use Rattle.csdn_types.specs.declared.terms.Use.TheVariants.{InFormula}

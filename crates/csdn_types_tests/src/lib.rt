@@ -6,7 +6,7 @@ use csdn_core::program::Program;
 use csdn_text::{TextRefusal, parse};
 use csdn_types::refusal::SortRefusal;
 use csdn_types::resolve::resolve;
-use std::alloc::{AllocError, Global};
+use std::alloc::Global;
 
 /// The program of a text that has a tree, or its refusal.
 pub fn resolved(alloc: Global, text: &[u8]) -> Result<Result<Program, SortRefusal>, TextRefusal> {
@@ -22,362 +22,451 @@ pub fn refusal_of(alloc: Global, text: &[u8]) -> Result<Option<SortRefusal>, Tex
     }
 }
 
-/// `before`, the numbers from 100 on between `left` and `right`, so many, and `after`.
-fn numbered(
-    alloc: Global,
-    before: &[u8],
-    (left, right): (&[u8], &[u8]),
-    count: u8,
-    after: &[u8],
-) -> Result<Vec<u8>, AllocError> {
-    let mut text = Vec::from_slice(alloc, before)?;
-    for i in 0..count {
-        text.extend_from_slice(left)?;
-        let number = u16::from(i) + 100;
-        let digits = format!(in alloc; "{number}")?;
-        text.extend_from_slice(digits.as_bytes())?;
-        text.extend_from_slice(right)?;
-    }
-    text.extend_from_slice(after)?;
-    Ok(text)
-}
-
-/// `rel p() = {()`, so many more rows, and `};`.
-fn rows(alloc: Global, more: usize) -> Result<Vec<u8>, AllocError> {
-    let mut text = Vec::from_slice(alloc, b"rel p() = {()")?;
-    for _ in 0..more {
-        text.extend_from_slice(b",()")?;
-    }
-    text.extend_from_slice(b"};")?;
-    Ok(text)
-}
-
 #[cfg(test)]
 mod tests {
     use super::*;
+    use std::alloc::AllocError;
+    use std::process::Abort;
     use std::test::Fail;
+
+    /// What is answered of a text: that it is a program, or the first refusal.
+    fn told(alloc: Global, text: &[u8]) -> Result<String, AllocError> {
+        match refusal_of(alloc, text) {
+            Ok(None) => format!(in alloc; "a program"),
+            Ok(Some(refusal)) => format!(in alloc; "{refusal:?}"),
+            Err(refusal) => format!(in alloc; "no tree: {refusal:?}"),
+        }
+    }
+
+    /// Each text is answered so.
+    fn tells(rt: &impl Abort, alloc: Global, rows: &[(&[u8], &str)]) -> Result<(), AllocError> {
+        for (i, row) in rows.iter().enumerate() {
+            let found = told(alloc, row.0)?;
+            assert!(rt; found.as_str() == row.1, "row {i}: {found}");
+        }
+        Ok(())
+    }
+
+    const ANSWERS: &[(&[u8], &str)] = &[
+        // what is declared or bound twice
+        (b"rel p(); rel p();", "Duplicate { at: 13 }"),
+        (b"static p(); rel p();", "Duplicate { at: 16 }"),
+        (b"const c:SW; const c:HO;", "Duplicate { at: 18 }"),
+        (b"safety A: true; topology A: true;", "Duplicate { at: 25 }"),
+        (
+            b"const c:SW; safety A: forall c:SW. true;",
+            "Duplicate { at: 29 }",
+        ),
+        (
+            b"safety A: forall X:SW, X:HO. true;",
+            "Duplicate { at: 23 }",
+        ),
+        (
+            b"safety A: forall X:SW. exists X:SW. true;",
+            "Duplicate { at: 30 }",
+        ),
+        (b"pktIn(s, s->b, i) { skip; }", "Duplicate { at: 9 }"),
+        (b"pktIn(s, a->a2, a) { skip; }", "Duplicate { at: 16 }"),
+        (
+            b"pktIn(s, a->b, i) { pick a:SW where true { skip; } }",
+            "Duplicate { at: 25 }",
+        ),
+        (
+            b"const c:SW; pktIn(s, a->c, i) { skip; }",
+            "Duplicate { at: 24 }",
+        ),
+        (b"timeout 5; timeout 6;", "Duplicate { at: 11 }"),
+        (b"timeout 5; rel p(); timeout 5;", "Duplicate { at: 20 }"),
+        // what is not declared
+        (b"safety A: p();", "Unknown { at: 10 }"),
+        (b"safety A: p(); rel p();", "Unknown { at: 10 }"),
+        (b"rel p(SW); safety A: p(x);", "Unknown { at: 23 }"),
+        (b"const c:SW; safety A: c = x;", "Unknown { at: 26 }"),
+        (b"const c:SW; safety A: x = c;", "Unknown { at: 22 }"),
+        (b"rel p(SW) = {(x)};", "Unknown { at: 14 }"),
+        (b"rel p(SW) = {(c)}; const c:SW;", "Unknown { at: 14 }"),
+        (
+            b"rel p() = {()}; safety A: x.ft(a->b, i->o);",
+            "Unknown { at: 26 }",
+        ),
+        (
+            b"rel r(SW); safety A: (forall X:SW. r(X)) and r(X);",
+            "Unknown { at: 47 }",
+        ),
+        (
+            b"rel r(SW); pktIn(s, a->b, i) { pick x:SW where r(x) { skip; } else { r.insert(x); } }",
+            "Unknown { at: 78 }",
+        ),
+        (
+            b"rel r(SW); pktIn(s, a->b, i) { pick x:SW where true { skip; } r.insert(x); }",
+            "Unknown { at: 71 }",
+        ),
+        (b"pktIn(s, a->b, i) { q.insert(s); }", "Unknown { at: 20 }"),
+        // another number of terms
+        (b"rel p(SW, SW, SW, SW, SW, SW);", "WrongArity { at: 4 }"),
+        (b"rel p(SW); safety A: p();", "WrongArity { at: 21 }"),
+        (
+            b"rel p(); safety A: forall X:SW. p(X);",
+            "WrongArity { at: 32 }",
+        ),
+        (b"rel p(SW) = {()};", "WrongArity { at: 13 }"),
+        (
+            b"const c:SW; rel p(SW) = {(c), (c, c)};",
+            "WrongArity { at: 30 }",
+        ),
+        (
+            b"rel r(SW); pktIn(s, a->b, i) { r.insert(s, s); }",
+            "WrongArity { at: 31 }",
+        ),
+        // another sort
+        (
+            b"rel r(HO); safety A: forall X:SW. r(X);",
+            "WrongSort { at: 36 }",
+        ),
+        (
+            b"const c:HO; const d:SW; safety A: c = d;",
+            "WrongSort { at: 38 }",
+        ),
+        (b"const c:HO; safety A: c = prt(1);", "WrongSort { at: 26 }"),
+        (b"rel r(SW); safety A: r(prt(1));", "WrongSort { at: 23 }"),
+        (b"const c:HO; rel r(SW) = {(c)};", "WrongSort { at: 26 }"),
+        (
+            b"safety A: forall X:HO, P:PR. X.ft(X->X, P->P);",
+            "WrongSort { at: 29 }",
+        ),
+        (
+            b"safety A: forall X:SW, Y:HO, P:PR. X.ft(Y->X, P->P);",
+            "WrongSort { at: 43 }",
+        ),
+        (
+            b"rel r(SW); pktIn(s, a->b, i) { r.remove(a); }",
+            "WrongSort { at: 40 }",
+        ),
+        (
+            b"pktIn(s, a->b, i) { s.install(a->b, a->i); }",
+            "WrongSort { at: 36 }",
+        ),
+        (
+            b"pktIn(s, a->b, i) { a.install(a->b, i->i); }",
+            "WrongSort { at: 20 }",
+        ),
+        (
+            b"pktIn(s, a->b, i) { s.uninstall(a->b, i->a); }",
+            "WrongSort { at: 41 }",
+        ),
+        (
+            b"pktIn(s, a->b, i) { a.uninstall(a->b, i->i); }",
+            "WrongSort { at: 20 }",
+        ),
+        // what may not stand there
+        (
+            b"rel r(HO); topology T: forall X:HO. r(X);",
+            "NotAllowed { at: 36 }",
+        ),
+        (
+            b"topology T: forall X:SW, Y:HO, P:PR. X.ft(Y->Y, P->P);",
+            "NotAllowed { at: 39 }",
+        ),
+        (
+            b"topology T: forall X:SW, Y:HO, P:PR. X.sent(Y->Y, P->P);",
+            "NotAllowed { at: 39 }",
+        ),
+        (
+            b"topology T: forall X:SW, Y:HO, P:PR. X.rcv_this(Y->Y, P);",
+            "NotAllowed { at: 39 }",
+        ),
+        (
+            b"safety A: forall X:SW, Y:HO, P:PR. X.rcv_this(Y->Y, P);",
+            "NotAllowed { at: 37 }",
+        ),
+        (
+            b"pktIn(s, a->b, i) { if s.sent(a->b, i->i) { skip; } }",
+            "NotAllowed { at: 25 }",
+        ),
+        (
+            b"pktIn(s, a->b, i) { if s.rcv_this(a->b, i) { skip; } }",
+            "NotAllowed { at: 25 }",
+        ),
+        (
+            b"static r(SW); pktIn(s, a->b, i) { r.insert(s); }",
+            "NotAllowed { at: 34 }",
+        ),
+        (
+            b"static r(SW); pktIn(s, a->b, i) { r.remove(s); }",
+            "NotAllowed { at: 34 }",
+        ),
+        (
+            b"pktIn(s, a->b, i) { pick x:SW where true { x.install(a->b, i->i); } }",
+            "NotAllowed { at: 43 }",
+        ),
+        (
+            b"pktIn(s, a->b, i) { s.forward(b->b, i->i); }",
+            "NotAllowed { at: 30 }",
+        ),
+        (
+            b"pktIn(s, a->b, i) { s.forward(a->a, i->i); }",
+            "NotAllowed { at: 33 }",
+        ),
+        (
+            b"pktIn(s, a->b, i) { s.flood(a->b, prt(1)); }",
+            "NotAllowed { at: 34 }",
+        ),
+        (
+            b"pktIn(s, a->b, prt(1)) { s.forward(a->b, prt(2)->prt(2)); }",
+            "NotAllowed { at: 41 }",
+        ),
+        (
+            b"const c:PR; pktIn(s, a->b, prt(1)) { s.flood(a->b, c); }",
+            "NotAllowed { at: 51 }",
+        ),
+        (
+            b"pktIn(s, a->b, i) { pick x:SW where true { x.uninstall(a->b, i->i); } }",
+            "NotAllowed { at: 43 }",
+        ),
+        (
+            b"const c:SW; pktIn(s, a->b, i) { c.uninstall(a->b, i->i); }",
+            "NotAllowed { at: 32 }",
+        ),
+        // two faults: the least place, and at one place the first row of the table
+        (b"safety A: p(); rel q(); rel q();", "Unknown { at: 10 }"),
+        (
+            b"rel p(); rel p(SW, SW, SW, SW, SW, SW);",
+            "Duplicate { at: 13 }",
+        ),
+        (
+            b"rel r(HO); topology T: forall X:SW. r(X);",
+            "NotAllowed { at: 36 }",
+        ),
+        (
+            b"rel r(HO); topology T: forall X:SW. r(X, X);",
+            "WrongArity { at: 36 }",
+        ),
+        (
+            b"pktIn(s, a->b, i) { x.install(a->b, i->i); }",
+            "Unknown { at: 20 }",
+        ),
+        (
+            b"pktIn(s, a->b, i) { a.forward(a->b, i->i); }",
+            "WrongSort { at: 20 }",
+        ),
+        (
+            b"const c:HO; safety A: x = c and p();",
+            "Unknown { at: 22 }",
+        ),
+        (
+            b"pktIn(s, a->b, i) { x.uninstall(a->b, i->i); }",
+            "Unknown { at: 20 }",
+        ),
+        (
+            b"timeout 5; timeout 6; safety A: p();",
+            "Duplicate { at: 11 }",
+        ),
+        (
+            b"timeout 5; safety A: p(); timeout 6;",
+            "Unknown { at: 21 }",
+        ),
+        // programs
+        (b"rel p(); const p:SW; safety p: true;", "a program"),
+        (
+            b"safety A: (forall X:SW. true) and (exists X:HO. true);",
+            "a program",
+        ),
+        (b"safety A: forall c:SW. true; const c:SW;", "a program"),
+        (
+            b"const c:SW; const d:SW; rel p(SW, PR) = {(c, prt(1)), (d, prt(65280)), (c, prt(1))};",
+            "a program",
+        ),
+        (
+            b"static p(SW); topology T: forall X:SW. p(X); safety A: forall X:SW. p(X);",
+            "a program",
+        ),
+        (
+            b"trans A: forall X:SW, Y:HO, P:PR. X.rcv_this(Y->Y, P) -> X.sent(Y->Y, P->P);",
+            "a program",
+        ),
+        (
+            b"rel p(SW); pktIn(s, a->b, i) { pick x:SW where p(x) { p.remove(x); } else { pick x:HO where x = a { skip; } } }",
+            "a program",
+        ),
+        (
+            b"pktIn(s, a->b, i) { s.install(b->a, prt(1)->i); s.forward(a->b, i->prt(2)); s.flood(a->b, i); }",
+            "a program",
+        ),
+        (
+            b"pktIn(s, a->b, prt(1)) { s.forward(a->b, prt(1)->prt(2)); s.flood(a->b, prt(1)); }",
+            "a program",
+        ),
+        (
+            b"static p(SW); pktIn(s, a->b, i) { if p(s) and s.ft(a->b, i->i) { skip; } } pktIn(s, a->b, i) { skip; }",
+            "a program",
+        ),
+        (
+            b"timeout 1; pktIn(s, a->b, i) { s.uninstall(b->a, prt(1)->i); }",
+            "a program",
+        ),
+        (b"rel p(); timeout 65280;", "a program"),
+        (b"rel p(SW, HO, PR, SW, SW);", "a program"),
+    ];
 
     #[test]
     fn names_the_first_rule_that_is_broken(rt: HostRuntime) -> Result<(), Fail> {
-        let cases: [(&[u8], SortRefusal); 61] = [
-            // what is declared or bound twice
-            (b"rel p(); rel p();", SortRefusal::Duplicate { at: 13 }),
-            (b"static p(); rel p();", SortRefusal::Duplicate { at: 16 }),
-            (
-                b"const c:SW; const c:HO;",
-                SortRefusal::Duplicate { at: 18 },
-            ),
-            (
-                b"safety A: true; topology A: true;",
-                SortRefusal::Duplicate { at: 25 },
-            ),
-            (
-                b"const c:SW; safety A: forall c:SW. true;",
-                SortRefusal::Duplicate { at: 29 },
-            ),
-            (
-                b"safety A: forall X:SW, X:HO. true;",
-                SortRefusal::Duplicate { at: 23 },
-            ),
-            (
-                b"safety A: forall X:SW. exists X:SW. true;",
-                SortRefusal::Duplicate { at: 30 },
-            ),
-            (
-                b"pktIn(s, s->b, i) { skip; }",
-                SortRefusal::Duplicate { at: 9 },
-            ),
-            (
-                b"pktIn(s, a->a2, a) { skip; }",
-                SortRefusal::Duplicate { at: 16 },
-            ),
-            (
-                b"pktIn(s, a->b, i) { pick a:SW where true { skip; } }",
-                SortRefusal::Duplicate { at: 25 },
-            ),
-            (
-                b"const c:SW; pktIn(s, a->c, i) { skip; }",
-                SortRefusal::Duplicate { at: 24 },
-            ),
-            // what is not declared
-            (b"safety A: p();", SortRefusal::Unknown { at: 10 }),
-            (b"safety A: p(); rel p();", SortRefusal::Unknown { at: 10 }),
-            (
-                b"rel p(SW); safety A: p(x);",
-                SortRefusal::Unknown { at: 23 },
-            ),
-            (
-                b"const c:SW; safety A: c = x;",
-                SortRefusal::Unknown { at: 26 },
-            ),
-            (
-                b"const c:SW; safety A: x = c;",
-                SortRefusal::Unknown { at: 22 },
-            ),
-            (b"rel p(SW) = {(x)};", SortRefusal::Unknown { at: 14 }),
-            (
-                b"rel p(SW) = {(c)}; const c:SW;",
-                SortRefusal::Unknown { at: 14 },
-            ),
-            (
-                b"rel p() = {()}; safety A: x.ft(a->b, i->o);",
-                SortRefusal::Unknown { at: 26 },
-            ),
-            (
-                b"rel r(SW); safety A: (forall X:SW. r(X)) and r(X);",
-                SortRefusal::Unknown { at: 47 },
-            ),
-            (
-                b"rel r(SW); pktIn(s, a->b, i) { pick x:SW where r(x) { skip; } else { r.insert(x); } }",
-                SortRefusal::Unknown { at: 78 },
-            ),
-            (
-                b"rel r(SW); pktIn(s, a->b, i) { pick x:SW where true { skip; } r.insert(x); }",
-                SortRefusal::Unknown { at: 71 },
-            ),
-            (
-                b"pktIn(s, a->b, i) { q.insert(s); }",
-                SortRefusal::Unknown { at: 20 },
-            ),
-            // another number of terms
-            (
-                b"rel p(SW, SW, SW, SW, SW, SW);",
-                SortRefusal::WrongArity { at: 4 },
-            ),
-            (
-                b"rel p(SW); safety A: p();",
-                SortRefusal::WrongArity { at: 21 },
-            ),
-            (
-                b"rel p(); safety A: forall X:SW. p(X);",
-                SortRefusal::WrongArity { at: 32 },
-            ),
-            (b"rel p(SW) = {()};", SortRefusal::WrongArity { at: 13 }),
-            (
-                b"const c:SW; rel p(SW) = {(c), (c, c)};",
-                SortRefusal::WrongArity { at: 30 },
-            ),
-            (
-                b"rel r(SW); pktIn(s, a->b, i) { r.insert(s, s); }",
-                SortRefusal::WrongArity { at: 31 },
-            ),
-            // another sort
-            (
-                b"rel r(HO); safety A: forall X:SW. r(X);",
-                SortRefusal::WrongSort { at: 36 },
-            ),
-            (
-                b"const c:HO; const d:SW; safety A: c = d;",
-                SortRefusal::WrongSort { at: 38 },
-            ),
-            (
-                b"const c:HO; safety A: c = prt(1);",
-                SortRefusal::WrongSort { at: 26 },
-            ),
-            (
-                b"rel r(SW); safety A: r(prt(1));",
-                SortRefusal::WrongSort { at: 23 },
-            ),
-            (
-                b"const c:HO; rel r(SW) = {(c)};",
-                SortRefusal::WrongSort { at: 26 },
-            ),
-            (
-                b"safety A: forall X:HO, P:PR. X.ft(X->X, P->P);",
-                SortRefusal::WrongSort { at: 29 },
-            ),
-            (
-                b"safety A: forall X:SW, Y:HO, P:PR. X.ft(Y->X, P->P);",
-                SortRefusal::WrongSort { at: 43 },
-            ),
-            (
-                b"rel r(SW); pktIn(s, a->b, i) { r.remove(a); }",
-                SortRefusal::WrongSort { at: 40 },
-            ),
-            (
-                b"pktIn(s, a->b, i) { s.install(a->b, a->i); }",
-                SortRefusal::WrongSort { at: 36 },
-            ),
-            (
-                b"pktIn(s, a->b, i) { a.install(a->b, i->i); }",
-                SortRefusal::WrongSort { at: 20 },
-            ),
-            // what may not stand there
-            (
-                b"rel r(HO); topology T: forall X:HO. r(X);",
-                SortRefusal::NotAllowed { at: 36 },
-            ),
-            (
-                b"topology T: forall X:SW, Y:HO, P:PR. X.ft(Y->Y, P->P);",
-                SortRefusal::NotAllowed { at: 39 },
-            ),
-            (
-                b"topology T: forall X:SW, Y:HO, P:PR. X.sent(Y->Y, P->P);",
-                SortRefusal::NotAllowed { at: 39 },
-            ),
-            (
-                b"topology T: forall X:SW, Y:HO, P:PR. X.rcv_this(Y->Y, P);",
-                SortRefusal::NotAllowed { at: 39 },
-            ),
-            (
-                b"safety A: forall X:SW, Y:HO, P:PR. X.rcv_this(Y->Y, P);",
-                SortRefusal::NotAllowed { at: 37 },
-            ),
-            (
-                b"pktIn(s, a->b, i) { if s.sent(a->b, i->i) { skip; } }",
-                SortRefusal::NotAllowed { at: 25 },
-            ),
-            (
-                b"pktIn(s, a->b, i) { if s.rcv_this(a->b, i) { skip; } }",
-                SortRefusal::NotAllowed { at: 25 },
-            ),
-            (
-                b"static r(SW); pktIn(s, a->b, i) { r.insert(s); }",
-                SortRefusal::NotAllowed { at: 34 },
-            ),
-            (
-                b"static r(SW); pktIn(s, a->b, i) { r.remove(s); }",
-                SortRefusal::NotAllowed { at: 34 },
-            ),
-            (
-                b"pktIn(s, a->b, i) { pick x:SW where true { x.install(a->b, i->i); } }",
-                SortRefusal::NotAllowed { at: 43 },
-            ),
-            (
-                b"pktIn(s, a->b, i) { s.forward(b->b, i->i); }",
-                SortRefusal::NotAllowed { at: 30 },
-            ),
-            (
-                b"pktIn(s, a->b, i) { s.forward(a->a, i->i); }",
-                SortRefusal::NotAllowed { at: 33 },
-            ),
-            (
-                b"pktIn(s, a->b, i) { s.flood(a->b, prt(1)); }",
-                SortRefusal::NotAllowed { at: 34 },
-            ),
-            (
-                b"pktIn(s, a->b, prt(1)) { s.forward(a->b, prt(2)->prt(2)); }",
-                SortRefusal::NotAllowed { at: 41 },
-            ),
-            (
-                b"const c:PR; pktIn(s, a->b, prt(1)) { s.flood(a->b, c); }",
-                SortRefusal::NotAllowed { at: 51 },
-            ),
-            // two faults: the least place, and at one place the first row of the table
-            (
-                b"safety A: p(); rel q(); rel q();",
-                SortRefusal::Unknown { at: 10 },
-            ),
-            (
-                b"rel p(); rel p(SW, SW, SW, SW, SW, SW);",
-                SortRefusal::Duplicate { at: 13 },
-            ),
-            (
-                b"rel r(HO); topology T: forall X:SW. r(X);",
-                SortRefusal::NotAllowed { at: 36 },
-            ),
-            (
-                b"rel r(HO); topology T: forall X:SW. r(X, X);",
-                SortRefusal::WrongArity { at: 36 },
-            ),
-            (
-                b"pktIn(s, a->b, i) { x.install(a->b, i->i); }",
-                SortRefusal::Unknown { at: 20 },
-            ),
-            (
-                b"pktIn(s, a->b, i) { a.forward(a->b, i->i); }",
-                SortRefusal::WrongSort { at: 20 },
-            ),
-            (
-                b"const c:HO; safety A: x = c and p();",
-                SortRefusal::Unknown { at: 22 },
-            ),
-        ];
-        for (i, case) in cases.iter().enumerate() {
-            let Ok(found) = refusal_of(rt.alloc(), case.0) else {
-                assert!(rt; false, "no tree in row {i}");
-                return Ok(());
-            };
-            assert_eq!(rt; found, Some(case.1), "row {i}");
+        tells(&rt, rt.alloc(), ANSWERS)?;
+        Ok(())
+    }
+
+    /// `front`, the numbers from 100 on between `left` and `right`, so many, and `back`.
+    struct Limit {
+        front: &'static [u8],
+        left: &'static [u8],
+        right: &'static [u8],
+        back: &'static [u8],
+        /// The greatest number of them that is a program.
+        most: u16,
+        /// Where the first that is one too many stands.
+        at: usize,
+    }
+
+    const IN_HANDLER: &[u8] = b"pktIn(s, a->b, i) { if ";
+
+    const AT_PORT: &[u8] = b"pktIn(s, a->b, prt(1)) { if ";
+
+    const IF_TRUE: &[u8] = b"true { skip; } }";
+
+    const LIMITS: &[Limit] = &[
+        // relations, constants, invariants and handlers
+        Limit {
+            front: b"",
+            left: b"rel p",
+            right: b"();",
+            back: b"",
+            most: 64,
+            at: 64 * 11 + 4,
+        },
+        Limit {
+            front: b"",
+            left: b"const c",
+            right: b":SW;",
+            back: b"",
+            most: 64,
+            at: 64 * 14 + 6,
+        },
+        Limit {
+            front: b"",
+            left: b"safety A",
+            right: b": true;",
+            back: b"",
+            most: 64,
+            at: 64 * 18 + 7,
+        },
+        Limit {
+            front: b"",
+            left: b"pktIn(s, a->b, i",
+            right: b") { skip; }",
+            back: b"",
+            most: 32,
+            at: 32 * 30,
+        },
+        // variables in scope
+        Limit {
+            front: b"safety A: ",
+            left: b"forall X",
+            right: b":SW. ",
+            back: b"true;",
+            most: 24,
+            at: 10 + 24 * 16 + 7,
+        },
+        Limit {
+            front: IN_HANDLER,
+            left: b"forall X",
+            right: b":SW. ",
+            back: IF_TRUE,
+            most: 20,
+            at: 23 + 20 * 16 + 7,
+        },
+        Limit {
+            front: AT_PORT,
+            left: b"forall X",
+            right: b":SW. ",
+            back: IF_TRUE,
+            most: 20,
+            at: 28 + 20 * 16 + 7,
+        },
+    ];
+
+    /// The text with so many numbers.
+    fn numbered(alloc: Global, limit: &Limit, count: u16) -> Result<Vec<u8>, AllocError> {
+        let mut text = limit.front.to_vec(alloc)?;
+        for i in 0..count {
+            text.extend_from_slice(limit.left)?;
+            let digits = format!(in alloc; "{}", 100 + u32::from(i))?;
+            text.extend_from_slice(digits.as_bytes())?;
+            text.extend_from_slice(limit.right)?;
+        }
+        text.extend_from_slice(limit.back)?;
+        Ok(text)
+    }
+
+    /// So many are a program, and one more is one too many.
+    fn counts(rt: &impl Abort, alloc: Global, limits: &[Limit]) -> Result<(), AllocError> {
+        for limit in limits {
+            let within = told(alloc, &numbered(alloc, limit, limit.most)?)?;
+            assert!(rt;
+                within.as_str() == "a program",
+                "{} are {within}",
+                limit.most
+            );
+            let beyond = told(alloc, &numbered(alloc, limit, limit.most + 1)?)?;
+            let wanted = format!(in alloc; "TooMany {{ at: {} }}", limit.at)?;
+            assert!(rt;
+                beyond == wanted,
+                "one more than {} are {beyond}",
+                limit.most
+            );
         }
         Ok(())
     }
 
     #[test]
-    fn takes_what_breaks_no_rule(rt: HostRuntime) -> Result<(), Fail> {
-        let texts: [&[u8]; 10] = [
-            b"rel p(); const p:SW; safety p: true;",
-            b"safety A: (forall X:SW. true) and (exists X:HO. true);",
-            b"safety A: forall c:SW. true; const c:SW;",
-            b"const c:SW; const d:SW; rel p(SW, PR) = {(c, prt(1)), (d, prt(65280)), (c, prt(1))};",
-            b"static p(SW); topology T: forall X:SW. p(X); safety A: forall X:SW. p(X);",
-            b"trans A: forall X:SW, Y:HO, P:PR. X.rcv_this(Y->Y, P) -> X.sent(Y->Y, P->P);",
-            b"rel p(SW); pktIn(s, a->b, i) { pick x:SW where p(x) { p.remove(x); } else { pick x:HO where x = a { skip; } } }",
-            b"pktIn(s, a->b, i) { s.install(b->a, prt(1)->i); s.forward(a->b, i->prt(2)); s.flood(a->b, i); }",
-            b"pktIn(s, a->b, prt(1)) { s.forward(a->b, prt(1)->prt(2)); s.flood(a->b, prt(1)); }",
-            b"static p(SW); pktIn(s, a->b, i) { if p(s) and s.ft(a->b, i->i) { skip; } } pktIn(s, a->b, i) { skip; }",
-        ];
-        for (i, text) in texts.iter().enumerate() {
-            let Ok(found) = refusal_of(rt.alloc(), text) else {
-                assert!(rt; false, "no tree in row {i}");
-                return Ok(());
-            };
-            assert_eq!(rt; found, None, "row {i}");
-        }
+    fn counts_what_is_declared_and_bound(rt: HostRuntime) -> Result<(), Fail> {
+        counts(&rt, rt.alloc(), LIMITS)?;
         Ok(())
     }
 
+    /// `rel p() = {()`, so many more rows, and `};`.
+    fn rows(alloc: Global, more: usize) -> Result<Vec<u8>, AllocError> {
+        let mut text = Vec::from_slice(alloc, b"rel p() = {()")?;
+        for _ in 0..more {
+            text.extend_from_slice(b",()")?;
+        }
+        text.extend_from_slice(b"};")?;
+        Ok(text)
+    }
+
     #[test]
-    fn counts_limits_exactly(rt: HostRuntime) -> Result<(), Fail> {
+    fn counts_rows_and_copies_a_program(rt: HostRuntime) -> Result<(), Fail> {
         let alloc = rt.alloc();
-        let handler: &[u8] = b"pktIn(s, a->b, i) { if ";
-        let port: &[u8] = b"pktIn(s, a->b, prt(1)) { if ";
-        let body: &[u8] = b"true { skip; } }";
-        let bound: (&[u8], &[u8]) = (b"forall X", b":SW. ");
-        let cases: [(&[u8], (&[u8], &[u8]), u8, &[u8], usize); 7] = [
-            (b"", (b"rel p", b"();"), 64, b"", 64 * 11 + 4),
-            (b"", (b"const c", b":SW;"), 64, b"", 64 * 14 + 6),
-            (b"", (b"safety A", b": true;"), 64, b"", 64 * 18 + 7),
-            (b"", (b"pktIn(s, a->b, i", b") { skip; }"), 32, b"", 32 * 30),
-            (b"safety A: ", bound, 24, b"true;", 10 + 24 * 16 + 7),
-            (handler, bound, 20, body, 23 + 20 * 16 + 7),
-            (port, bound, 20, body, 28 + 20 * 16 + 7),
-        ];
-        for (before, parts, most, after, at) in cases {
-            let within = numbered(alloc, before, parts, most, after)?;
-            let beyond = numbered(alloc, before, parts, most + 1, after)?;
-            let (Ok(kept), Ok(refused)) = (refusal_of(alloc, &within), refusal_of(alloc, &beyond))
-            else {
-                assert!(rt; false, "no tree, where {at} is wanted");
-                return Ok(());
-            };
-            assert_eq!(rt; kept, None, "before {at}");
-            assert_eq!(rt; refused, Some(SortRefusal::TooMany { at }));
-        }
-        let (within, beyond) = (rows(alloc, 1023)?, rows(alloc, 1024)?);
-        let (Ok(kept), Ok(refused)) = (refusal_of(alloc, &within), refusal_of(alloc, &beyond))
-        else {
-            assert!(rt; false, "rows without a tree");
-            return Ok(());
-        };
-        assert_eq!(rt; kept, None);
-        assert_eq!(rt; refused, Some(SortRefusal::TooMany { at: 11 + 1024 * 3 }));
-        let five = refusal_of(alloc, b"rel p(SW, HO, PR, SW, SW);");
-        assert!(rt; matches!(five, Ok(None)));
+        let within = told(alloc, &rows(alloc, 1023)?)?;
+        assert!(rt; within.as_str() == "a program");
+        let beyond = told(alloc, &rows(alloc, 1024)?)?;
+        assert!(rt; beyond.as_str() == "TooMany { at: 3083 }");
+        let text = b"safety A: prt(9) = prt(2); timeout 30; pktIn(s, a->b, prt(5)) { skip; }";
+        assert!(rt; is_copied(alloc, text)?);
         Ok(())
     }
 
-    #[test]
-    fn copies_a_program(rt: HostRuntime) -> Result<(), Fail> {
-        let alloc = rt.alloc();
-        let text = b"safety A: prt(9) = prt(2); pktIn(s, a->b, prt(5)) { skip; }";
-        let Ok(Ok(program)) = resolved(alloc, text) else {
-            assert!(rt; false, "no program");
-            return Ok(());
-        };
-        let copied = program.copy(alloc)?;
-        assert_eq!(rt; copied.numerals(), [2, 5, 9].as_slice());
-        assert_eq!(rt; copied.parts().handlers.len(), 1);
-        Ok(())
+    /// Whether a text is a program of which a copy has the numerals 2, 5 and 9, a handler, and a timeout of 30 seconds.
+    fn is_copied(alloc: Global, text: &[u8]) -> Result<bool, AllocError> {
+        match resolved(alloc, text) {
+            Ok(Ok(program)) => {
+                let copied = program.copy(alloc)?;
+                let parts = copied.parts();
+                Ok(
+                    copied.numerals() == [2, 5, 9].as_slice()
+                        && parts.handlers.len() == 1
+                        && parts.timeout == Some(30),
+                )
+            }
+            _ => Ok(false),
+        }
     }
 }

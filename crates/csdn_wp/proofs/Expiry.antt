@@ -78,7 +78,7 @@ module _ (P : Parts) (q : Formula) (sorted : IsSortedIn (signature P) any_relati
           ∙ truth-renumber M q 5 d (λ v free. absurd (true≢false (sym free ∙ no_free P N q sorted v)))
           ∙ sentence_alike P N q sorted M d
 
-      expire_kept : IsTrue (truth (structure P N x Nothing) (wp_expire q) no_values)
+      pub expire_kept : IsTrue (truth (structure P N x Nothing) (wp_expire q) no_values)
           → (s a b i : ℕ) (y : State) → Step P N x (Expire s a b i) y → IsTrue (truth (structure P N y Nothing) q no_values)
       unfolding wp_expire
       expire_kept h s a b i y (in_s, in_a, in_b, in_i, timed, (o, in_o, there), is) =

@@ -18,4 +18,3 @@ pub mod Flow
 pub mod Expiry
 pub mod Programs
 pub mod Sentences
-pub mod Fitting

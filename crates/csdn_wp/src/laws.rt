@@ -14,8 +14,6 @@ ghost use Rattle.csdn_core.specs.Network.{Network, State, IsNetwork, structure};
 ghost use Rattle.csdn_core.specs.Run.{Step, no_values};
 ghost use Rattle.csdn_core.specs.Sorted.{Bind, IsSorted, bound_in};
 ghost use Rattle.csdn_core.specs.WellSorted.{IsWellSorted, signature};
-ghost use Rattle.decision_laws.specs.Laws.{form_of, words};
-ghost use Rattle.decision_laws.specs.Vocabulary.{fits};
 ghost use Rattle.csdn_wp.specs.Preconditions.{wp};
 ghost use Rattle.csdn_wp.specs.EventPreconditions.{wp_in, wp_flow, wp_expire};
 ghost use Rattle.csdn_wp.specs.After.{MayPrecede, IsPrecondition, BreaksBefore};
@@ -65,11 +63,9 @@ pub fn invariants_are_sentences()
 {}
 
 /// No variable is free in a well-sorted sentence. One that doesn't speak of the packet is one of any kind, so that its own
-/// preconditions are sentences too; it has the same truth with every packet, and is well-sorted in the vocabulary in which it
-/// is decided.
+/// preconditions are sentences too, and has the same truth with every packet.
 pub fn sentences_stand_alone()
     ensures closed { (P : AnyParts) (F : AnyFormula) → IsSortedIn (signature P) any_relation no_scope F → (v : ℕ) → IsFalse (free_in F v) }
     ensures any { (P : AnyParts) (F : AnyFormula) → IsSortedIn (signature P) no_rcv_this no_scope F → IsSortedIn (signature P) any_relation no_scope F }
     ensures packet { (P : AnyParts) (N : Network) (x : State) (packet : AnyPacket) (F : AnyFormula) (e : Assignment) → IsSortedIn (signature P) no_rcv_this no_scope F → truth (structure P N x packet) F e ≡ truth (structure P N x Nothing) F e }
-    ensures fits { (P : AnyParts) (F : AnyFormula) → IsSortedIn (signature P) no_rcv_this no_scope F → IsTrue (fits (words P F) [] (form_of F)) }
 {}

@@ -1,5 +1,5 @@
 -- Instances over counts that are cut off.
-use Rattle.std.proofs.Common.{◌≡◌, ℕ, ◌+◌, ◌*◌, true, refl, sym, ap, ap₂, ◌∙◌}
+use Rattle.std.proofs.Common.{◌≡◌, ℕ, ◌+◌, ◌*◌, refl, sym, ap, ap₂, ◌∙◌}
 use Rattle.csdn_core.specs.declared.terms.Sort.{Sort}
 use Rattle.csdn_core.specs.declared.terms.Sort.TheVariants.{Sw, Ho, Pr}
 use Rattle.csdn_core.specs.declared.program.Parts.{Parts}
@@ -10,7 +10,6 @@ use Rattle.fol_forms.specs.Forms.{Form, Fixed, Atom, Same, And, Or, ForAll, ForS
 use Rattle.fol_forms.specs.declared.instances.Counts.{Counts}
 use Rattle.fol_forms.specs.Counts.{count_of}
 use Rattle.fol_forms.specs.Limits.{capped}
-use Rattle.fol_forms.specs.Written.{normal_instances}
 use Rattle.fol_forms.proofs.Capped.{capped-sum, capped-product_left, capped-product_right}
 
 sum_alike : (a b x y : ℕ) → capped a ≡ capped x → capped b ≡ capped y → capped (a + b) ≡ capped (x + y)
@@ -32,8 +31,8 @@ instances-capped m n same (ForSome v s p) = instances-capped m n same p
 
 -- the counts of the three sorts, each cut off
 pub instances-of_counts : (P Q : Parts) (F : Formula) (k : Counts) → Q ≡ P → k.sw ≡ capped (counts Q F Sw) → k.ho ≡ capped (counts Q F Ho) → k.pr ≡ capped (counts Q F Pr) →
-    capped (normal_instances (count_of k) true F) ≡ capped (instances (counts P F) (form_of F))
-unfolding normal_instances count_of
+    capped (instances (count_of k) (form_of F)) ≡ capped (instances (counts P F) (form_of F))
+unfolding count_of
 instances-of_counts P Q F k is sw ho pr = instances-capped (count_of k) (counts P F) same (form_of F)
   where
     same : (s : Sort) → count_of k s ≡ capped (counts P F s)

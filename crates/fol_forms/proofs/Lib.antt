@@ -3,6 +3,9 @@ pub mod NormalTruth
 pub mod ConstantCounts
 pub mod Copied
 pub mod Leaves
+pub mod NormalSteps
+pub mod ReplaceSteps
+pub mod RenumberSteps
 pub mod Sized
 pub mod Equations
 pub mod AtomNodes
@@ -11,6 +14,7 @@ pub mod Flooded
 pub mod Expired
 mod ExamplesExpire
 pub mod WrittenTruth
+pub mod WrittenNodes
 pub mod RenumberTruth
 pub mod Numbered
 pub mod ClosedTruth

@@ -5,17 +5,9 @@ pub mod Written
 pub mod Signed
 pub mod Answers
 pub mod Counts
-pub mod NormalSteps
-pub mod NodeSteps
-pub mod UniversalSteps
-pub mod FragmentSteps
-pub mod NeedSteps
-pub mod InstanceSteps
 pub mod Replace
-pub mod ReplaceSteps
 pub mod Changes
 pub mod Substitution
 pub mod Renumber
-pub mod RenumberSteps
 pub mod Names
 pub mod Closed

@@ -1,11 +1,10 @@
 //! Whether a normal form has an `exists` under a `forall`.
 #![tactic(auto)]
 
-ghost use Rattle.std.specs.Prelude.{◌≡◌, true};
-ghost use Rattle.fol_forms.specs.Forms.{in_fragment as is_in_fragment};
-ghost use Rattle.fol_forms.specs.Forms.{form_of};
-ghost use Rattle.fol_forms.specs.Written.{normal_universal, normal_fragment};
+ghost use Rattle.std.specs.Prelude.{◌≡◌};
+ghost use Rattle.fol_forms.specs.Forms.{form_of, normal_form, in_fragment as is_in_fragment, is_universal};
 
+use crate::signed::{Signed, view};
 use csdn_core::syntax::Formula;
 
 /// Whether no `exists` stands under a `forall` in the normal form of a formula. Of a formula that is in normal form it takes
@@ -17,53 +16,37 @@ pub fn in_fragment(formula: &Formula) -> bool
 }
 
 // Of the formula, or for the sign `false` of its negation.
-#[tactic(auto, using(csdn_core::specs::Nodes::node_steps, crate::specs::FragmentSteps::fragment_steps))]
 fn fragment(formula: &Formula, sign: bool) -> bool
-    ensures { result ≡ normal_fragment sign formula.now }
+    ensures { result ≡ is_in_fragment (normal_form sign formula.now) }
 {
-    match formula {
-        Formula::True | Formula::False | Formula::Atom(_, _) | Formula::Same(_, _) => true,
-        Formula::Not(p) => fragment(p.get(), !sign),
-        Formula::And(p, q) | Formula::Or(p, q) => fragment(p.get(), sign)
-            && fragment(q.get(), sign),
-        Formula::Implies(p, q) => fragment(p.get(), !sign) && fragment(q.get(), sign),
-        Formula::Iff(p, q) => {
-            (fragment(p.get(), true) && fragment(q.get(), sign))
-                && (fragment(p.get(), false) && fragment(q.get(), !sign))
+    match view(formula, sign) {
+        Signed::Truth(_) | Signed::Atom(_, _, _) | Signed::Equal(_, _, _) => true,
+        Signed::Both(p, q) | Signed::Either(p, q) => {
+            fragment(p.formula, p.sign) && fragment(q.formula, q.sign)
         }
-        Formula::Forall(_, _, p) => {
-            if sign {
-                universal(p.get(), sign)
-            } else {
-                fragment(p.get(), sign)
-            }
+        Signed::Cases(p, q) => {
+            (fragment(p.formula, p.sign) && fragment(q.formula, q.sign))
+                && (fragment(p.formula, !p.sign) && fragment(q.formula, !q.sign))
         }
-        Formula::Exists(_, _, p) => {
-            if sign {
-                fragment(p.get(), sign)
-            } else {
-                universal(p.get(), sign)
-            }
-        }
+        Signed::Forall(_, _, p) => universal(p.formula, p.sign),
+        Signed::Exists(_, _, p) => fragment(p.formula, p.sign),
     }
 }
 
 // Whether no `exists` stands in the normal form.
-#[tactic(auto, using(csdn_core::specs::Nodes::node_steps, crate::specs::UniversalSteps::universal_steps))]
 fn universal(formula: &Formula, sign: bool) -> bool
-    ensures { result ≡ normal_universal sign formula.now }
+    ensures { result ≡ is_universal (normal_form sign formula.now) }
 {
-    match formula {
-        Formula::True | Formula::False | Formula::Atom(_, _) | Formula::Same(_, _) => true,
-        Formula::Not(p) => universal(p.get(), !sign),
-        Formula::And(p, q) | Formula::Or(p, q) => universal(p.get(), sign)
-            && universal(q.get(), sign),
-        Formula::Implies(p, q) => universal(p.get(), !sign) && universal(q.get(), sign),
-        Formula::Iff(p, q) => {
-            (universal(p.get(), true) && universal(q.get(), sign))
-                && (universal(p.get(), false) && universal(q.get(), !sign))
+    match view(formula, sign) {
+        Signed::Truth(_) | Signed::Atom(_, _, _) | Signed::Equal(_, _, _) => true,
+        Signed::Both(p, q) | Signed::Either(p, q) => {
+            universal(p.formula, p.sign) && universal(q.formula, q.sign)
         }
-        Formula::Forall(_, _, p) => sign && universal(p.get(), sign),
-        Formula::Exists(_, _, p) => !sign && universal(p.get(), sign),
+        Signed::Cases(p, q) => {
+            (universal(p.formula, p.sign) && universal(q.formula, q.sign))
+                && (universal(p.formula, !p.sign) && universal(q.formula, !q.sign))
+        }
+        Signed::Forall(_, _, p) => universal(p.formula, p.sign),
+        Signed::Exists(_, _, _) => false,
     }
 }

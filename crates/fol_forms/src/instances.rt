@@ -2,14 +2,14 @@
 #![tactic(auto)]
 
 ghost use Rattle.std.specs.Prelude.{◌≡◌, ◌+◌, ◌*◌, max, true};
-ghost use Rattle.fol_forms.specs.Constants.{counts as counts_of, instances as instances_of};
+ghost use Rattle.fol_forms.specs.Constants.{counts as counts_of, instances as instances_of, need as need_of};
 ghost use Rattle.fol_forms.specs.Counts.{count_of};
-ghost use Rattle.fol_forms.specs.Forms.{form_of};
+ghost use Rattle.fol_forms.specs.Forms.{form_of, normal_form};
 ghost use Rattle.fol_forms.specs.Limits.{capped};
-ghost use Rattle.fol_forms.specs.Written.{normal_need, normal_instances};
 
 use crate::constants::{known, one_if};
 use crate::count::sum;
+use crate::signed::{Signed, view};
 use csdn_core::program::{Parts, Program};
 use csdn_core::syntax::Formula;
 use csdn_core::terms::Sort;
@@ -73,99 +73,55 @@ fn product(a: u64, b: u64) -> u64
 }
 
 // How many constants of a sort the `exists` of the normal form need; for the sign `false` of that of the negation.
-#[tactic(auto, using(csdn_core::specs::Nodes::node_steps, crate::specs::NeedSteps::need_steps, crate::proofs::Capped::capped_counts))]
+#[tactic(auto, using(crate::proofs::Capped::capped_counts))]
 fn need(formula: &Formula, sign: bool, sort: Sort) -> u64
-    ensures { result ≡ capped (normal_need sort sign formula.now) }
+    ensures { result ≡ capped (need_of (normal_form sign formula.now) sort) }
 {
-    match formula {
-        Formula::True | Formula::False | Formula::Atom(_, _) | Formula::Same(_, _) => 0,
-        Formula::Not(p) => need(p.get(), !sign, sort),
-        Formula::And(p, q) => {
-            let p = need(p.get(), sign, sort);
-            let q = need(q.get(), sign, sort);
-            if sign { sum(p, q) } else { greater(p, q) }
+    match view(formula, sign) {
+        Signed::Truth(_) | Signed::Atom(_, _, _) | Signed::Equal(_, _, _) => 0,
+        Signed::Both(p, q) => { sum(need(p.formula, p.sign, sort), need(q.formula, q.sign, sort)) }
+        Signed::Either(p, q) => {
+            greater(need(p.formula, p.sign, sort), need(q.formula, q.sign, sort))
         }
-        Formula::Or(p, q) => {
-            let p = need(p.get(), sign, sort);
-            let q = need(q.get(), sign, sort);
-            if sign { greater(p, q) } else { sum(p, q) }
-        }
-        Formula::Implies(p, q) => {
-            let left = need(p.get(), !sign, sort);
-            let right = need(q.get(), sign, sort);
-            if sign {
-                greater(left, right)
-            } else {
-                sum(left, right)
-            }
-        }
-        Formula::Iff(p, q) => greater(
-            sum(need(p.get(), true, sort), need(q.get(), sign, sort)),
-            sum(need(p.get(), false, sort), need(q.get(), !sign, sort)),
+        Signed::Cases(p, q) => greater(
+            sum(need(p.formula, p.sign, sort), need(q.formula, q.sign, sort)),
+            sum(
+                need(p.formula, !p.sign, sort),
+                need(q.formula, !q.sign, sort),
+            ),
         ),
-        Formula::Forall(_, own, p) => {
-            if sign {
-                0
-            } else {
-                sum(need(p.get(), sign, sort), one_if(*own, sort) as u64)
-            }
-        }
-        Formula::Exists(_, own, p) => {
-            if sign {
-                sum(need(p.get(), sign, sort), one_if(*own, sort) as u64)
-            } else {
-                0
-            }
+        Signed::Forall(_, _, _) => 0,
+        Signed::Exists(_, own, p) => {
+            sum(need(p.formula, p.sign, sort), one_if(own, sort) as u64)
         }
     }
 }
 
 // The instances of the normal form, where the sorts have so many constants; for the sign `false` of that of the negation.
-#[tactic(auto, using(csdn_core::specs::Nodes::node_steps, crate::specs::InstanceSteps::instance_steps, crate::proofs::Capped::capped_instances))]
+#[tactic(auto, using(crate::proofs::Capped::capped_instances))]
 fn instances(formula: &Formula, sign: bool, counts: &Counts) -> u64
-    ensures { result ≡ capped (normal_instances (count_of counts.now) sign formula.now) }
+    ensures { result ≡ capped (instances_of (count_of counts.now) (normal_form sign formula.now)) }
 {
-    match formula {
-        Formula::True | Formula::False => 0,
-        Formula::Atom(_, _) | Formula::Same(_, _) => 1,
-        Formula::Not(p) => instances(p.get(), !sign, counts),
-        Formula::And(p, q) | Formula::Or(p, q) => {
+    match view(formula, sign) {
+        Signed::Truth(_) => 0,
+        Signed::Atom(_, _, _) | Signed::Equal(_, _, _) => 1,
+        Signed::Both(p, q) | Signed::Either(p, q) => sum(
+            instances(p.formula, p.sign, counts),
+            instances(q.formula, q.sign, counts),
+        ),
+        Signed::Cases(p, q) => sum(
             sum(
-                instances(p.get(), sign, counts),
-                instances(q.get(), sign, counts),
-            )
-        }
-        Formula::Implies(p, q) => {
-            sum(
-                instances(p.get(), !sign, counts),
-                instances(q.get(), sign, counts),
-            )
-        }
-        Formula::Iff(p, q) => sum(
-            sum(
-                instances(p.get(), true, counts),
-                instances(q.get(), sign, counts),
+                instances(p.formula, p.sign, counts),
+                instances(q.formula, q.sign, counts),
             ),
             sum(
-                instances(p.get(), false, counts),
-                instances(q.get(), !sign, counts),
+                instances(p.formula, !p.sign, counts),
+                instances(q.formula, !q.sign, counts),
             ),
         ),
-        Formula::Forall(_, sort, p) => {
-            let body = instances(p.get(), sign, counts);
-            if sign {
-                product(counts.of(*sort), body)
-            } else {
-                body
-            }
+        Signed::Forall(_, sort, p) => {
+            product(counts.of(sort), instances(p.formula, p.sign, counts))
         }
-        Formula::Exists(_, sort, p) => {
-            let copied = instances(p.get(), sign, counts);
-            if sign {
-                copied
-            } else {
-                product(counts.of(*sort), copied)
-            }
-        }
+        Signed::Exists(_, _, p) => instances(p.formula, p.sign, counts),
     }
 }

@@ -14,3 +14,4 @@ pub mod normal;
 pub mod refusal;
 pub mod renumber;
 pub mod replace;
+pub mod signed;

@@ -1,19 +1,17 @@
 //! Normal forms.
 #![tactic(auto)]
 
-ghost use Rattle.std.specs.Prelude.{◌≡◌, ◌<◌, ◌↔◌, IfOk, Err, true, false, not};
+ghost use Rattle.std.specs.Prelude.{◌≡◌, ◌<◌, ◌↔◌, IfOk, Err, not, if◌then◌else◌};
 ghost use Rattle.csdn_core.specs.Nodes.{nodes};
-ghost use Rattle.csdn_core.specs.declared.syntax.Formula.TheVariants as formulas;
-ghost use Rattle.fol_forms.specs.Forms.{normal_form};
+ghost use Rattle.fol_forms.specs.Forms.{And, normal_form};
 ghost use Rattle.fol_forms.specs.declared.refusal.FormRefusal.TheVariants.{Large};
 ghost use Rattle.fol_forms.specs.Limits.{capped, most_nodes};
-ghost use Rattle.fol_forms.specs.Signed.{truth_value as truth_value_of, literal as literal_of, joined as joined_of, quantified as quantified_of};
-ghost use Rattle.fol_forms.specs.Written.{normal as normal_of, normal_nodes, written};
+ghost use Rattle.fol_forms.specs.Written.{literal as literal_of, truth_value as truth_value_of, written};
 
 use crate::count::{and_one, sum_and_one};
 use crate::refusal::{FormRefusal, MOST_NODES, or_memory};
+use crate::signed::{Signed, view};
 use csdn_core::syntax::Formula;
-use csdn_core::terms::{Sort, VarId};
 use sqlite_items::Boxed;
 use std::alloc::{AllocError, Global};
 
@@ -30,6 +28,14 @@ pub fn normal(alloc: Global, formula: &Formula, negate: bool) -> Result<Formula,
     or_memory(made(alloc, formula, !negate))
 }
 
+/// How many nodes the normal form of a formula has, or for the sign `false` that of its negation. 2^64 - 1 where it has more.
+/// It takes as many steps as the formula has nodes, and no memory.
+pub fn count_of(formula: &Formula, sign: bool) -> u64
+    ensures { result ≡ capped (nodes (written (normal_form sign formula.now))) }
+{
+    count(formula, sign).kept
+}
+
 // How many nodes the normal forms of a formula and of its negation have.
 #[derive(Clone, Copy)]
 struct Sizes {
@@ -37,55 +43,29 @@ struct Sizes {
     negated: u64,
 }
 
-/// How many nodes the normal form of a formula has, or for the sign `false` that of its negation. 2^64 - 1 where it has more.
-/// It takes no memory.
-pub fn count_of(formula: &Formula, sign: bool) -> u64
-    ensures { result ≡ capped (normal_nodes sign formula.now) }
+// Each formula in it is looked at once, also where the normal form has it twice.
+#[tactic(auto, using(csdn_core::specs::Nodes::node_steps, crate::proofs::WrittenNodes::written_nodes, crate::proofs::Capped::capped_sums))]
+fn count(formula: &Formula, sign: bool) -> Sizes
+    ensures kept { result.kept ≡ capped (nodes (written (normal_form sign formula.now))) }
+    ensures negated { result.negated ≡ capped (nodes (written (normal_form (not sign) formula.now))) }
 {
-    let sizes = count(formula);
-    if sign { sizes.kept } else { sizes.negated }
-}
-
-#[tactic(auto, using(csdn_core::specs::Nodes::node_steps, crate::specs::NodeSteps::normal_node_steps, crate::proofs::Capped::capped_sums))]
-fn count(formula: &Formula) -> Sizes
-    ensures kept { result.kept ≡ capped (normal_nodes true formula.now) }
-    ensures negated { result.negated ≡ capped (normal_nodes false formula.now) }
-{
-    match formula {
-        Formula::True | Formula::False => Sizes {
+    match view(formula, sign) {
+        Signed::Truth(_) => Sizes {
             kept: 1,
             negated: 1,
         },
-        Formula::Atom(_, _) | Formula::Same(_, _) => Sizes {
-            kept: 1,
-            negated: 2,
-        },
-        Formula::Not(p) => {
-            let p = count(p.get());
-            Sizes {
-                kept: p.negated,
-                negated: p.kept,
-            }
-        }
-        Formula::And(p, q) | Formula::Or(p, q) => {
-            let p = count(p.get());
-            let q = count(q.get());
+        Signed::Atom(sign, _, _) | Signed::Equal(sign, _, _) => literal_sizes(sign),
+        Signed::Both(p, q) | Signed::Either(p, q) => {
+            let p = count(p.formula, p.sign);
+            let q = count(q.formula, q.sign);
             Sizes {
                 kept: sum_and_one(p.kept, q.kept),
                 negated: sum_and_one(p.negated, q.negated),
             }
         }
-        Formula::Implies(p, q) => {
-            let p = count(p.get());
-            let q = count(q.get());
-            Sizes {
-                kept: sum_and_one(p.negated, q.kept),
-                negated: sum_and_one(p.kept, q.negated),
-            }
-        }
-        Formula::Iff(p, q) => {
-            let p = count(p.get());
-            let q = count(q.get());
+        Signed::Cases(p, q) => {
+            let p = count(p.formula, p.sign);
+            let q = count(q.formula, q.sign);
             Sizes {
                 kept: sum_and_one(
                     sum_and_one(p.kept, q.kept),
@@ -97,12 +77,29 @@ fn count(formula: &Formula) -> Sizes
                 ),
             }
         }
-        Formula::Forall(_, _, p) | Formula::Exists(_, _, p) => {
-            let p = count(p.get());
+        Signed::Forall(_, _, p) | Signed::Exists(_, _, p) => {
+            let p = count(p.formula, p.sign);
             Sizes {
                 kept: and_one(p.kept),
                 negated: and_one(p.negated),
             }
+        }
+    }
+}
+
+fn literal_sizes(sign: bool) -> Sizes
+    ensures kept { result.kept ≡ if sign then 1 else 2 }
+    ensures negated { result.negated ≡ if not sign then 1 else 2 }
+{
+    if sign {
+        Sizes {
+            kept: 1,
+            negated: 2,
+        }
+    } else {
+        Sizes {
+            kept: 2,
+            negated: 1,
         }
     }
 }
@@ -114,6 +111,7 @@ fn truth_value(value: bool) -> Formula
 }
 
 // The formula or its negation.
+#[tactic(auto, using(csdn_core::specs::Tree::shapes))]
 fn literal(alloc: Global, sign: bool, formula: Formula) -> Result<Formula, AllocError>
     ensures { IfOk result (λ p. p ≡ literal_of sign formula) }
 {
@@ -124,91 +122,64 @@ fn literal(alloc: Global, sign: bool, formula: Formula) -> Result<Formula, Alloc
     }
 }
 
-// A conjunction or a disjunction.
-fn joined(conjunction: bool, p: Boxed<Formula>, q: Boxed<Formula>) -> Formula
-    ensures { result ≡ joined_of conjunction p q }
-{
-    if conjunction {
-        Formula::And(p, q)
-    } else {
-        Formula::Or(p, q)
-    }
-}
-
-fn quantified(forall: bool, var: VarId, sort: Sort, p: Boxed<Formula>) -> Formula
-    ensures { result ≡ quantified_of forall var sort p }
-{
-    if forall {
-        Formula::Forall(var, sort, p)
-    } else {
-        Formula::Exists(var, sort, p)
-    }
-}
-
-fn both(alloc: Global, p: Boxed<Formula>, q: Boxed<Formula>) -> Result<Boxed<Formula>, AllocError>
-    ensures { IfOk result (λ f. f ≡ formulas.And p q) }
-{
-    Boxed::new(alloc, Formula::And(p, q))
-}
-
 // The normal form of the formula, or for the sign `false` of its negation.
 #[cycle(made)]
-#[tactic(auto, using(csdn_core::specs::Nodes::node_steps, crate::specs::NormalSteps::normal_steps))]
+#[tactic(auto, using(csdn_core::specs::Tree::shapes))]
 fn made(alloc: Global, formula: &Formula, sign: bool) -> Result<Formula, AllocError>
-    ensures { IfOk result (λ p. p ≡ normal_of sign formula.now) }
+    ensures { IfOk result (λ p. p ≡ written (normal_form sign formula.now)) }
 {
-    match formula {
-        Formula::True => Ok(truth_value(sign)),
-        Formula::False => Ok(truth_value(!sign)),
-        Formula::Atom(pred, terms) => literal(alloc, sign, Formula::Atom(*pred, terms.copy())),
-        Formula::Same(t, u) => literal(alloc, sign, Formula::Same(*t, *u)),
-        Formula::Not(p) => made(alloc, p.get(), !sign),
-        Formula::And(p, q) => {
-            let p = boxed(alloc, p.get(), sign)?;
-            let q = boxed(alloc, q.get(), sign)?;
-            Ok(joined(sign, p, q))
+    match view(formula, sign) {
+        Signed::Truth(value) => Ok(truth_value(value)),
+        Signed::Atom(sign, pred, terms) => {
+            literal(alloc, sign, Formula::Atom(pred, terms.copy()))
         }
-        Formula::Or(p, q) => {
-            let p = boxed(alloc, p.get(), sign)?;
-            let q = boxed(alloc, q.get(), sign)?;
-            Ok(joined(!sign, p, q))
+        Signed::Equal(sign, t, u) => literal(alloc, sign, Formula::Same(t, u)),
+        Signed::Both(p, q) => {
+            let p = boxed(alloc, p.formula, p.sign)?;
+            let q = boxed(alloc, q.formula, q.sign)?;
+            Ok(Formula::And(p, q))
         }
-        Formula::Implies(p, q) => {
-            let p = boxed(alloc, p.get(), !sign)?;
-            let q = boxed(alloc, q.get(), sign)?;
-            Ok(joined(!sign, p, q))
+        Signed::Either(p, q) => {
+            let p = boxed(alloc, p.formula, p.sign)?;
+            let q = boxed(alloc, q.formula, q.sign)?;
+            Ok(Formula::Or(p, q))
         }
-        Formula::Iff(p, q) => cases(alloc, p.get(), q.get(), sign),
-        Formula::Forall(var, sort, p) => {
-            let p = boxed(alloc, p.get(), sign)?;
-            Ok(quantified(sign, *var, *sort, p))
+        Signed::Cases(p, q) => {
+            let kept = both(alloc, p.formula, p.sign, q.formula, q.sign)?;
+            let negated = both(alloc, p.formula, !p.sign, q.formula, !q.sign)?;
+            Ok(Formula::Or(kept, negated))
         }
-        Formula::Exists(var, sort, p) => {
-            let p = boxed(alloc, p.get(), sign)?;
-            Ok(quantified(!sign, *var, *sort, p))
+        Signed::Forall(var, sort, p) => {
+            let p = boxed(alloc, p.formula, p.sign)?;
+            Ok(Formula::Forall(var, sort, p))
+        }
+        Signed::Exists(var, sort, p) => {
+            let p = boxed(alloc, p.formula, p.sign)?;
+            Ok(Formula::Exists(var, sort, p))
         }
     }
 }
 
 #[cycle(made)]
-#[tactic(auto, using(csdn_core::specs::Nodes::node_steps, crate::specs::NormalSteps::normal_steps))]
 fn boxed(alloc: Global, formula: &Formula, sign: bool) -> Result<Boxed<Formula>, AllocError>
-    ensures { IfOk result (λ p. p ≡ normal_of sign formula.now) }
+    ensures { IfOk result (λ p. p ≡ written (normal_form sign formula.now)) }
 {
     Boxed::new(alloc, made(alloc, formula, sign)?)
 }
 
-// That of an equivalence of two formulas: the first is true or false, and the second is as the sign says.
+// The conjunction of two normal forms.
 #[cycle(made)]
-#[tactic(auto, using(csdn_core::specs::Nodes::node_steps, crate::specs::NormalSteps::normal_steps))]
-fn cases(alloc: Global, p: &Formula, q: &Formula, sign: bool) -> Result<Formula, AllocError>
-    ensures { IfOk result (λ f. f ≡ normal_of sign (formulas.Iff p.now q.now)) }
+#[tactic(auto, using(csdn_core::specs::Tree::shapes))]
+fn both(
+    alloc: Global,
+    p: &Formula,
+    p_sign: bool,
+    q: &Formula,
+    q_sign: bool,
+) -> Result<Boxed<Formula>, AllocError>
+    ensures { IfOk result (λ f. f ≡ written (And (normal_form p_sign p.now) (normal_form q_sign q.now))) }
 {
-    let first = boxed(alloc, p, true)?;
-    let second = boxed(alloc, q, sign)?;
-    let true_case = both(alloc, first, second)?;
-    let first = boxed(alloc, p, false)?;
-    let second = boxed(alloc, q, !sign)?;
-    let false_case = both(alloc, first, second)?;
-    Ok(Formula::Or(true_case, false_case))
+    let first = boxed(alloc, p, p_sign)?;
+    let second = boxed(alloc, q, q_sign)?;
+    Boxed::new(alloc, Formula::And(first, second))
 }

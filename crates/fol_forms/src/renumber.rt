@@ -100,7 +100,7 @@ fn numbered(number: u64) -> u32
 }
 
 #[cycle(made)]
-#[tactic(auto, using(csdn_core::specs::Nodes::node_steps, crate::specs::RenumberSteps::renumber_steps, crate::specs::RenumberSteps::binder_steps))]
+#[tactic(auto, using(csdn_core::specs::Nodes::node_steps, crate::proofs::RenumberSteps::renumber_steps, crate::proofs::RenumberSteps::binder_steps))]
 fn made(alloc: Global, formula: &Formula, numbers: &mut Numbers) -> Result<Formula, AllocError>
     requires { numbers.old.next + binders formula.now ≤ 2 ^ 32 }
     ensures form { IfOk result (λ p. p ≡ renumbered_of (new_numbers numbers.old.scope.items) numbers.old.next formula.now) }

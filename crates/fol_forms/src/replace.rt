@@ -97,7 +97,7 @@ fn changed(alloc: Global, formula: &Formula, change: &Change) -> Result<Formula,
 }
 
 // How many nodes the formula has once its atoms are replaced.
-#[tactic(auto, using(csdn_core::specs::Nodes::node_steps, crate::proofs::Leaves::leaf_nodes, crate::specs::ReplaceSteps::replace_steps, crate::proofs::Capped::capped_sums))]
+#[tactic(auto, using(csdn_core::specs::Nodes::node_steps, crate::proofs::Leaves::leaf_nodes, crate::proofs::ReplaceSteps::replace_steps, crate::proofs::Capped::capped_sums))]
 fn count_of(formula: &Formula, change: &Change) -> u64
     ensures { result ≡ capped (nodes (replace_of (replacement change.now) formula.now)) }
 {
@@ -204,7 +204,7 @@ fn count_of_floods(ts: &Terms, us: &Terms) -> u64
 }
 
 #[cycle(made)]
-#[tactic(auto, using(csdn_core::specs::Nodes::node_steps, crate::specs::ReplaceSteps::replace_steps))]
+#[tactic(auto, using(csdn_core::specs::Nodes::node_steps, crate::proofs::ReplaceSteps::replace_steps))]
 fn made(alloc: Global, formula: &Formula, change: &Change) -> Result<Formula, AllocError>
     ensures { IfOk result (λ f. f ≡ replace_of (replacement change.now) formula.now) }
 {

@@ -13,8 +13,9 @@ use Rattle.text_lines.proofs.PrintedLaws.{word_decimal, words_decimal, line_fine
 use Rattle.clause_log.specs.Literals.{Literal, has_distinct_atoms, is_within, is_clause}
 use Rattle.clause_log.specs.Refutations.{Step}
 use Rattle.log_text.specs.declared.block.Block.{Block}
-use Rattle.log_text.specs.Words.{most_atoms, most_hint, are_printable, is_name}
-use Rattle.log_text.specs.LogText.{literal_word, zero_word, clause_words, step_words, steps_so_far, end, block_lines, is_positive, is_step, is_log, is_bare_name, is_clause_list, is_block, are_blocks}
+use Rattle.log_text.specs.Words.{most_atoms, are_printable, is_name}
+use Rattle.log_text.specs.LogText.{literal_word, zero_word, clause_words, step_words, steps_so_far, end, block_lines, is_positive, is_log, is_bare_name, is_clause_list, is_block, are_blocks}
+use Rattle.clause_log.specs.Limits.{most_hint, is_step}
 use Rattle.log_text.proofs.WordsAgain.{within_positive}
 
 literal_is_word : (sign : Bool) (n : ℕ) → n < 2 ^ 64 → is_word (literal_word (record { positive = sign; atom = n })) ≡ true

@@ -12,7 +12,8 @@ use Rattle.clause_log.specs.Refutations.{Step}
 use Rattle.log_text.specs.declared.block.Block.{Block}
 use Rattle.log_text.specs.declared.read.Place.TheVariants as place
 use Rattle.log_text.specs.Words.{atoms_of, step_of}
-use Rattle.log_text.specs.LogText.{State, log_format, step, by_key, goes_to, new_block, with_clause, with_step, steps_so_far, clause_words, step_words, header, end, block_lines, log_lines, log_text, is_step, is_log, is_block, are_blocks}
+use Rattle.log_text.specs.LogText.{State, log_format, step, by_key, goes_to, new_block, with_clause, with_step, steps_so_far, clause_words, step_words, header, end, block_lines, log_lines, log_text, is_log, is_block, are_blocks}
+use Rattle.clause_log.specs.Limits.{is_step}
 use Rattle.log_text.proofs.WordsAgain.{clause_again, step_again, atoms_again, name_again, header_again}
 use Rattle.log_text.proofs.FineLines.{clause_line, step_line, parts_of, log_steps, atoms_line, blocks_fine}
 

@@ -15,8 +15,9 @@ use Rattle.text_lines.proofs.Numerals.{own, number_some}
 use Rattle.text_lines.proofs.PrintedLaws.{number_again}
 use Rattle.clause_log.specs.Literals.{Literal, has_distinct_atoms, is_within, is_clause}
 use Rattle.clause_log.specs.Refutations.{Step}
-use Rattle.log_text.specs.Words.{most_atoms, most_hint, positive_of, literal_of, is_zero, literals_from, hints_from, header_of, name_of, atoms_of, clause_of, step_of, is_name}
-use Rattle.log_text.specs.LogText.{literal_word, zero_word, header, is_positive, is_bare_name, is_step}
+use Rattle.log_text.specs.Words.{most_atoms, positive_of, literal_of, is_zero, literals_from, hints_from, header_of, name_of, atoms_of, clause_of, step_of, is_name}
+use Rattle.log_text.specs.LogText.{literal_word, zero_word, header, is_positive, is_bare_name}
+use Rattle.clause_log.specs.Limits.{most_hint, is_step}
 
 pub within_positive : (atoms n : ℕ) → (ltb 0 n && leb n atoms) ≡ true → is_positive atoms n ≡ true
 within_positive atoms n h =

@@ -8,10 +8,11 @@ use Rattle.text_lines.specs.Machine.{Format}
 use Rattle.text_lines.specs.Printed.{line_text}
 use Rattle.clause_log.specs.Literals.{Literal, ClauseList, is_clause}
 use Rattle.clause_log.specs.Refutations.{Step}
+use Rattle.clause_log.specs.Limits.{is_step}
 use Rattle.log_text.specs.declared.block.Block.{Block}
 use Rattle.log_text.specs.declared.read.Place.{Place}
 use Rattle.log_text.specs.declared.read.Place.TheVariants as place
-use Rattle.log_text.specs.Words.{most_atoms, most_hint, header_of, name_of, atoms_of, clause_of, step_of, is_name}
+use Rattle.log_text.specs.Words.{most_atoms, header_of, name_of, atoms_of, clause_of, step_of, is_name}
 
 -- ---- the machine
 
@@ -112,10 +113,6 @@ is_bare_name name = is_name name && bytes_eq (trim_end (trim_start name)) name
 
 abbrev pub is_clause_list : ClauseList → Bool
 is_clause_list c = nat_le c.atoms most_atoms && list_all (is_clause c.atoms) c.clauses
-
--- literals of distinct atoms from 1 to `atoms`, and hints from 1 to 2 ^ 63 - 1
-abbrev pub is_step : ℕ → Step → Bool
-is_step atoms s = is_clause atoms s.literals && list_all (is_positive most_hint) s.hints
 
 -- a log that is there has a step
 abbrev pub is_log : ℕ → Option (List Step) → Bool

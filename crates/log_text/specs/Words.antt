@@ -6,14 +6,11 @@ use Rattle.text_lines.specs.Numbers.{◌>>=◌, number_at, number_of}
 use Rattle.text_lines.specs.Rest.{behind_word}
 use Rattle.clause_log.specs.Literals.{Literal, has_distinct_atoms}
 use Rattle.clause_log.specs.Refutations.{Step}
+use Rattle.clause_log.specs.Limits.{most_hint}
 
 -- 2 ^ 62 - 1
 abbrev pub most_atoms : ℕ
 most_atoms = 4611686018427387903
-
--- 2 ^ 63 - 1
-abbrev pub most_hint : ℕ
-most_hint = 9223372036854775807
 
 -- ---- words
 

@@ -7,7 +7,7 @@ ghost use Rattle.log_text.specs.Words.{are_printable as printable, atoms_of, cla
 ghost use Rattle.log_text.specs.Gives.{Finds};
 
 use crate::distinct::has_distinct_atoms;
-use clause_log::Lit;
+use clause_log::{Lit, MOST_HINT};
 use std::alloc::Global;
 use text_lines::{Words, behind_word, read_number};
 
@@ -19,8 +19,6 @@ pub enum Stop {
 }
 
 const MOST_ATOMS: u64 = 0x3fff_ffff_ffff_ffff;
-
-const MOST_HINT: u64 = 0x7fff_ffff_ffff_ffff;
 
 // A number from 1 to `most`.
 #[tactic(auto, unfolding(crate::specs::Words::positive_of))]

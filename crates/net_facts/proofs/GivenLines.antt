@@ -4,7 +4,7 @@ use Rattle.std.specs.Str.{bytes_eq}
 use Rattle.std.proofs.lemmas.Bool.{and_parts}
 use Rattle.std.proofs.lemmas.Option.{same_Some}
 use Rattle.std.proofs.lemmas.List.Elements.{All-nil, All-push}
-use Rattle.decision_laws.proofs.NormalTruth.{same_truth-is}
+use Rattle.fol_forms.proofs.NormalTruth.{same_truth-is}
 use Rattle.text_lines.specs.Text.{next, ended}
 use Rattle.text_lines.specs.Numbers.{number_of}
 use Rattle.text_lines.specs.Distinct.{are_distinct}

@@ -2,8 +2,16 @@
 //! docs/FORMATS.md.
 #![tactic(auto)]
 
+use csdn_core::event::Match;
 use csdn_core::program::Program;
+use csdn_core::terms::{Pred, RelId, Sort};
+use net_structs::cells::Cells;
+use net_structs::network::Network;
+use net_structs::read::{NetParts, NetRefusal};
+use net_structs::row::{Row, Rows};
+use net_structs::state::State;
 use net_text::{NetTextRefusal, Text, Why, print_net, read_net};
+use sqlite_items::Items;
 use std::alloc::{AllocError, Global};
 
 /// The line of a text that is refused and the reason; none where the text is read.
@@ -26,6 +34,81 @@ pub fn printed(alloc: Global, program: &Program, text: &[u8]) -> Result<Option<T
         Err(NetTextRefusal::Line { .. }) => Ok(None),
         Err(NetTextRefusal::Memory) => Err(AllocError),
     }
+}
+
+/// The parts of a network: switches, hosts, ports, values of constants, and tuples.
+type Given = (
+    &'static [u64],
+    &'static [u64],
+    &'static [u64],
+    &'static [u64],
+    &'static [(Pred, &'static [u64])],
+);
+
+/// What became of parts.
+#[derive(Clone, Copy, Debug, PartialEq, Eq)]
+pub enum Found {
+    /// They are a network, with so many tuples.
+    Taken(usize),
+    EmptySort(Sort),
+    RepeatedElement(Sort, u64),
+    MissingPort(u16),
+    StrangeConst(usize),
+    StrangeElement(usize),
+}
+
+fn rows_of(alloc: Global, tuples: &[(Pred, &[u64])]) -> Result<Rows, AllocError> {
+    let mut rows = Items::new(alloc);
+    for (pred, cells) in tuples {
+        if cells.len() <= 5 {
+            rows.push(Row {
+                pred: *pred,
+                cells: Cells::of(cells),
+            })?;
+        }
+    }
+    Ok(rows)
+}
+
+fn parts_of(alloc: Global, given: &Given) -> Result<NetParts, AllocError> {
+    Ok(NetParts {
+        sw: Items::from_slice(alloc, given.0)?,
+        ho: Items::from_slice(alloc, given.1)?,
+        pr: Items::from_slice(alloc, given.2)?,
+        consts: Items::from_slice(alloc, given.3)?,
+        rows: rows_of(alloc, given.4)?,
+    })
+}
+
+/// What becomes of parts as a network of the program.
+pub fn found_of(alloc: Global, program: &Program, given: &Given) -> Result<Found, AllocError> {
+    let parts = parts_of(alloc, given)?;
+    match Network::try_new(alloc, program, parts) {
+        Ok(network) => Ok(Found::Taken(network.rows(alloc)?.len())),
+        Err(NetRefusal::EmptySort { sort }) => Ok(Found::EmptySort(sort)),
+        Err(NetRefusal::RepeatedElement { sort, element }) => {
+            Ok(Found::RepeatedElement(sort, element))
+        }
+        Err(NetRefusal::MissingPort { k }) => Ok(Found::MissingPort(k)),
+        Err(NetRefusal::StrangeConst { place }) => Ok(Found::StrangeConst(place)),
+        Err(NetRefusal::StrangeElement { row }) => Ok(Found::StrangeElement(row)),
+        Err(NetRefusal::Memory) => Err(AllocError),
+    }
+}
+
+/// The state of these tuples.
+fn state_of(
+    alloc: Global,
+    program: &Program,
+    tuples: &[(Pred, &[u64])],
+) -> Result<State, AllocError> {
+    let mut state = State::try_empty(alloc, program)?;
+    for (pred, cells) in tuples {
+        if cells.len() <= 5 {
+            state.insert(*pred, &Cells::of(cells))?;
+        }
+    }
+    Ok(state)
 }
 
 #[cfg(test)]
@@ -57,10 +140,20 @@ mod tests {
             assert!(rt; false, "no program");
             return Ok(());
         };
+        refuses_under(rt, alloc, &program, front, rows)
+    }
+
+    fn refuses_under(
+        rt: &impl Abort,
+        alloc: Global,
+        program: &Program,
+        front: &[u8],
+        rows: &[(&[u8], u64, Why)],
+    ) -> Result<(), AllocError> {
         for (i, row) in rows.iter().enumerate() {
             let mut text = front.to_vec(alloc)?;
             text.extend_from_slice(row.0)?;
-            let found = refusal_of(alloc, &program, &text)?;
+            let found = refusal_of(alloc, program, &text)?;
             assert_eq!(rt; found, Some((row.1, row.2)), "row {i}");
         }
         Ok(())
@@ -77,8 +170,17 @@ mod tests {
             assert!(rt; false, "no program");
             return Ok(());
         };
+        prints_under(rt, alloc, &program, rows)
+    }
+
+    fn prints_under(
+        rt: &impl Abort,
+        alloc: Global,
+        program: &Program,
+        rows: &[(&[u8], &[u8])],
+    ) -> Result<(), AllocError> {
         for (i, row) in rows.iter().enumerate() {
-            let Some(found) = printed(alloc, &program, row.0)? else {
+            let Some(found) = printed(alloc, program, row.0)? else {
                 assert!(rt; false, "refused in row {i}");
                 return Ok(());
             };
@@ -316,6 +418,164 @@ mod tests {
             &[(GUARDED, GUARDED), (BARE, BARE)],
         )?;
         prints(&rt, rt.alloc(), LEARNING, &[(LEARNED, LEARNED)])?;
+        Ok(())
+    }
+
+    // `link` and `up` are static, `tr` and `on` are not, in this order
+    const LINK: Pred = Pred::Stored(RelId(0));
+
+    const UP: Pred = Pred::Stored(RelId(1));
+
+    const TR: Pred = Pred::Stored(RelId(2));
+
+    const PARTS: &[(Given, Found)] = &[
+        // in any order, and a tuple that stands twice is read once
+        (
+            (
+                &[2, 1],
+                &[4, 3],
+                &[2, 1],
+                &[3, 2],
+                &[(LINK, &[2, 1]), (UP, &[]), (LINK, &[1, 2]), (LINK, &[2, 1])],
+            ),
+            Found::Taken(3),
+        ),
+        ((&[1], &[1], &[2], &[1, 2], &[]), Found::Taken(0)),
+        // each reason
+        ((&[], &[3], &[2], &[3, 2], &[]), Found::EmptySort(Sort::Sw)),
+        ((&[1], &[], &[2], &[3, 2], &[]), Found::EmptySort(Sort::Ho)),
+        ((&[1], &[3], &[], &[3, 2], &[]), Found::EmptySort(Sort::Pr)),
+        (
+            (&[1, 2, 2, 1], &[3], &[2], &[3, 2], &[]),
+            Found::RepeatedElement(Sort::Sw, 2),
+        ),
+        (
+            (&[1], &[3, 4, 3], &[2], &[3, 2], &[]),
+            Found::RepeatedElement(Sort::Ho, 3),
+        ),
+        (
+            (&[1], &[3], &[2, 2], &[3, 2], &[]),
+            Found::RepeatedElement(Sort::Pr, 2),
+        ),
+        ((&[1], &[3], &[1, 3], &[3, 1], &[]), Found::MissingPort(2)),
+        ((&[1], &[3], &[2], &[4, 2], &[]), Found::StrangeConst(0)),
+        ((&[1], &[3], &[2], &[3, 1], &[]), Found::StrangeConst(1)),
+        ((&[1], &[3], &[2], &[3], &[]), Found::StrangeConst(1)),
+        ((&[1], &[3], &[2], &[3, 2, 2], &[]), Found::StrangeConst(2)),
+        (
+            (&[1], &[3], &[2], &[3, 2], &[(UP, &[]), (LINK, &[2, 2])]),
+            Found::StrangeElement(1),
+        ),
+        (
+            (&[1], &[3], &[2], &[3, 2], &[(LINK, &[1])]),
+            Found::StrangeElement(0),
+        ),
+        (
+            (&[1], &[3], &[2], &[3, 2], &[(UP, &[1])]),
+            Found::StrangeElement(0),
+        ),
+        (
+            (&[1], &[3], &[2], &[3, 2], &[(TR, &[1, 3])]),
+            Found::StrangeElement(0),
+        ),
+        (
+            (&[1], &[3], &[2], &[3, 2], &[(Pred::Ft, &[1, 3, 3, 2, 2])]),
+            Found::StrangeElement(0),
+        ),
+        (
+            (&[1], &[3], &[2], &[3, 2], &[(Pred::Stored(RelId(9)), &[])]),
+            Found::StrangeElement(0),
+        ),
+        // several reasons: the first in the order of the refusals
+        (
+            (&[1, 1], &[], &[3], &[], &[(TR, &[])]),
+            Found::EmptySort(Sort::Ho),
+        ),
+        (
+            (&[1], &[3, 3], &[3, 3], &[], &[]),
+            Found::RepeatedElement(Sort::Ho, 3),
+        ),
+        (
+            (&[1], &[3], &[1], &[9, 9], &[(TR, &[])]),
+            Found::MissingPort(2),
+        ),
+        (
+            (&[1], &[3], &[2], &[9, 9], &[(TR, &[])]),
+            Found::StrangeConst(0),
+        ),
+    ];
+
+    fn are_found(
+        rt: &impl Abort,
+        alloc: Global,
+        program: &Program,
+        rows: &[(Given, Found)],
+    ) -> Result<(), AllocError> {
+        for (i, row) in rows.iter().enumerate() {
+            let found = found_of(alloc, program, &row.0)?;
+            assert_eq!(rt; found, row.1, "row {i}");
+        }
+        Ok(())
+    }
+
+    // in any order
+    const TUPLES: &[(Pred, &[u64])] = &[
+        (Pred::Sent, &[1, 3, 4, 1, 1]),
+        (Pred::Ft, &[1, 3, 4, 1, 2]),
+        (TR, &[2, 3]),
+        (Pred::Ft, &[1, 3, 4, 2, 1]),
+        (Pred::Ft, &[1, 3, 4, 1, 1]),
+        (TR, &[1, 4]),
+        (Pred::Ft, &[1, 3, 4, 1, 2]),
+    ];
+
+    // The tuples of each relation rise, and so do the outputs of a match.
+    fn are_listed(rt: &impl Abort, alloc: Global, program: &Program) -> Result<(), AllocError> {
+        let state = state_of(alloc, program, TUPLES)?;
+        let flows = rows_of(
+            alloc,
+            &[
+                (Pred::Ft, &[1, 3, 4, 1, 1]),
+                (Pred::Ft, &[1, 3, 4, 1, 2]),
+                (Pred::Ft, &[1, 3, 4, 2, 1]),
+            ],
+        )?;
+        assert!(rt; state.rows(alloc, Pred::Ft)?.as_slice() == flows.as_slice());
+        let trusted = rows_of(alloc, &[(TR, &[1, 4]), (TR, &[2, 3])])?;
+        assert!(rt; state.rows(alloc, TR)?.as_slice() == trusted.as_slice());
+        assert!(rt; state.rows(alloc, UP)?.is_empty());
+        let outputs = state.outputs(
+            alloc,
+            &Match {
+                s: 1,
+                a: 3,
+                b: 4,
+                i: 1,
+            },
+        )?;
+        assert!(rt; outputs.as_slice() == [1, 2].as_slice());
+        let others = state.outputs(
+            alloc,
+            &Match {
+                s: 1,
+                a: 4,
+                b: 3,
+                i: 1,
+            },
+        )?;
+        assert!(rt; others.is_empty());
+        Ok(())
+    }
+
+    #[test]
+    fn networks_and_states_are_made_of_parts(rt: HostRuntime) -> Result<(), Fail> {
+        let alloc = rt.alloc();
+        let Ok(Ok(program)) = resolved(alloc, PROGRAM) else {
+            assert!(rt; false, "no program");
+            return Ok(());
+        };
+        are_found(&rt, alloc, &program, PARTS)?;
+        are_listed(&rt, alloc, &program)?;
         Ok(())
     }
 }

@@ -6,7 +6,8 @@ use Rattle.of10_wire.specs.declared.types.FlowMatch.{FlowMatch}
 use Rattle.of10_wire.specs.declared.action.Action.{Action}
 use Rattle.of10_wire.specs.declared.refusal.WireRefusal.{WireRefusal}
 use Rattle.of10_wire.specs.Layout.{width, number, Stand}
-use Rattle.of10_wire.specs.Headers.{is_kind}
+use Rattle.of10_wire.specs.declared.rules.Opening.TheVariants.{Frame}
+use Rattle.of10_wire.specs.Headers.{is_kind, opening_of}
 use Rattle.of10_wire.specs.Parts.{match_slots, port_slots}
 use Rattle.of10_wire.specs.Actions.{action_slots, RefusesAction, IsProper}
 use Rattle.of10_wire.proofs.Standing.{width-append, Stand-front}
@@ -27,9 +28,10 @@ use Rattle.of10_stats.proofs.QueueLaws.{queue_item, queues_proper}
 use Rattle.of10_msgs.specs.declared.message.Message.{Message}
 use Rattle.of10_msgs.specs.declared.message.Message.TheVariants.{Hello, Error, EchoRequest, EchoReply, Vendor, FeaturesRequest, FeaturesReply, GetConfigRequest, GetConfigReply, SetConfig, PacketIn, FlowRemoved, PortStatus, PacketOut, FlowMod, PortMod, StatsRequest, StatsReply, BarrierRequest, BarrierReply, QueueGetConfigRequest, QueueGetConfigReply}
 use Rattle.of10_msgs.specs.Messages.{message_slots, spells, rest, version_of, kind_of, xid_of, fields_of}
-use Rattle.of10_msgs.specs.Refused.{allows_length, actions_len, early, Late, LatePacketOut, LateFlowMod, LateQueueReply, Refuses}
+use Rattle.of10_msgs.specs.Lengths.{allows_length}
+use Rattle.of10_msgs.specs.Refused.{IsTypedFrame, actions_len, early, Late, LatePacketOut, LateFlowMod, LateQueueReply, Refuses}
 use Rattle.of10_msgs.specs.Sending.{IsProperMessage, IsSendable}
-use Rattle.of10_msgs.proofs.Frames.{IsFrame, early_of, version_zero, spelled_frame}
+use Rattle.of10_msgs.proofs.Frames.{early_of, frame_opens, version_zero, spelled_frame}
 use Rattle.of10_msgs.proofs.Spelled.{kind_stands, request_in, reply_in, behind_flow_removed, behind_flow_mod}
 
 -- ---- the header and the length
@@ -42,10 +44,10 @@ whole_ports k n e =
 
 -- the length of each layout is allowed
 length_allowed : (m : Message) → allows_length (kind_of m) (8 + width (fields_of m)) ≡ true
-length_allowed (Hello a1 a2 a3) = refl
+length_allowed (Hello a1 a2 a3) = le-leb 8 (8 + width (fields_of (Hello a1 a2 a3))) (omega arith)
 length_allowed (Error a1 a2 a3 a4) = le-leb 12 (8 + width (fields_of (Error a1 a2 a3 a4))) (omega arith)
-length_allowed (EchoRequest a1 a2) = refl
-length_allowed (EchoReply a1 a2) = refl
+length_allowed (EchoRequest a1 a2) = le-leb 8 (8 + width (fields_of (EchoRequest a1 a2))) (omega arith)
+length_allowed (EchoReply a1 a2) = le-leb 8 (8 + width (fields_of (EchoReply a1 a2))) (omega arith)
 length_allowed (Vendor a1 a2 a3) = le-leb 12 (8 + width (fields_of (Vendor a1 a2 a3))) (omega arith)
 length_allowed (FeaturesRequest a1) = refl
 length_allowed (FeaturesReply a1 a2 a3 a4 a5 a6 a7) = whole_ports (length a7) (8 + width (fields_of (FeaturesReply a1 a2 a3 a4 a5 a6 a7))) (omega (arith, width-fixed port_slots 48 port_fixed a7))
@@ -74,11 +76,15 @@ kind_known (Hello a1 a2 a3) = refl
 kind_known m = refl
 
 -- a spelling is a frame
-pub spells-frame : (m : Message) (bytes : List ℕ) → spells m bytes → IsFrame bytes
+pub spells-frame : (m : Message) (bytes : List ℕ) → spells m bytes → IsTypedFrame bytes
 unfolding message_slots
 spells-frame m bytes h =
     let len : 8 + width (fields_of m) ≡ length bytes = omega (arith, h.whole) in
     spelled_frame (version_of m) (kind_of m) (xid_of m) (fields_of m) bytes h (version_allowed m) (kind_known m) (rw (← len) (length_allowed m))
+
+-- and the first that its bytes show
+pub spelled-opens : (m : Message) (bytes : List ℕ) → spells m bytes → opening_of bytes ≡ Frame (length bytes)
+spelled-opens m bytes h = frame_opens bytes (spells-frame m bytes h)
 
 pub not-early : (m : Message) (bytes : List ℕ) → spells m bytes → early bytes ≡ None
 not-early m bytes h = early_of bytes (spells-frame m bytes h)

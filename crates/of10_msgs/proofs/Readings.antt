@@ -1,15 +1,20 @@
 -- Exactly one message or one refusal, and what follows for an answer.
-use Rattle.std.proofs.Common.{◌≡◌, ℕ, ◌-◌, ◌<◌, ◌^◌, ◌≤◌, max, not, ◌&&◌, cond, eqb, ltb, List, length, Option, Some, None, Result, Ok, Err, refl, sym, ap, ◌∙◌, inl, inr, ◌⊎◌, arith}
+use Rattle.std.proofs.Common.{◌≡◌, ℕ, ◌-◌, ◌<◌, ◌^◌, ◌≤◌, max, ◌&&◌, eqb, List, length, Option, Some, None, Result, Ok, Err, refl, sym, ap, subst, ◌∙◌, inl, inr, ◌⊎◌, arith}
 use Rattle.std.proofs.lemmas.Bool.{leb-true}
 use Rattle.std.specs.Prelude.{IfOk, IfErr, IfSome, MatchOption}
 use Rattle.of10_wire.specs.declared.refusal.WireRefusal.{WireRefusal}
-use Rattle.of10_wire.specs.declared.refusal.WireWhy.TheVariants.{BadVersion, BadType, BadLength}
+use Rattle.of10_wire.specs.declared.refusal.WireWhy.TheVariants.{BadLength}
 use Rattle.of10_wire.specs.Layout.{number}
-use Rattle.of10_wire.specs.Refusals.{refusal, Answers, out_of_memory}
-use Rattle.of10_wire.specs.Headers.{is_kind, header_refusal}
+use Rattle.of10_wire.specs.Refusals.{refusal, IsOfBytes, Answers, out_of_memory}
+use Rattle.of10_wire.specs.declared.rules.Opening.{Opening}
+use Rattle.of10_wire.specs.declared.rules.Opening.TheVariants as opening
+use Rattle.of10_wire.specs.declared.rules.Opening.TheVariants.{Wants, Frame}
+use Rattle.of10_wire.specs.Headers.{opening_of}
+use Rattle.of10_wire.proofs.Openings.{refused_near}
 use Rattle.of10_msgs.specs.declared.message.Message.{Message}
 use Rattle.of10_msgs.specs.Messages.{spells}
-use Rattle.of10_msgs.specs.Refused.{early, allows_length, or_else, frame_refusal, actions_len, Late, LatePacketOut, LateFlowMod, LateQueueReply, Refuses}
+use Rattle.of10_msgs.specs.Lengths.{allows_length}
+use Rattle.of10_msgs.specs.Refused.{IsTypedFrame, early, early_by, actions_len, Late, LatePacketOut, LateFlowMod, LateQueueReply, Refuses}
 use Rattle.of10_msgs.specs.Sending.{IsSendable}
 use Rattle.of10_msgs.specs.Readings.{Reading, Spelled, Refused, Reads, HasOneReading}
 use Rattle.of10_wire.specs.Layout.{part}
@@ -17,8 +22,8 @@ use Rattle.of10_wire.specs.Actions.{action_slots, RefusesAction}
 use Rattle.of10_wire.proofs.Standing.{length-part}
 use Rattle.of10_wire.proofs.Listed.{items-refused-once, items-refused-within}
 use Rattle.of10_wire.proofs.ActionLaws.{action_item}
-use Rattle.of10_msgs.proofs.Frames.{IsFrame, frame_of, allowed}
-use Rattle.of10_wire.proofs.Tests.{near_front}
+use Rattle.of10_msgs.proofs.Frames.{frame_of, allowed}
+use Rattle.of10_wire.proofs.Tests.{refusal_is, unless-near}
 use Rattle.of10_stats.specs.Requests.{request_refusal}
 use Rattle.of10_stats.specs.Queues.{queue_slots, RefusesQueue}
 use Rattle.of10_stats.proofs.RequestLaws.{request-within}
@@ -79,66 +84,53 @@ answer-only bytes (Err e) (inr refused) m h = absurd (not-refused m bytes e h re
 
 -- ---- where a refusal stands
 
-either_front : (a b : Option WireRefusal) → IfSome a (λ e. e.at ≤ 2) → IfSome b (λ e. e.at ≤ 2) → IfSome (or_else a b) (λ e. e.at ≤ 2)
-either_front (Some e) b h k = h
-either_front None b h k = k
+early_told : (bytes : List ℕ) (o : Opening) → opening_of bytes ≡ o → IfSome (early_by o bytes) (IsOfBytes 2)
+early_told bytes (Wants n) is = record { near = omega arith; named = λ is. absurd cc }
+early_told bytes (opening.Refused e) is = (refused_near bytes e is).0
+early_told bytes (Frame n) is = unless-near 2 (eqb n (length bytes) && allows_length (number 1 1 bytes) n) (refusal 2 BadLength) (record { near = omega arith; named = λ is. absurd cc })
 
-pub header-place : (bytes : List ℕ) → IfSome (header_refusal bytes) (λ e. e.at ≤ 2)
-unfolding header_refusal
-header-place bytes =
-    let last = cond (ltb (number 2 2 bytes) 8) (Some (refusal 2 BadLength)) None in
-    let next = cond (not (is_kind (number 1 1 bytes))) (Some (refusal 1 BadType)) last in
-    near_front 2 (not (eqb (number 1 0 bytes) 1) && not (eqb (number 1 1 bytes) 0)) (refusal 0 BadVersion) next (omega arith) (
-    near_front 2 (not (is_kind (number 1 1 bytes))) (refusal 1 BadType) last (omega arith) (near_front 2 (ltb (number 2 2 bytes) 8) (refusal 2 BadLength) None (omega arith) tt)
-    )
-
-frame-place : (kind told len : ℕ) → IfSome (frame_refusal kind told len) (λ e. e.at ≤ 2)
-frame-place kind told len =
-    let last = cond (not (allows_length kind len)) (Some (refusal 2 BadLength)) None in
-    near_front 2 (not (eqb told len)) (refusal 2 BadLength) last (omega arith) (near_front 2 (not (allows_length kind len)) (refusal 2 BadLength) None (omega arith) tt)
-
-early-place : (bytes : List ℕ) → IfSome (early bytes) (λ e. e.at ≤ 2)
+early-place : (bytes : List ℕ) → IfSome (early bytes) (IsOfBytes 2)
 unfolding early
-early-place bytes =
-    let behind = or_else (header_refusal bytes) (frame_refusal (number 1 1 bytes) (number 2 2 bytes) (length bytes)) in
-    near_front 2 (ltb (length bytes) 8) (refusal 2 BadLength) behind (omega arith) (
-    either_front (header_refusal bytes) (frame_refusal (number 1 1 bytes) (number 2 2 bytes) (length bytes)) (header-place bytes) (frame-place (number 1 1 bytes) (number 2 2 bytes) (length bytes))
-    )
+early-place bytes = early_told bytes (opening_of bytes) refl
 
-packet_out-place : (bytes : List ℕ) (e : WireRefusal) → 16 ≤ length bytes → LatePacketOut bytes e → e.at ≤ length bytes
-packet_out-place bytes e long (inl x) = omega (arith, long, ap (λ (d : WireRefusal). d.at) x.1)
+packet_out-place : (bytes : List ℕ) (e : WireRefusal) → 16 ≤ length bytes → LatePacketOut bytes e → IsOfBytes (length bytes) e
+packet_out-place bytes e long (inl x) = refusal_is 14 (length bytes) BadLength e (omega (arith, long)) (λ is. absurd cc) x.1
 packet_out-place bytes e long (inr x) =
-    let near = items-refused-within action_slots RefusesAction action_item 16 (part (actions_len bytes) 16 bytes) e x.1 in
-    omega (arith, near, length-part (actions_len bytes) 16 bytes x.0, x.0)
+    let told = items-refused-within action_slots RefusesAction action_item 16 (part (actions_len bytes) 16 bytes) e x.1 in
+    record { near = omega (arith, told.near, length-part (actions_len bytes) 16 bytes x.0, x.0); named = told.named }
 
-flow_mod-place : (bytes : List ℕ) (e : WireRefusal) → 72 ≤ length bytes → LateFlowMod bytes e → e.at ≤ length bytes
+flow_mod-place : (bytes : List ℕ) (e : WireRefusal) → 72 ≤ length bytes → LateFlowMod bytes e → IsOfBytes (length bytes) e
 flow_mod-place bytes e long x =
-    let near = items-refused-within action_slots RefusesAction action_item 72 (part (length bytes - 72) 72 bytes) e x in
-    omega (arith, near, length-part (length bytes - 72) 72 bytes (omega (arith, long)), long)
+    let told = items-refused-within action_slots RefusesAction action_item 72 (part (length bytes - 72) 72 bytes) e x in
+    record { near = omega (arith, told.near, length-part (length bytes - 72) 72 bytes (omega (arith, long)), long); named = told.named }
 
-queue_reply-place : (bytes : List ℕ) (e : WireRefusal) → 16 ≤ length bytes → LateQueueReply bytes e → e.at ≤ length bytes
+queue_reply-place : (bytes : List ℕ) (e : WireRefusal) → 16 ≤ length bytes → LateQueueReply bytes e → IsOfBytes (length bytes) e
 queue_reply-place bytes e long x =
-    let near = items-refused-within queue_slots RefusesQueue queue_item 16 (part (length bytes - 16) 16 bytes) e x in
-    omega (arith, near, length-part (length bytes - 16) 16 bytes (omega (arith, long)), long)
+    let told = items-refused-within queue_slots RefusesQueue queue_item 16 (part (length bytes - 16) 16 bytes) e x in
+    record { near = omega (arith, told.near, length-part (length bytes - 16) 16 bytes (omega (arith, long)), long); named = told.named }
 
-late-place : (bytes : List ℕ) (e : WireRefusal) → IsFrame bytes → Late bytes e → e.at ≤ length bytes
+late-place : (bytes : List ℕ) (e : WireRefusal) → IsTypedFrame bytes → Late bytes e → IsOfBytes (length bytes) e
 late-place bytes e f (inl x) = packet_out-place bytes e (leb-true 16 (length bytes) (allowed 13 bytes f x.0)) x.1
 late-place bytes e f (inr (inl x)) = flow_mod-place bytes e (leb-true 72 (length bytes) (allowed 14 bytes f x.0)) x.1
-late-place bytes e f (inr (inr (inl x))) = omega (arith, request-within bytes e x.1, leb-true 12 (length bytes) (allowed 16 bytes f x.0))
+late-place bytes e f (inr (inr (inl x))) =
+    let told = request-within bytes e x.1 in
+    record { near = omega (arith, told.near, leb-true 12 (length bytes) (allowed 16 bytes f x.0)); named = told.named }
 late-place bytes e f (inr (inr (inr (inl x)))) = reply-within bytes e (leb-true 12 (length bytes) (allowed 17 bytes f x.0)) x.1
 late-place bytes e f (inr (inr (inr (inr x)))) = queue_reply-place bytes e (leb-true 16 (length bytes) (allowed 21 bytes f x.0)) x.1
 
-refused-place_by : (bytes : List ℕ) (first : Option WireRefusal) (e : WireRefusal) → early bytes ≡ first → IfSome first (λ d. d.at ≤ 2) → MatchOption first (Late bytes e) (λ d. e ≡ d) → e.at ≤ max 2 (length bytes)
-refused-place_by bytes None e is low h = omega (arith, late-place bytes e (frame_of bytes is) h)
-refused-place_by bytes (Some first) e is low h = omega (arith, low, ap (λ (d : WireRefusal). d.at) h)
+refused-place_by : (bytes : List ℕ) (first : Option WireRefusal) (e : WireRefusal) → early bytes ≡ first → IfSome first (IsOfBytes 2) → MatchOption first (Late bytes e) (λ d. e ≡ d) → IsOfBytes (max 2 (length bytes)) e
+refused-place_by bytes None e is low h =
+    let told = late-place bytes e (frame_of bytes is) h in
+    record { near = omega (arith, told.near); named = told.named }
+refused-place_by bytes (Some first) e is low h = subst (IsOfBytes (max 2 (length bytes))) (sym h) (record { near = omega (arith, low.near); named = low.named })
 
-pub refused-place : (bytes : List ℕ) (e : WireRefusal) → Refuses bytes e → e.at ≤ max 2 (length bytes)
+pub refused-place : (bytes : List ℕ) (e : WireRefusal) → Refuses bytes e → IsOfBytes (max 2 (length bytes)) e
 refused-place bytes e h = refused-place_by bytes (early bytes) e refl (early-place bytes) h
 
 pub answer-place : (bytes : List ℕ) (r : Result Message WireRefusal) → Answers r (λ m. spells m bytes) (Refuses bytes) → IfErr r (λ e. e.at ≤ max 2 (length bytes))
 answer-place bytes (Ok x) a = tt
 answer-place bytes (Err e) (inl memory) = omega (arith, ap (λ (d : WireRefusal). d.at) memory)
-answer-place bytes (Err e) (inr refused) = refused-place bytes e refused
+answer-place bytes (Err e) (inr refused) = (refused-place bytes e refused).near
 
 pub answer-sendable : (bytes : List ℕ) (r : Result Message WireRefusal) → Answers r (λ m. spells m bytes) (Refuses bytes) → IfOk r (λ m. length bytes < 2 ^ 16) → IfOk r (λ m. IsSendable m)
 answer-sendable bytes (Ok m) a short = sendable m bytes a short

@@ -23,7 +23,8 @@ use Rattle.of10_stats.proofs.ReplyLaws.{reply-once}
 use Rattle.of10_stats.proofs.QueueLaws.{queue_item}
 use Rattle.of10_msgs.specs.declared.message.Message.{Message}
 use Rattle.of10_msgs.specs.declared.message.Message.TheVariants.{Hello, Error, EchoRequest, EchoReply, Vendor, FeaturesRequest, FeaturesReply, GetConfigRequest, GetConfigReply, SetConfig, PacketIn, FlowRemoved, PortStatus, PacketOut, FlowMod, PortMod, StatsRequest, StatsReply, BarrierRequest, BarrierReply, QueueGetConfigRequest, QueueGetConfigReply}
-use Rattle.of10_msgs.specs.Messages.{message_slots, spells, frame, rest, kind_of}
+use Rattle.of10_wire.specs.Headers.{frame}
+use Rattle.of10_msgs.specs.Messages.{message_slots, spells, rest, kind_of}
 
 pub kind_stands : (m : Message) (bytes : List ℕ) → spells m bytes → number 1 1 bytes ≡ kind_of m
 unfolding Stand message_slots

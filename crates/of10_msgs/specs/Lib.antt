@@ -1,3 +1,4 @@
+pub mod Lengths
 pub mod Messages
 pub mod Refused
 pub mod Sending

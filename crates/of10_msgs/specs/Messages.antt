@@ -1,6 +1,7 @@
 -- The layout of each message.
-use Rattle.std.specs.Prelude.{ℕ, ◌≡◌, ◌+◌, List, [], ◌∷◌, ◌++◌, length}
+use Rattle.std.specs.Prelude.{ℕ, ◌≡◌, List, [], ◌∷◌, ◌++◌, length}
 use Rattle.std.specs.List.{flat_map}
+use Rattle.of10_wire.specs.Headers.{frame}
 use Rattle.of10_wire.specs.Layout.{Slot, Number, Raw, Pad, Spells, appended, width, number}
 use Rattle.of10_wire.specs.Parts.{match_slots, port_slots}
 use Rattle.of10_wire.specs.Actions.{action_slots}
@@ -9,14 +10,6 @@ use Rattle.of10_stats.specs.Replies.{reply_kind, reply_slots}
 use Rattle.of10_stats.specs.Queues.{queue_slots}
 use Rattle.of10_msgs.specs.declared.message.Message.{Message}
 use Rattle.of10_msgs.specs.declared.message.Message.TheVariants.{Hello, Error, EchoRequest, EchoReply, Vendor, FeaturesRequest, FeaturesReply, GetConfigRequest, GetConfigReply, SetConfig, PacketIn, FlowRemoved, PortStatus, PacketOut, FlowMod, PortMod, StatsRequest, StatsReply, BarrierRequest, BarrierReply, QueueGetConfigRequest, QueueGetConfigReply}
-
--- the header, whose length counts the whole, and the fields behind it
-abbrev pub frame : (version kind xid : ℕ) → List Slot → List Slot
-frame version kind xid fields = Number 1 version ∷ Number 1 kind ∷ Number 2 (8 + width fields) ∷ Number 4 xid ∷ fields
-
--- a header alone, which says that its frame has so many bytes
-abbrev pub header_of : (version kind len xid : ℕ) → List Slot
-header_of version kind len xid = Number 1 version ∷ Number 1 kind ∷ Number 2 len ∷ Number 4 xid ∷ []
 
 -- bytes to the end
 abbrev pub rest : List ℕ → List Slot
@@ -75,6 +68,11 @@ xid_of (BarrierRequest xid) = xid
 xid_of (BarrierReply xid) = xid
 xid_of (QueueGetConfigRequest xid port) = xid
 xid_of (QueueGetConfigReply xid port queues) = xid
+
+-- the reply to an echo request
+abbrev pub echoed : Message → Message
+echoed (EchoRequest xid body) = EchoReply xid body
+echoed message = message
 
 -- what stands behind the header
 abbrev pub fields_of : Message → List Slot

@@ -1,5 +1,5 @@
 -- The first reason why bytes are no message.
-use Rattle.std.specs.Prelude.{ℕ, ◌≡◌, ◌+◌, ◌-◌, ◌<◌, ◌≤◌, ◌%◌, ◌⊎◌, List, length, Option, Some, None, MatchOption, Bool, true, not, ◌==◌, ◌||◌, ◌&&◌, nat_lt, nat_le, if◌then◌else◌}
+use Rattle.std.specs.Prelude.{ℕ, ◌≡◌, ◌+◌, ◌-◌, ◌<◌, ◌≤◌, ◌⊎◌, List, length, Option, Some, None, MatchOption, true, false, not, ◌==◌, ◌&&◌, if◌then◌else◌}
 use Rattle.of10_wire.specs.declared.refusal.WireRefusal.{WireRefusal}
 use Rattle.of10_wire.specs.declared.refusal.WireWhy.TheVariants.{BadLength}
 use Rattle.of10_wire.specs.Refusals.{refusal}
@@ -9,41 +9,29 @@ use Rattle.of10_wire.specs.Actions.{IsRefusedAction}
 use Rattle.of10_stats.specs.Requests.{request_refusal}
 use Rattle.of10_stats.specs.Replies.{RefusesReply}
 use Rattle.of10_stats.specs.Queues.{queue_slots, RefusesQueue}
-use Rattle.of10_wire.specs.Headers.{header_refusal}
+use Rattle.of10_wire.specs.declared.rules.Opening.{Opening}
+use Rattle.of10_wire.specs.declared.rules.Opening.TheVariants.{Wants, Frame, Refused}
+use Rattle.of10_wire.specs.Headers.{is_kind, opening_of}
+use Rattle.of10_msgs.specs.Lengths.{allows_length}
 
--- whether the layout of a type allows a frame of this length: fixed layouts one length, the others a least one, and
--- a FEATURES_REPLY a whole number of ports
-abbrev pub allows_length : ℕ → ℕ → Bool
-allows_length kind len =
-    if (kind == 5) || (kind == 7) || (kind == 18) || (kind == 19) then len == 8
-    else if (kind == 8) || (kind == 9) || (kind == 20) then len == 12
-    else if kind == 11 then len == 88
-    else if kind == 12 then len == 64
-    else if kind == 15 then len == 32
-    else if (kind == 1) || (kind == 4) || (kind == 16) || (kind == 17) then nat_le 12 len
-    else if kind == 6 then nat_le 32 len && ((len - 32) % 48 == 0)
-    else if kind == 10 then nat_le 18 len
-    else if (kind == 13) || (kind == 21) then nat_le 16 len
-    else if kind == 14 then nat_le 72 len
-    else true
+-- what shows before the body is looked at, where the bytes begin so
+abbrev pub early_by : Opening → List ℕ → Option WireRefusal
+early_by (Wants n) bytes = Some (refusal 2 BadLength)
+early_by (Refused e) bytes = Some e
+early_by (Frame n) bytes = if (n == length bytes) && allows_length (number 1 1 bytes) n then None else Some (refusal 2 BadLength)
 
--- what a header that its own rules don't refuse shows of a frame of so many bytes
-abbrev pub frame_refusal : (kind told len : ℕ) → Option WireRefusal
-frame_refusal kind told len =
-    if not (told == len) then Some (refusal 2 BadLength)
-    else if not (allows_length kind len) then Some (refusal 2 BadLength)
-    else None
-
--- the refusal, or else what else there may be
-abbrev pub or_else : Option WireRefusal → Option WireRefusal → Option WireRefusal
-or_else (Some first) other = Some first
-or_else None other = other
-
--- what the header and the length already show
+-- what the header and the length already show: a header that its own rules refuse, or that tells another length than the
+-- bytes have, or than the layout of its type allows
 unfoldable pub early : List ℕ → Option WireRefusal
-early bytes =
-    if nat_lt (length bytes) 8 then Some (refusal 2 BadLength)
-    else or_else (header_refusal bytes) (frame_refusal (number 1 1 bytes) (number 2 2 bytes) (length bytes))
+early bytes = early_by (opening_of bytes) bytes
+
+-- A whole frame of a type of OpenFlow 1.0, of a length that its layout allows: only a HELLO may have another version than 1.
+pub record IsTypedFrame (bytes : List ℕ) : Type 0 where
+  pub long : 8 ≤ length bytes
+  pub version : (not (number 1 0 bytes == 1) && not (number 1 1 bytes == 0)) ≡ false
+  pub known : is_kind (number 1 1 bytes) ≡ true
+  pub len : number 2 2 bytes ≡ length bytes
+  pub allowed : allows_length (number 1 1 bytes) (length bytes) ≡ true
 
 -- how many bytes of actions a PACKET_OUT says that it has
 abbrev pub actions_len : List ℕ → ℕ

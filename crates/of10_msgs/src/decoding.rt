@@ -4,9 +4,10 @@ ghost use Rattle.std.specs.Prelude.{◌≡◌, ◌⊎◌, ◌≤◌, ◌<◌, �
 ghost use Rattle.of10_wire.specs.Refusals.{Answers, refusal, out_of_memory};
 ghost use Rattle.of10_msgs.specs.declared.message.Message.{Message};
 ghost use Rattle.of10_msgs.specs.Messages.{spells};
-ghost use Rattle.of10_msgs.specs.Refused.{early, allows_length, Refuses};
+ghost use Rattle.of10_msgs.specs.Refused.{IsTypedFrame, early, Late, Refuses};
 ghost use Rattle.of10_msgs.specs.Sending.{IsSendable};
 
+use crate::lengths::lengths_of;
 use crate::message::Message;
 use crate::reading::{
     barrier_reply, barrier_request, echo_reply, echo_request, error, features_reply,
@@ -14,7 +15,7 @@ use crate::reading::{
     packet_in, packet_out, port_mod, port_status, queue_get_config_reply, queue_get_config_request,
     set_config, stats_reply, stats_request, vendor,
 };
-use of10_wire::{WireRefusal, WireWhy, header_refusal, u8_at, u16_at};
+use of10_wire::{Opening, WireRefusal, WireWhy, opening_of, u8_at};
 use std::alloc::Global;
 
 fn refusal(at: usize, why: WireWhy) -> Option<WireRefusal>
@@ -23,55 +24,32 @@ fn refusal(at: usize, why: WireWhy) -> Option<WireRefusal>
     Some(WireRefusal { at, why })
 }
 
-/// Whether a frame of this type may have this length.
-fn allows_length(kind: u8, len: usize) -> bool
-    ensures { result ≡ allows_length kind len }
-{
-    match kind {
-        5 | 7 | 18 | 19 => len == 8,
-        8 | 9 | 20 => len == 12,
-        11 => len == 88,
-        12 => len == 64,
-        15 => len == 32,
-        1 | 4 | 16 | 17 => len >= 12,
-        6 => len >= 32 && (len - 32) % 48 == 0,
-        10 => len >= 18,
-        13 | 21 => len >= 16,
-        14 => len >= 72,
-        _ => true,
-    }
-}
-
 /// What the header and the length already show.
 #[tactic(auto, unfolding(crate::specs::Refused::early))]
 fn early_refusal(bytes: &[u8]) -> Option<WireRefusal>
     ensures exact { result ≡ early bytes.now }
+    ensures frame { IsNone result → IsTypedFrame bytes.now }
     ensures short { IsNone result → length bytes.now < 2 ^ 16 }
 {
-    if bytes.len() < 8 {
-        return refusal(2, WireWhy::BadLength);
+    match opening_of(bytes) {
+        Opening::Wants(_) => refusal(2, WireWhy::BadLength),
+        Opening::Refused(refusal) => Some(refusal),
+        Opening::Frame(len) => {
+            let lengths = lengths_of(u8_at(bytes, 1));
+            if len == bytes.len() && lengths.allows(len) {
+                None
+            } else {
+                refusal(2, WireWhy::BadLength)
+            }
+        }
     }
-    if let Some(refusal) = header_refusal(bytes) {
-        return Some(refusal);
-    }
-    if u16_at(bytes, 2) as usize != bytes.len() {
-        return refusal(2, WireWhy::BadLength);
-    }
-    let kind = u8_at(bytes, 1);
-    if !allows_length(kind, bytes.len()) {
-        return refusal(2, WireWhy::BadLength);
-    }
-    None
 }
 
-#[tactic(auto, unfolding(crate::specs::Refused::early, of10_wire::specs::Headers::header_refusal))]
-fn read(alloc: Global, bytes: &[u8]) -> Result<Message, WireRefusal>
-    ensures answer { Answers result (λ m. spells m bytes.now) (Refuses bytes.now) }
-    ensures short { IfOk result (λ m. length bytes.now < 2 ^ 16) }
+/// The message that a whole frame is.
+fn read_frame(alloc: Global, bytes: &[u8]) -> Result<Message, WireRefusal>
+    requires { IsTypedFrame bytes.now }
+    ensures { Answers result (λ m. spells m bytes.now) (Late bytes.now) }
 {
-    if let Some(refusal) = early_refusal(bytes) {
-        return Err(refusal);
-    }
     match u8_at(bytes, 1) {
         0 => Ok(hello(alloc, bytes)?),
         1 => Ok(error(alloc, bytes)?),
@@ -95,6 +73,16 @@ fn read(alloc: Global, bytes: &[u8]) -> Result<Message, WireRefusal>
         19 => Ok(barrier_reply(bytes)),
         20 => Ok(queue_get_config_request(bytes)),
         _ => queue_get_config_reply(alloc, bytes),
+    }
+}
+
+fn read(alloc: Global, bytes: &[u8]) -> Result<Message, WireRefusal>
+    ensures answer { Answers result (λ m. spells m bytes.now) (Refuses bytes.now) }
+    ensures short { IfOk result (λ m. length bytes.now < 2 ^ 16) }
+{
+    match early_refusal(bytes) {
+        Some(refusal) => Err(refusal),
+        None => read_frame(alloc, bytes),
     }
 }
 

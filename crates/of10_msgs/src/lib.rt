@@ -4,16 +4,17 @@
 
 mod decoding;
 mod laws;
+mod lengths;
 mod message;
 mod reading;
 mod writing;
 
 pub use decoding::decode;
-pub use laws::{again, one_reading};
+pub use laws::{again, one_reading, refusal_named};
 pub use message::Message;
 pub use writing::{encode, is_sendable};
 
 #[cfg(test)]
-mod stats_tests;
+mod rows;
 #[cfg(test)]
 mod tests;

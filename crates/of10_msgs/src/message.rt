@@ -1,11 +1,13 @@
 //! Messages.
 
+ghost use Rattle.std.specs.Prelude.{◌≡◌};
+ghost use Rattle.of10_msgs.specs.Messages.{version_of, kind_of, xid_of, echoed};
+
 use of10_stats::{Queues, StatsReply, StatsRequest};
 use of10_wire::{Actions, Body, FlowMatch, PhyPort, Ports};
 
 /// A message of OpenFlow 1.0 (OpenFlow Switch Specification 1.0.0, section 5). Pads, lengths and the numbers that
 /// choose a variant are no fields. Every value of each field is kept.
-#[derive(Debug, Drop)]
 pub enum Message {
     /// The first message of either side, with the highest version that it speaks (section 5.5.1).
     Hello {
@@ -156,4 +158,214 @@ pub enum Message {
         port: u16,
         queues: Queues,
     },
+}
+
+impl Message {
+    /// The version in the header.
+    pub fn version(&self) -> u8
+        ensures { result ≡ version_of self.now }
+    {
+        match self {
+            Message::Hello { version, .. } => *version,
+            _ => 1,
+        }
+    }
+
+    /// The number of the type.
+    pub fn kind(&self) -> u8
+        ensures { result ≡ kind_of self.now }
+    {
+        match self {
+            Message::Hello { .. } => 0,
+            Message::Error { .. } => 1,
+            Message::EchoRequest { .. } => 2,
+            Message::EchoReply { .. } => 3,
+            Message::Vendor { .. } => 4,
+            Message::FeaturesRequest { .. } => 5,
+            Message::FeaturesReply { .. } => 6,
+            Message::GetConfigRequest { .. } => 7,
+            Message::GetConfigReply { .. } => 8,
+            Message::SetConfig { .. } => 9,
+            Message::PacketIn { .. } => 10,
+            Message::FlowRemoved { .. } => 11,
+            Message::PortStatus { .. } => 12,
+            Message::PacketOut { .. } => 13,
+            Message::FlowMod { .. } => 14,
+            Message::PortMod { .. } => 15,
+            Message::StatsRequest { .. } => 16,
+            Message::StatsReply { .. } => 17,
+            Message::BarrierRequest { .. } => 18,
+            Message::BarrierReply { .. } => 19,
+            Message::QueueGetConfigRequest { .. } => 20,
+            Message::QueueGetConfigReply { .. } => 21,
+        }
+    }
+
+    /// The number that pairs a reply with its request.
+    pub fn xid(&self) -> u32
+        ensures { result ≡ xid_of self.now }
+    {
+        match self {
+            Message::Hello { xid, .. }
+            | Message::Error { xid, .. }
+            | Message::EchoRequest { xid, .. }
+            | Message::EchoReply { xid, .. }
+            | Message::Vendor { xid, .. }
+            | Message::FeaturesRequest { xid }
+            | Message::FeaturesReply { xid, .. }
+            | Message::GetConfigRequest { xid }
+            | Message::GetConfigReply { xid, .. }
+            | Message::SetConfig { xid, .. }
+            | Message::PacketIn { xid, .. }
+            | Message::FlowRemoved { xid, .. }
+            | Message::PortStatus { xid, .. }
+            | Message::PacketOut { xid, .. }
+            | Message::FlowMod { xid, .. }
+            | Message::PortMod { xid, .. }
+            | Message::StatsRequest { xid, .. }
+            | Message::StatsReply { xid, .. }
+            | Message::BarrierRequest { xid }
+            | Message::BarrierReply { xid }
+            | Message::QueueGetConfigRequest { xid, .. }
+            | Message::QueueGetConfigReply { xid, .. } => *xid,
+        }
+    }
+}
+
+impl Message {
+    /// The reply to an echo request, with its number and its bytes; any other message as it is. It takes no memory.
+    pub fn into_echo_reply(self) -> Message
+        ensures { result ≡ echoed self }
+    {
+        match self {
+            Message::EchoRequest { xid, body } => Message::EchoReply { xid, body },
+            other => other,
+        }
+    }
+}
+
+impl Drop for Message {
+    fn drop(self) {
+        match self {
+            Message::Hello {
+                xid: _xid,
+                version: _version,
+                body: _body,
+            } => {}
+            Message::Error {
+                xid: _xid,
+                kind: _kind,
+                code: _code,
+                body: _body,
+            } => {}
+            Message::EchoRequest {
+                xid: _xid,
+                body: _body,
+            } => {}
+            Message::EchoReply {
+                xid: _xid,
+                body: _body,
+            } => {}
+            Message::Vendor {
+                xid: _xid,
+                vendor: _vendor,
+                body: _body,
+            } => {}
+            Message::FeaturesRequest { xid: _xid } => {}
+            Message::FeaturesReply {
+                xid: _xid,
+                datapath_id: _datapath_id,
+                n_buffers: _n_buffers,
+                n_tables: _n_tables,
+                capabilities: _capabilities,
+                actions: _actions,
+                ports: _ports,
+            } => {}
+            Message::GetConfigRequest { xid: _xid } => {}
+            Message::GetConfigReply {
+                xid: _xid,
+                flags: _flags,
+                miss_send_len: _miss_send_len,
+            } => {}
+            Message::SetConfig {
+                xid: _xid,
+                flags: _flags,
+                miss_send_len: _miss_send_len,
+            } => {}
+            Message::PacketIn {
+                xid: _xid,
+                buffer_id: _buffer_id,
+                total_len: _total_len,
+                in_port: _in_port,
+                reason: _reason,
+                body: _body,
+            } => {}
+            Message::FlowRemoved {
+                xid: _xid,
+                flow: _flow,
+                cookie: _cookie,
+                priority: _priority,
+                reason: _reason,
+                duration_sec: _duration_sec,
+                duration_nsec: _duration_nsec,
+                idle_timeout: _idle_timeout,
+                packet_count: _packet_count,
+                byte_count: _byte_count,
+            } => {}
+            Message::PortStatus {
+                xid: _xid,
+                reason: _reason,
+                desc: _desc,
+            } => {}
+            Message::PacketOut {
+                xid: _xid,
+                buffer_id: _buffer_id,
+                in_port: _in_port,
+                actions: _actions,
+                body: _body,
+            } => {}
+            Message::FlowMod {
+                xid: _xid,
+                flow: _flow,
+                cookie: _cookie,
+                command: _command,
+                idle_timeout: _idle_timeout,
+                hard_timeout: _hard_timeout,
+                priority: _priority,
+                buffer_id: _buffer_id,
+                out_port: _out_port,
+                flags: _flags,
+                actions: _actions,
+            } => {}
+            Message::PortMod {
+                xid: _xid,
+                port_no: _port_no,
+                hw_addr: _hw_addr,
+                config: _config,
+                mask: _mask,
+                advertise: _advertise,
+            } => {}
+            Message::StatsRequest {
+                xid: _xid,
+                flags: _flags,
+                body: _body,
+            } => {}
+            Message::StatsReply {
+                xid: _xid,
+                flags: _flags,
+                body: _body,
+            } => {}
+            Message::BarrierRequest { xid: _xid } => {}
+            Message::BarrierReply { xid: _xid } => {}
+            Message::QueueGetConfigRequest {
+                xid: _xid,
+                port: _port,
+            } => {}
+            Message::QueueGetConfigReply {
+                xid: _xid,
+                port: _port,
+                queues: _queues,
+            } => {}
+        }
+    }
 }

@@ -5,96 +5,17 @@ ghost use Rattle.std.specs.List.{flat_map, AllByRecursion};
 ghost use Rattle.of10_wire.specs.Actions.{action_slots, IsProper};
 ghost use Rattle.of10_wire.specs.Layout.{width};
 ghost use Rattle.of10_wire.specs.Writing.{Writes};
-ghost use Rattle.of10_msgs.specs.Messages.{message_slots, header_of, version_of, kind_of, xid_of, fields_of, rest, spells, zeroed};
+ghost use Rattle.of10_msgs.specs.Messages.{message_slots, kind_of, fields_of, rest, spells, zeroed};
+ghost use Rattle.of10_msgs.specs.Lengths.{lengths_of, least};
 ghost use Rattle.of10_msgs.specs.Sending.{IsProperMessage, IsSendable};
 
+use crate::lengths::lengths_of;
 use crate::message::Message;
 use of10_wire::{
-    Action, Body, Part, are_proper, len_all, put_all, put_bytes, put_pad, put_u8, put_u16, put_u32,
-    put_u64,
+    Action, Body, Header, Part, are_proper, capped, len_all, put_all, put_bytes, put_pad, put_u8,
+    put_u16, put_u32, put_u64,
 };
 use std::alloc::AllocError;
-
-/// The version in the message's header.
-fn version(message: &Message) -> u8
-    ensures { result ≡ version_of message.now }
-{
-    match message {
-        Message::Hello { version, .. } => *version,
-        _ => 1,
-    }
-}
-
-/// The number of the message's type.
-fn kind(message: &Message) -> u8
-    ensures { result ≡ kind_of message.now }
-{
-    match message {
-        Message::Hello { .. } => 0,
-        Message::Error { .. } => 1,
-        Message::EchoRequest { .. } => 2,
-        Message::EchoReply { .. } => 3,
-        Message::Vendor { .. } => 4,
-        Message::FeaturesRequest { .. } => 5,
-        Message::FeaturesReply { .. } => 6,
-        Message::GetConfigRequest { .. } => 7,
-        Message::GetConfigReply { .. } => 8,
-        Message::SetConfig { .. } => 9,
-        Message::PacketIn { .. } => 10,
-        Message::FlowRemoved { .. } => 11,
-        Message::PortStatus { .. } => 12,
-        Message::PacketOut { .. } => 13,
-        Message::FlowMod { .. } => 14,
-        Message::PortMod { .. } => 15,
-        Message::StatsRequest { .. } => 16,
-        Message::StatsReply { .. } => 17,
-        Message::BarrierRequest { .. } => 18,
-        Message::BarrierReply { .. } => 19,
-        Message::QueueGetConfigRequest { .. } => 20,
-        Message::QueueGetConfigReply { .. } => 21,
-    }
-}
-
-fn xid(message: &Message) -> u32
-    ensures { result ≡ xid_of message.now }
-{
-    match message {
-        Message::Hello { xid, .. }
-        | Message::Error { xid, .. }
-        | Message::EchoRequest { xid, .. }
-        | Message::EchoReply { xid, .. }
-        | Message::Vendor { xid, .. }
-        | Message::FeaturesRequest { xid }
-        | Message::FeaturesReply { xid, .. }
-        | Message::GetConfigRequest { xid }
-        | Message::GetConfigReply { xid, .. }
-        | Message::SetConfig { xid, .. }
-        | Message::PacketIn { xid, .. }
-        | Message::FlowRemoved { xid, .. }
-        | Message::PortStatus { xid, .. }
-        | Message::PacketOut { xid, .. }
-        | Message::FlowMod { xid, .. }
-        | Message::PortMod { xid, .. }
-        | Message::StatsRequest { xid, .. }
-        | Message::StatsReply { xid, .. }
-        | Message::BarrierRequest { xid }
-        | Message::BarrierReply { xid }
-        | Message::QueueGetConfigRequest { xid, .. }
-        | Message::QueueGetConfigReply { xid, .. } => *xid,
-    }
-}
-
-/// The header of a frame of this length.
-fn put_header(out: &mut Vec<u8>, version: u8, kind: u8, len: usize, xid: u32)
-    requires room { vec_len out.old + 8 ≤ vec_capacity out.old }
-    requires short { len < 2 ^ 16 }
-    ensures { Writes out.old out.new (header_of version kind len xid) }
-{
-    put_u8(out, version);
-    put_u8(out, kind);
-    put_u16(out, len as u16);
-    put_u32(out, xid);
-}
 
 /// The actions, and then the bytes.
 #[tactic(auto, using(crate::proofs::Tails::width_tail))]
@@ -298,42 +219,46 @@ fn put_message(out: &mut Vec<u8>, message: &Message, len: usize)
     requires proper { IsProperMessage message.now }
     ensures { Writes out.old out.new (message_slots message.now) }
 {
-    put_header(out, version(message), kind(message), len, xid(message));
+    let header = Header {
+        version: message.version(),
+        kind: message.kind(),
+        length: len as u16,
+        xid: message.xid(),
+    };
+    header.put(out);
     put_fields(out, message);
 }
 
-/// How many bytes the message takes, up to 65,536.
+/// How many bytes the message takes beyond those that each of its type has, up to 131,072.
 #[tactic(auto, using(crate::proofs::Tails::width_tail), unfolding(crate::specs::Messages::message_slots, of10_wire::specs::Parts::match_slots, of10_wire::specs::Parts::port_slots))]
+fn more_len(message: &Message) -> usize
+    ensures len { min (least (lengths_of (kind_of message.now)) + result) 65536 ≡ min (width (message_slots message.now)) 65536 }
+    ensures small { result ≤ 131072 }
+{
+    match message {
+        Message::Hello { body, .. } => capped(body.len()),
+        Message::Error { body, .. } => capped(body.len()),
+        Message::EchoRequest { body, .. } => capped(body.len()),
+        Message::EchoReply { body, .. } => capped(body.len()),
+        Message::Vendor { body, .. } => capped(body.len()),
+        Message::FeaturesReply { ports, .. } => len_all(ports.as_slice()),
+        Message::PacketIn { body, .. } => capped(body.len()),
+        Message::PacketOut { actions, body, .. } => {
+            len_all(actions.as_slice()) + capped(body.len())
+        }
+        Message::FlowMod { actions, .. } => len_all(actions.as_slice()),
+        Message::StatsRequest { body, .. } => body.len(),
+        Message::StatsReply { body, .. } => body.len(),
+        Message::QueueGetConfigReply { queues, .. } => len_all(queues.as_slice()),
+        _ => 0,
+    }
+}
+
+/// How many bytes the message takes, up to 65,536.
 fn message_len(message: &Message) -> usize
     ensures { result ≡ min (width (message_slots message.now)) 65536 }
 {
-    let len = match message {
-        Message::Hello { body, .. } => 8 + body.len().min(65536),
-        Message::Error { body, .. } => 12 + body.len().min(65536),
-        Message::EchoRequest { body, .. } => 8 + body.len().min(65536),
-        Message::EchoReply { body, .. } => 8 + body.len().min(65536),
-        Message::Vendor { body, .. } => 12 + body.len().min(65536),
-        Message::FeaturesRequest { .. } => 8,
-        Message::FeaturesReply { ports, .. } => 32 + len_all(ports.as_slice()),
-        Message::GetConfigRequest { .. } => 8,
-        Message::GetConfigReply { .. } => 12,
-        Message::SetConfig { .. } => 12,
-        Message::PacketIn { body, .. } => 18 + body.len().min(65536),
-        Message::FlowRemoved { .. } => 88,
-        Message::PortStatus { .. } => 64,
-        Message::PacketOut { actions, body, .. } => {
-            16 + len_all(actions.as_slice()) + body.len().min(65536)
-        }
-        Message::FlowMod { actions, .. } => 72 + len_all(actions.as_slice()),
-        Message::PortMod { .. } => 32,
-        Message::StatsRequest { body, .. } => 12 + body.len(),
-        Message::StatsReply { body, .. } => 12 + body.len(),
-        Message::BarrierRequest { .. } => 8,
-        Message::BarrierReply { .. } => 8,
-        Message::QueueGetConfigRequest { .. } => 12,
-        Message::QueueGetConfigReply { queues, .. } => 16 + len_all(queues.as_slice()),
-    };
-    len.min(65536)
+    capped(lengths_of(message.kind()).least() + more_len(message))
 }
 
 /// Whether the message's parts can be written.

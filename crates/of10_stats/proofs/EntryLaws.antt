@@ -93,7 +93,7 @@ entry_nest = record {
 }
 
 pub entry_item : IsItem entry_slots RefusesEntry
-entry_item = nest_item entry_slots action_slots is_no_entry entry_len 88 entry_nest RefusesAction action_item BadStat
+entry_item = nest_item entry_slots action_slots is_no_entry entry_len 88 entry_nest RefusesAction action_item BadStat (λ is. absurd cc)
 
 -- what stands can be written
 entry_proper : (i : ℕ) (x : FlowEntry) (bytes : List ℕ) → Stand i (entry_slots x) bytes → IsProperEntry x

@@ -9,13 +9,14 @@ use Rattle.of10_wire.specs.Layout.{width, number, part, Stand}
 use Rattle.of10_wire.proofs.Standing.{length-part}
 use Rattle.of10_wire.proofs.Items.{items-proper}
 use Rattle.of10_wire.proofs.Once.{IsPart, items-once}
-use Rattle.of10_wire.proofs.Listed.{Front, IsItem}
+use Rattle.of10_wire.proofs.Tests.{refusal_is}
+use Rattle.of10_wire.proofs.Listed.{PartOrRefusal, IsItem}
 use Rattle.of10_wire.proofs.Nested.{IsNest, nest_item}
 use Rattle.of10_stats.proofs.Told.{told_begun, told_fits}
 use Rattle.of10_stats.specs.declared.queue.QueueProperty.{QueueProperty}
 use Rattle.of10_stats.specs.declared.queue.QueueProperty.TheVariants.{MinRate, Other}
 use Rattle.of10_stats.specs.declared.queue.Queue.{Queue}
-use Rattle.of10_stats.specs.Queues.{property_slots, allows_len, is_no_property, IsProperProperty, RefusesProperty, queue_slots, queue_len, is_no_queue, IsProperQueue, RefusesQueue}
+use Rattle.of10_stats.specs.Queues.{property_slots, allows_property_len, is_no_property, IsProperProperty, RefusesProperty, queue_slots, queue_len, is_no_queue, IsProperQueue, RefusesQueue}
 
 -- ---- properties
 
@@ -37,11 +38,11 @@ property-positive (Other kind body) = omega arith
 pub property_part : IsPart property_slots
 property_part = record { once = property-once; positive = property-positive }
 
-good_from : (bytes : List ℕ) (kind len : ℕ) → number 2 0 bytes ≡ kind → number 2 2 bytes ≡ len → allows_len kind len ≡ true → 8 ≤ len → len ≤ length bytes → is_no_property bytes ≡ false
+good_from : (bytes : List ℕ) (kind len : ℕ) → number 2 0 bytes ≡ kind → number 2 2 bytes ≡ len → allows_property_len kind len ≡ true → 8 ≤ len → len ≤ length bytes → is_no_property bytes ≡ false
 unfolding is_no_property
 good_from bytes kind len h k allowed long within = rw (h, k, allowed, le-ltb (length bytes) 8 (omega arith), le-ltb (length bytes) len within) refl
 
-other_len : (kind len : ℕ) → kind ≢ 1 → 8 ≤ len → allows_len kind len ≡ true
+other_len : (kind len : ℕ) → kind ≢ 1 → 8 ≤ len → allows_property_len kind len ≡ true
 other_len kind len other long = rw (ne_eqb kind 1 other, le-leb 8 len long) refl
 
 -- Where a property stands, and fits, nothing is bad.
@@ -54,33 +55,33 @@ property-kept : (x : QueueProperty) (place : ℕ) (bytes : List ℕ) (e : WireRe
 property-kept x place bytes e h le r = both_ways (is_no_property bytes) (property-good x bytes h le) r.0
 
 -- what bytes show that begin with a property
-record Begun (bytes : List ℕ) : Type 0 where
-  pub allowed : allows_len (number 2 0 bytes) (number 2 2 bytes) ≡ true
+record BegunProperty (bytes : List ℕ) : Type 0 where
+  pub allowed : allows_property_len (number 2 0 bytes) (number 2 2 bytes) ≡ true
   pub within : number 2 2 bytes ≤ length bytes
 
-begun : (bytes : List ℕ) → is_no_property bytes ≡ false → Begun bytes
+begun : (bytes : List ℕ) → is_no_property bytes ≡ false → BegunProperty bytes
 unfolding is_no_property
 begun bytes h =
-    let parts = or_parts (ltb (length bytes) 8 || not (allows_len (number 2 0 bytes) (number 2 2 bytes))) (ltb (length bytes) (number 2 2 bytes)) h in
-    let first = or_parts (ltb (length bytes) 8) (not (allows_len (number 2 0 bytes) (number 2 2 bytes))) parts.0 in
-    record { allowed = not-false (allows_len (number 2 0 bytes) (number 2 2 bytes)) first.1; within = ltb-false (length bytes) (number 2 2 bytes) parts.1 }
+    let parts = or_parts (ltb (length bytes) 8 || not (allows_property_len (number 2 0 bytes) (number 2 2 bytes))) (ltb (length bytes) (number 2 2 bytes)) h in
+    let first = or_parts (ltb (length bytes) 8) (not (allows_property_len (number 2 0 bytes) (number 2 2 bytes))) parts.0 in
+    record { allowed = not-false (allows_property_len (number 2 0 bytes) (number 2 2 bytes)) first.1; within = ltb-false (length bytes) (number 2 2 bytes) parts.1 }
 
 abbrev There : List ℕ → Type 0
 There bytes = (x : QueueProperty) × Stand 0 (property_slots x) bytes × (width (property_slots x) ≤ length bytes)
 
-min_rate : (bytes : List ℕ) → Begun bytes → number 2 0 bytes ≡ 1 → There bytes
+min_rate : (bytes : List ℕ) → BegunProperty bytes → number 2 0 bytes ≡ 1 → There bytes
 unfolding Stand property_slots
 min_rate bytes b is =
-    let allowed : allows_len 1 (number 2 2 bytes) ≡ true = rw is at b.allowed in
+    let allowed : allows_property_len 1 (number 2 2 bytes) ≡ true = rw is at b.allowed in
     let len : number 2 2 bytes ≡ 16 = eqb-true (number 2 2 bytes) 16 allowed in
     (MinRate (number 2 8 bytes), (is, (len, (refl, tt))), omega (arith, len, b.within))
 
-other_long : (kind len : ℕ) → kind ≢ 1 → allows_len kind len ≡ true → 8 ≤ len
+other_long : (kind len : ℕ) → kind ≢ 1 → allows_property_len kind len ≡ true → 8 ≤ len
 other_long kind len other h =
     let test : leb 8 len ≡ true = rw (ne_eqb kind 1 other) at h in
     leb-true 8 len test
 
-other : (bytes : List ℕ) → Begun bytes → number 2 0 bytes ≢ 1 → There bytes
+other : (bytes : List ℕ) → BegunProperty bytes → number 2 0 bytes ≢ 1 → There bytes
 unfolding Stand property_slots
 other bytes b is =
     let long : 8 ≤ number 2 2 bytes = other_long (number 2 0 bytes) (number 2 2 bytes) is b.allowed in
@@ -89,13 +90,13 @@ other bytes b is =
     let body : part (length (part n 8 bytes)) 8 bytes ≡ part n 8 bytes = ap (λ (m : ℕ). part m 8 bytes) len in
     (Other (number 2 0 bytes) (part n 8 bytes), (refl, is, (omega (arith, len, long), (body, tt))), omega (arith, len, long, b.within))
 
-there : (bytes : List ℕ) → Begun bytes → There bytes
+there : (bytes : List ℕ) → BegunProperty bytes → There bytes
 there bytes b = elim (cases_eq (number 2 0 bytes) 1) [
   | inl is ↦ min_rate bytes b is
   | inr isnt ↦ other bytes b isnt
 ]
 
-property_front : (place : ℕ) (bytes : List ℕ) (bad : Bool) → is_no_property bytes ≡ bad → Front property_slots RefusesProperty place bytes
+property_front : (place : ℕ) (bytes : List ℕ) (bad : Bool) → is_no_property bytes ≡ bad → PartOrRefusal property_slots RefusesProperty place bytes
 property_front place bytes true is = inr (refusal place BadProperty, (is, refl))
 property_front place bytes false is = inl (there bytes (begun bytes is))
 
@@ -104,7 +105,7 @@ property_item = record {
   part = property_part;
   kept = property-kept;
   refused-once = λ place bytes d e h k. h.1 ∙ sym k.1;
-  refused-within = λ place bytes e h. omega (arith, ap (λ (e : WireRefusal). e.at) h.1);
+  refused-within = λ place bytes e h. refusal_is place (place + length bytes) BadProperty e (omega arith) (λ is. absurd cc) h.1;
   front = λ place bytes. property_front place bytes (is_no_property bytes) refl;
 }
 
@@ -165,7 +166,7 @@ queue_nest = record {
 }
 
 pub queue_item : IsItem queue_slots RefusesQueue
-queue_item = nest_item queue_slots property_slots is_no_queue queue_len 8 queue_nest RefusesProperty property_item BadProperty
+queue_item = nest_item queue_slots property_slots is_no_queue queue_len 8 queue_nest RefusesProperty property_item BadProperty (λ is. absurd cc)
 
 -- what stands can be written
 queue_proper : (i : ℕ) (x : Queue) (bytes : List ℕ) → Stand i (queue_slots x) bytes → IsProperQueue x

@@ -5,6 +5,7 @@ use Rattle.std.specs.Prelude.{IfSome}
 use Rattle.std.proofs.lemmas.Bool.{eq-eqb, eqb-true, le-leb, leb-true}
 use Rattle.std.specs.List.{flat_map}
 use Rattle.of10_wire.specs.declared.refusal.WireRefusal.{WireRefusal}
+use Rattle.of10_wire.specs.Refusals.{IsOfBytes}
 use Rattle.of10_wire.specs.Layout.{width, number, part, Stand}
 use Rattle.of10_wire.specs.Lists.{IsRefusedIn}
 use Rattle.of10_wire.proofs.Standing.{length-part, bytes_from, length-bytes_from, rest-stands}
@@ -24,7 +25,7 @@ use Rattle.of10_stats.specs.Kinds.{is_stats_kind}
 use Rattle.of10_stats.specs.Counters.{table_slots, port_counters_slots, queue_counters_slots}
 use Rattle.of10_stats.specs.Entries.{entry_slots, RefusesEntry}
 use Rattle.of10_stats.specs.Replies.{reply_kind, reply_slots, allows_reply, reply_refusal, IsReply, IsProperReply, RefusesReply}
-use Rattle.of10_stats.proofs.KindLaws.{Begun, begun, allowed, by_kind, low_refusal}
+use Rattle.of10_stats.proofs.KindLaws.{BegunBody, begun, allowed, by_kind, low_refusal}
 use Rattle.of10_stats.proofs.CounterLaws.{table_fixed, port_counters_fixed, queue_counters_fixed}
 use Rattle.of10_stats.proofs.EntryLaws.{entry_item, entries_proper}
 
@@ -128,18 +129,18 @@ reply-refused-once bytes d e (inl h) (inr k) = absurd (not_both bytes d h k.0)
 reply-refused-once bytes d e (inr h) (inl k) = absurd (not_both bytes e k h.0)
 reply-refused-once bytes d e (inr h) (inr k) = items-refused-once entry_slots RefusesEntry entry_item 12 (part (length bytes - 12) 12 bytes) d e h.1 k.1
 
-front : (bytes : List ℕ) → IfSome (reply_refusal bytes) (λ d. d.at ≤ 12)
+front : (bytes : List ℕ) → IfSome (reply_refusal bytes) (IsOfBytes 12)
 unfolding reply_refusal
 front bytes = low_refusal allows_reply bytes
 
-pub reply-within : (bytes : List ℕ) (e : WireRefusal) → 12 ≤ length bytes → RefusesReply bytes e → e.at ≤ length bytes
+pub reply-within : (bytes : List ℕ) (e : WireRefusal) → 12 ≤ length bytes → RefusesReply bytes e → IsOfBytes (length bytes) e
 reply-within bytes e long (inl r) =
     let low = front bytes in
-    let near : e.at ≤ 12 = rw r at low in
-    omega (arith, near, long)
+    let told : IsOfBytes 12 e = rw r at low in
+    record { near = omega (arith, told.near, long); named = told.named }
 reply-within bytes e long (inr r) =
-    let near = items-refused-within entry_slots RefusesEntry entry_item 12 (part (length bytes - 12) 12 bytes) e r.1 in
-    omega (arith, near, length-part (length bytes - 12) 12 bytes (omega (arith, long)), long)
+    let told = items-refused-within entry_slots RefusesEntry entry_item 12 (part (length bytes - 12) 12 bytes) e r.1 in
+    record { near = omega (arith, told.near, length-part (length bytes - 12) 12 bytes (omega (arith, long)), long); named = told.named }
 
 -- what stands can be written
 flow_proper : (a : List FlowEntry) (bytes : List ℕ) → IsReply bytes (Flow a) → IsProperReply (Flow a)
@@ -152,57 +153,57 @@ reply_proper x bytes h = tt
 
 -- ---- a reply or a refusal
 
-abbrev pub ReplyFound : List ℕ → Type 0
-ReplyFound bytes = ((x : StatsReply) × IsReply bytes x) ⊎ ((e : WireRefusal) × RefusesReply bytes e)
+abbrev pub ReplyOrRefusal : List ℕ → Type 0
+ReplyOrRefusal bytes = ((x : StatsReply) × IsReply bytes x) ⊎ ((e : WireRefusal) × RefusesReply bytes e)
 
-begun_by : (bytes : List ℕ) → 12 ≤ length bytes → reply_refusal bytes ≡ None → Begun allows_reply bytes
+begun_by : (bytes : List ℕ) → 12 ≤ length bytes → reply_refusal bytes ≡ None → BegunBody allows_reply bytes
 unfolding reply_refusal
 begun_by bytes long h = begun allows_reply bytes long h
 
-desc : (bytes : List ℕ) → Begun allows_reply bytes → number 2 8 bytes ≡ 0 → ReplyFound bytes
+desc : (bytes : List ℕ) → BegunBody allows_reply bytes → number 2 8 bytes ≡ 0 → ReplyOrRefusal bytes
 unfolding Stand reply_slots
 desc bytes b is =
     let len = eqb-true (length bytes - 12) 1056 (allowed allows_reply 0 bytes b is) in
     inl (Desc (part 256 12 bytes) (part 256 268 bytes) (part 256 524 bytes) (part 32 780 bytes) (part 256 812 bytes), record { kind = is; stand = (refl, (refl, (refl, (refl, (refl, tt))))); whole = omega (arith, len, b.long) })
 
-flow_list : (bytes : List ℕ) → Begun allows_reply bytes → number 2 8 bytes ≡ 1 → listed.Found entry_slots RefusesEntry 12 (part (length bytes - 12) 12 bytes) → ReplyFound bytes
+flow_list : (bytes : List ℕ) → BegunBody allows_reply bytes → number 2 8 bytes ≡ 1 → listed.ListOrRefusal entry_slots RefusesEntry 12 (part (length bytes - 12) 12 bytes) → ReplyOrRefusal bytes
 unfolding reply_slots
 flow_list bytes b is (inl (entries, h)) =
     let there = part-whole 12 (length bytes - 12) (flat_map entry_slots entries) bytes (omega (arith, b.long)) h in
     inl (Flow entries, record { kind = is; stand = there.0; whole = omega (arith, there.1, b.long) })
 flow_list bytes b is (inr (e, r)) = inr (e, inr (is, r))
 
-flow : (bytes : List ℕ) → Begun allows_reply bytes → number 2 8 bytes ≡ 1 → ReplyFound bytes
+flow : (bytes : List ℕ) → BegunBody allows_reply bytes → number 2 8 bytes ≡ 1 → ReplyOrRefusal bytes
 flow bytes b is = flow_list bytes b is (items-found entry_slots RefusesEntry entry_item 12 (part (length bytes - 12) 12 bytes))
 
-aggregate : (bytes : List ℕ) → Begun allows_reply bytes → number 2 8 bytes ≡ 2 → ReplyFound bytes
+aggregate : (bytes : List ℕ) → BegunBody allows_reply bytes → number 2 8 bytes ≡ 2 → ReplyOrRefusal bytes
 unfolding Stand reply_slots
 aggregate bytes b is =
     let len = eqb-true (length bytes - 12) 24 (allowed allows_reply 2 bytes b is) in
     inl (Aggregate (number 8 12 bytes) (number 8 20 bytes) (number 4 28 bytes), record { kind = is; stand = (refl, (refl, (refl, tt))); whole = omega (arith, len, b.long) })
 
-table : (bytes : List ℕ) → Begun allows_reply bytes → number 2 8 bytes ≡ 3 → ReplyFound bytes
+table : (bytes : List ℕ) → BegunBody allows_reply bytes → number 2 8 bytes ≡ 3 → ReplyOrRefusal bytes
 unfolding reply_slots
 table bytes b is =
     let rem : (length bytes - 12) % 64 ≡ 0 = eqb-true ((length bytes - 12) % 64) 0 (allowed allows_reply 3 bytes b is) in
     let has = fixed-found table_slots 64 table_fixed ((length bytes - 12) / 64) 12 bytes in
     inl (Table has.list, record { kind = is; stand = has.stand; whole = omega (arith, has.wide, rem, b.long) })
 
-port : (bytes : List ℕ) → Begun allows_reply bytes → number 2 8 bytes ≡ 4 → ReplyFound bytes
+port : (bytes : List ℕ) → BegunBody allows_reply bytes → number 2 8 bytes ≡ 4 → ReplyOrRefusal bytes
 unfolding reply_slots
 port bytes b is =
     let rem : (length bytes - 12) % 104 ≡ 0 = eqb-true ((length bytes - 12) % 104) 0 (allowed allows_reply 4 bytes b is) in
     let has = fixed-found port_counters_slots 104 port_counters_fixed ((length bytes - 12) / 104) 12 bytes in
     inl (Port has.list, record { kind = is; stand = has.stand; whole = omega (arith, has.wide, rem, b.long) })
 
-queue : (bytes : List ℕ) → Begun allows_reply bytes → number 2 8 bytes ≡ 5 → ReplyFound bytes
+queue : (bytes : List ℕ) → BegunBody allows_reply bytes → number 2 8 bytes ≡ 5 → ReplyOrRefusal bytes
 unfolding reply_slots
 queue bytes b is =
     let rem : (length bytes - 12) % 32 ≡ 0 = eqb-true ((length bytes - 12) % 32) 0 (allowed allows_reply 5 bytes b is) in
     let has = fixed-found queue_counters_slots 32 queue_counters_fixed ((length bytes - 12) / 32) 12 bytes in
     inl (Queue has.list, record { kind = is; stand = has.stand; whole = omega (arith, has.wide, rem, b.long) })
 
-vendor : (bytes : List ℕ) → Begun allows_reply bytes → number 2 8 bytes ≡ 65535 → ReplyFound bytes
+vendor : (bytes : List ℕ) → BegunBody allows_reply bytes → number 2 8 bytes ≡ 65535 → ReplyOrRefusal bytes
 unfolding Stand reply_slots
 vendor bytes b is =
     let long : 4 ≤ length bytes - 12 = leb-true 4 (length bytes - 12) (allowed allows_reply 65535 bytes b is) in
@@ -210,11 +211,11 @@ vendor bytes b is =
     let len = length-bytes_from 16 bytes le in
     inl (Vendor (number 4 12 bytes) (bytes_from 16 bytes), record { kind = is; stand = (refl, (rest-stands 16 bytes le, tt)); whole = omega (arith, len) })
 
-kind_found : (bytes : List ℕ) → Begun allows_reply bytes → ReplyFound bytes
+kind_found : (bytes : List ℕ) → BegunBody allows_reply bytes → ReplyOrRefusal bytes
 kind_found bytes b = by_kind (number 2 8 bytes) b.known (desc bytes b) (flow bytes b) (aggregate bytes b) (table bytes b) (port bytes b) (queue bytes b) (vendor bytes b)
 
-pub reply_found : (bytes : List ℕ) → 12 ≤ length bytes → ReplyFound bytes
+pub reply_found : (bytes : List ℕ) → 12 ≤ length bytes → ReplyOrRefusal bytes
 reply_found bytes long = found_by bytes long (reply_refusal bytes) refl where
-  found_by : (bytes : List ℕ) → 12 ≤ length bytes → (first : Option WireRefusal) → reply_refusal bytes ≡ first → ReplyFound bytes
+  found_by : (bytes : List ℕ) → 12 ≤ length bytes → (first : Option WireRefusal) → reply_refusal bytes ≡ first → ReplyOrRefusal bytes
   found_by bytes long None is = kind_found bytes (begun_by bytes long is)
   found_by bytes long (Some e) is = inr (e, inl is)

@@ -5,6 +5,7 @@ use Rattle.std.specs.Prelude.{IfSome}
 use Rattle.std.proofs.lemmas.Bool.{eq-eqb, eqb-true, le-leb, leb-true}
 use Rattle.of10_wire.specs.declared.types.FlowMatch.{FlowMatch}
 use Rattle.of10_wire.specs.declared.refusal.WireRefusal.{WireRefusal}
+use Rattle.of10_wire.specs.Refusals.{IsOfBytes}
 use Rattle.of10_wire.specs.Layout.{Slot, Number, Pad, width, number, Stand}
 use Rattle.of10_wire.specs.Parts.{match_slots}
 use Rattle.of10_wire.proofs.Standing.{Stand-front, width-append, bytes_from, length-bytes_from, rest-stands}
@@ -14,7 +15,7 @@ use Rattle.of10_stats.specs.declared.request.StatsRequest.{StatsRequest}
 use Rattle.of10_stats.specs.declared.request.StatsRequest.TheVariants.{Desc, Flow, Aggregate, Table, Port, Queue, Vendor}
 use Rattle.of10_stats.specs.Kinds.{is_stats_kind}
 use Rattle.of10_stats.specs.Requests.{request_kind, request_slots, allows_request, request_refusal, IsRequest}
-use Rattle.of10_stats.proofs.KindLaws.{Begun, begun, allowed, by_kind, low_refusal}
+use Rattle.of10_stats.proofs.KindLaws.{BegunBody, begun, allowed, by_kind, low_refusal}
 
 -- what stands behind the match
 abbrev after_match : (table_id out_port : ℕ) → List Slot
@@ -98,23 +99,23 @@ not_refused x bytes h =
 pub request-kept : (x : StatsRequest) (bytes : List ℕ) (e : WireRefusal) → IsRequest bytes x → request_refusal bytes ≡ Some e → ⊥
 request-kept x bytes e h r = let same : None ≡ Some e = sym (not_refused x bytes h) ∙ r in absurd cc
 
-front : (bytes : List ℕ) → IfSome (request_refusal bytes) (λ d. d.at ≤ 12)
+front : (bytes : List ℕ) → IfSome (request_refusal bytes) (IsOfBytes 12)
 unfolding request_refusal
 front bytes = low_refusal allows_request bytes
 
-pub request-within : (bytes : List ℕ) (e : WireRefusal) → request_refusal bytes ≡ Some e → e.at ≤ 12
+pub request-within : (bytes : List ℕ) (e : WireRefusal) → request_refusal bytes ≡ Some e → IsOfBytes 12 e
 request-within bytes e r = let low = front bytes in rw r at low
 
 -- ---- a request or a refusal
 
-abbrev pub RequestFound : List ℕ → Type 0
-RequestFound bytes = ((x : StatsRequest) × IsRequest bytes x) ⊎ ((e : WireRefusal) × (request_refusal bytes ≡ Some e))
+abbrev pub RequestOrRefusal : List ℕ → Type 0
+RequestOrRefusal bytes = ((x : StatsRequest) × IsRequest bytes x) ⊎ ((e : WireRefusal) × (request_refusal bytes ≡ Some e))
 
-begun_by : (bytes : List ℕ) → 12 ≤ length bytes → request_refusal bytes ≡ None → Begun allows_request bytes
+begun_by : (bytes : List ℕ) → 12 ≤ length bytes → request_refusal bytes ≡ None → BegunBody allows_request bytes
 unfolding request_refusal
 begun_by bytes long h = begun allows_request bytes long h
 
-desc : (bytes : List ℕ) → Begun allows_request bytes → number 2 8 bytes ≡ 0 → RequestFound bytes
+desc : (bytes : List ℕ) → BegunBody allows_request bytes → number 2 8 bytes ≡ 0 → RequestOrRefusal bytes
 unfolding Stand request_slots
 desc bytes b is =
     let len = eqb-true (length bytes - 12) 0 (allowed allows_request 0 bytes b is) in
@@ -124,39 +125,39 @@ flow_stands : (bytes : List ℕ) → Stand 12 (match_slots (match_there 12 bytes
 unfolding Stand
 flow_stands bytes = with_match 12 (match_there 12 bytes).0 (after_match (number 1 52 bytes) (number 2 54 bytes)) bytes (match_there 12 bytes).1 (refl, (refl, tt))
 
-flow : (bytes : List ℕ) → Begun allows_request bytes → number 2 8 bytes ≡ 1 → RequestFound bytes
+flow : (bytes : List ℕ) → BegunBody allows_request bytes → number 2 8 bytes ≡ 1 → RequestOrRefusal bytes
 unfolding request_slots
 flow bytes b is =
     let len = eqb-true (length bytes - 12) 44 (allowed allows_request 1 bytes b is) in
     let wide = width-flow (match_there 12 bytes).0 (number 1 52 bytes) (number 2 54 bytes) in
     inl (Flow (match_there 12 bytes).0 (number 1 52 bytes) (number 2 54 bytes), record { kind = is; stand = flow_stands bytes; whole = omega (arith, len, wide, b.long) })
 
-aggregate : (bytes : List ℕ) → Begun allows_request bytes → number 2 8 bytes ≡ 2 → RequestFound bytes
+aggregate : (bytes : List ℕ) → BegunBody allows_request bytes → number 2 8 bytes ≡ 2 → RequestOrRefusal bytes
 unfolding request_slots
 aggregate bytes b is =
     let len = eqb-true (length bytes - 12) 44 (allowed allows_request 2 bytes b is) in
     let wide = width-flow (match_there 12 bytes).0 (number 1 52 bytes) (number 2 54 bytes) in
     inl (Aggregate (match_there 12 bytes).0 (number 1 52 bytes) (number 2 54 bytes), record { kind = is; stand = flow_stands bytes; whole = omega (arith, len, wide, b.long) })
 
-table : (bytes : List ℕ) → Begun allows_request bytes → number 2 8 bytes ≡ 3 → RequestFound bytes
+table : (bytes : List ℕ) → BegunBody allows_request bytes → number 2 8 bytes ≡ 3 → RequestOrRefusal bytes
 unfolding Stand request_slots
 table bytes b is =
     let len = eqb-true (length bytes - 12) 0 (allowed allows_request 3 bytes b is) in
     inl (Table, record { kind = is; stand = tt; whole = omega (arith, len, b.long) })
 
-port : (bytes : List ℕ) → Begun allows_request bytes → number 2 8 bytes ≡ 4 → RequestFound bytes
+port : (bytes : List ℕ) → BegunBody allows_request bytes → number 2 8 bytes ≡ 4 → RequestOrRefusal bytes
 unfolding Stand request_slots
 port bytes b is =
     let len = eqb-true (length bytes - 12) 8 (allowed allows_request 4 bytes b is) in
     inl (Port (number 2 12 bytes), record { kind = is; stand = (refl, tt); whole = omega (arith, len, b.long) })
 
-queue : (bytes : List ℕ) → Begun allows_request bytes → number 2 8 bytes ≡ 5 → RequestFound bytes
+queue : (bytes : List ℕ) → BegunBody allows_request bytes → number 2 8 bytes ≡ 5 → RequestOrRefusal bytes
 unfolding Stand request_slots
 queue bytes b is =
     let len = eqb-true (length bytes - 12) 8 (allowed allows_request 5 bytes b is) in
     inl (Queue (number 2 12 bytes) (number 4 16 bytes), record { kind = is; stand = (refl, (refl, tt)); whole = omega (arith, len, b.long) })
 
-vendor : (bytes : List ℕ) → Begun allows_request bytes → number 2 8 bytes ≡ 65535 → RequestFound bytes
+vendor : (bytes : List ℕ) → BegunBody allows_request bytes → number 2 8 bytes ≡ 65535 → RequestOrRefusal bytes
 unfolding Stand request_slots
 vendor bytes b is =
     let long : 4 ≤ length bytes - 12 = leb-true 4 (length bytes - 12) (allowed allows_request 65535 bytes b is) in
@@ -164,11 +165,11 @@ vendor bytes b is =
     let len = length-bytes_from 16 bytes le in
     inl (Vendor (number 4 12 bytes) (bytes_from 16 bytes), record { kind = is; stand = (refl, (rest-stands 16 bytes le, tt)); whole = omega (arith, len) })
 
-kind_found : (bytes : List ℕ) → Begun allows_request bytes → RequestFound bytes
+kind_found : (bytes : List ℕ) → BegunBody allows_request bytes → RequestOrRefusal bytes
 kind_found bytes b = by_kind (number 2 8 bytes) b.known (desc bytes b) (flow bytes b) (aggregate bytes b) (table bytes b) (port bytes b) (queue bytes b) (vendor bytes b)
 
-pub request_found : (bytes : List ℕ) → 12 ≤ length bytes → RequestFound bytes
+pub request_found : (bytes : List ℕ) → 12 ≤ length bytes → RequestOrRefusal bytes
 request_found bytes long = found_by bytes long (request_refusal bytes) refl where
-  found_by : (bytes : List ℕ) → 12 ≤ length bytes → (first : Option WireRefusal) → request_refusal bytes ≡ first → RequestFound bytes
+  found_by : (bytes : List ℕ) → 12 ≤ length bytes → (first : Option WireRefusal) → request_refusal bytes ≡ first → RequestOrRefusal bytes
   found_by bytes long None is = kind_found bytes (begun_by bytes long is)
   found_by bytes long (Some e) is = inr (e, is)

@@ -21,12 +21,12 @@ IsProperProperty (MinRate rate) = Unit {0}
 IsProperProperty (Other kind body) = kind ≢ 1
 
 -- what a len may be for a kind
-abbrev pub allows_len : ℕ → ℕ → Bool
-allows_len kind len = if kind == 1 then len == 16 else nat_le 8 len
+abbrev pub allows_property_len : ℕ → ℕ → Bool
+allows_property_len kind len = if kind == 1 then len == 16 else nat_le 8 len
 
 -- no property begins these bytes: there are fewer than 8, its kind hasn't this len, or the len is above what is left
 unfoldable pub is_no_property : List ℕ → Bool
-is_no_property bytes = nat_lt (length bytes) 8 || not (allows_len (number 2 0 bytes) (number 2 2 bytes)) || nat_lt (length bytes) (number 2 2 bytes)
+is_no_property bytes = nat_lt (length bytes) 8 || not (allows_property_len (number 2 0 bytes) (number 2 2 bytes)) || nat_lt (length bytes) (number 2 2 bytes)
 
 abbrev pub RefusesProperty : ℕ → List ℕ → WireRefusal → Type 0
 RefusesProperty place bytes e = IsTrue (is_no_property bytes) × (e ≡ refusal place BadProperty)

@@ -5,14 +5,13 @@ ghost use Rattle.of10_wire.specs.Layout.{number};
 ghost use Rattle.of10_stats.specs.Entries.{entry_slots, is_no_entry, IsProperEntry, RefusesEntry};
 
 use of10_wire::{
-    Actions, FlowMatch, Item, Part, WireRefusal, WireWhy, are_proper, fixed_at, items_at, len_all,
-    put_all, put_pad, put_u8, put_u16, put_u32, put_u64, u8_at, u16_at, u32_at, u64_at,
+    Actions, FlowMatch, Item, Part, WireRefusal, WireWhy, are_proper, capped, fixed_at, items_at,
+    len_all, put_all, put_pad, put_u8, put_u16, put_u32, put_u64, u8_at, u16_at, u32_at, u64_at,
 };
 use sqlite_items::Items;
 use std::alloc::Global;
 
 /// A rule of a switch, and what it counted (OpenFlow Switch Specification 1.0.0, section 5.3.5, `ofp_flow_stats`).
-#[derive(Debug, Drop)]
 pub struct FlowEntry {
     pub table_id: u8,
     pub flow: FlowMatch,
@@ -25,6 +24,24 @@ pub struct FlowEntry {
     pub packet_count: u64,
     pub byte_count: u64,
     pub actions: Actions,
+}
+
+impl Drop for FlowEntry {
+    fn drop(self) {
+        let FlowEntry {
+            table_id: _table_id,
+            flow: _flow,
+            duration_sec: _duration_sec,
+            duration_nsec: _duration_nsec,
+            priority: _priority,
+            idle_timeout: _idle_timeout,
+            hard_timeout: _hard_timeout,
+            cookie: _cookie,
+            packet_count: _packet_count,
+            byte_count: _byte_count,
+            actions: _actions,
+        } = self;
+    }
 }
 
 /// A list of flow entries. Contracts see it as a list.
@@ -84,7 +101,7 @@ impl Part for FlowEntry {
 
     #[tactic(auto, unfolding(of10_wire::specs::Parts::match_slots, crate::specs::Entries::entry_slots))]
     fn len(&self) -> usize {
-        (88 + len_all(self.actions.as_slice())).min(65536)
+        capped(88 + len_all(self.actions.as_slice()))
     }
 
     fn is_proper(&self) -> bool {

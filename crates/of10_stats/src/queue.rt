@@ -5,14 +5,13 @@ ghost use Rattle.of10_wire.specs.Layout.{number};
 ghost use Rattle.of10_stats.specs.Queues.{property_slots, is_no_property, IsProperProperty, RefusesProperty, queue_slots, is_no_queue, IsProperQueue, RefusesQueue};
 
 use of10_wire::{
-    Body, Item, Part, WireRefusal, WireWhy, are_proper, body_at, items_at, len_all, put_all,
-    put_bytes, put_other_u16, put_pad, put_u16, put_u32, u16_at, u32_at,
+    Body, Item, Part, WireRefusal, WireWhy, are_proper, body_at, capped, items_at, len_all,
+    put_all, put_bytes, put_other_u16, put_pad, put_u16, put_u32, u16_at, u32_at,
 };
 use sqlite_items::Items;
 use std::alloc::Global;
 
 /// A property of a queue (OpenFlow Switch Specification 1.0.0, section 5.2.2).
-#[derive(Debug, Drop)]
 pub enum QueueProperty {
     /// The rate that is always there for the queue, in tenths of a percent.
     MinRate { rate: u16 },
@@ -20,14 +19,34 @@ pub enum QueueProperty {
     Other { kind: u16, body: Body },
 }
 
+impl Drop for QueueProperty {
+    fn drop(self) {
+        match self {
+            QueueProperty::MinRate { rate: _rate } => {}
+            QueueProperty::Other {
+                kind: _kind,
+                body: _body,
+            } => {}
+        }
+    }
+}
+
 /// A list of properties. Contracts see it as a list.
 pub type Properties = Items<QueueProperty>;
 
 /// A queue of a port (section 5.2.2, `ofp_packet_queue`).
-#[derive(Debug, Drop)]
 pub struct Queue {
     pub queue_id: u32,
     pub properties: Properties,
+}
+
+impl Drop for Queue {
+    fn drop(self) {
+        let Queue {
+            queue_id: _queue_id,
+            properties: _properties,
+        } = self;
+    }
 }
 
 /// A list of queues. Contracts see it as a list.
@@ -86,7 +105,7 @@ impl Part for QueueProperty {
     fn len(&self) -> usize {
         match self {
             QueueProperty::MinRate { .. } => 16,
-            QueueProperty::Other { body, .. } => (8 + body.len().min(65536)).min(65536),
+            QueueProperty::Other { body, .. } => capped(8 + capped(body.len())),
         }
     }
 
@@ -162,7 +181,7 @@ impl Part for Queue {
 
     #[tactic(auto, unfolding(crate::specs::Queues::queue_slots))]
     fn len(&self) -> usize {
-        (8 + len_all(self.properties.as_slice())).min(65536)
+        capped(8 + len_all(self.properties.as_slice()))
     }
 
     fn is_proper(&self) -> bool {

@@ -9,14 +9,13 @@ ghost use Rattle.of10_stats.specs.Replies.{reply_kind, reply_slots, allows_reply
 use crate::counters::{PortCounters, QueueCounters, Table};
 use crate::entry::FlowEntries;
 use of10_wire::{
-    Body, Part, WireRefusal, WireWhy, are_proper, array_at, body_at, fixed_from, items_at, len_all,
-    put_all, put_bytes, put_pad, put_u32, put_u64, u16_at, u32_at, u64_at,
+    Body, Part, WireRefusal, WireWhy, are_proper, array_at, body_at, capped, fixed_from, items_at,
+    len_all, put_all, put_bytes, put_pad, put_u32, put_u64, u16_at, u32_at, u64_at,
 };
 use sqlite_items::Items;
 use std::alloc::{AllocError, Global};
 
 /// The statistics that a switch tells (OpenFlow Switch Specification 1.0.0, section 5.3.5).
-#[derive(Debug, Drop)]
 pub enum StatsReply {
     /// What the switch is. The texts are kept with all their bytes.
     Desc {
@@ -49,6 +48,33 @@ pub enum StatsReply {
         vendor: u32,
         body: Body,
     },
+}
+
+impl Drop for StatsReply {
+    fn drop(self) {
+        match self {
+            StatsReply::Desc {
+                mfr_desc: _mfr_desc,
+                hw_desc: _hw_desc,
+                sw_desc: _sw_desc,
+                serial_num: _serial_num,
+                dp_desc: _dp_desc,
+            } => {}
+            StatsReply::Flow { entries: _entries } => {}
+            StatsReply::Aggregate {
+                packet_count: _packet_count,
+                byte_count: _byte_count,
+                flow_count: _flow_count,
+            } => {}
+            StatsReply::Table { entries: _entries } => {}
+            StatsReply::Port { entries: _entries } => {}
+            StatsReply::Queue { entries: _entries } => {}
+            StatsReply::Vendor {
+                vendor: _vendor,
+                body: _body,
+            } => {}
+        }
+    }
 }
 
 /// Whether the body of a reply of this kind may have so many bytes.
@@ -158,7 +184,7 @@ impl Part for StatsReply {
             StatsReply::Table { entries } => len_all(entries.as_slice()),
             StatsReply::Port { entries } => len_all(entries.as_slice()),
             StatsReply::Queue { entries } => len_all(entries.as_slice()),
-            StatsReply::Vendor { body, .. } => (4 + body.len().min(65536)).min(65536),
+            StatsReply::Vendor { body, .. } => capped(4 + capped(body.len())),
         }
     }
 

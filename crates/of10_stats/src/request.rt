@@ -7,13 +7,12 @@ ghost use Rattle.of10_stats.specs.Kinds.{is_stats_kind};
 ghost use Rattle.of10_stats.specs.Requests.{request_kind, request_slots, allows_request, request_refusal, IsRequest};
 
 use of10_wire::{
-    Body, FlowMatch, Part, WireRefusal, WireWhy, body_at, fixed_at, put_bytes, put_pad, put_u8,
-    put_u16, put_u32, u8_at, u16_at, u32_at,
+    Body, FlowMatch, Part, WireRefusal, WireWhy, body_at, capped, fixed_at, put_bytes, put_pad,
+    put_u8, put_u16, put_u32, u8_at, u16_at, u32_at,
 };
 use std::alloc::{AllocError, Global};
 
 /// The statistics that are asked for (OpenFlow Switch Specification 1.0.0, section 5.3.5).
-#[derive(Debug, Drop)]
 pub enum StatsRequest {
     /// What the switch is.
     Desc,
@@ -41,6 +40,34 @@ pub enum StatsRequest {
         vendor: u32,
         body: Body,
     },
+}
+
+impl Drop for StatsRequest {
+    fn drop(self) {
+        match self {
+            StatsRequest::Desc => {}
+            StatsRequest::Flow {
+                flow: _flow,
+                table_id: _table_id,
+                out_port: _out_port,
+            } => {}
+            StatsRequest::Aggregate {
+                flow: _flow,
+                table_id: _table_id,
+                out_port: _out_port,
+            } => {}
+            StatsRequest::Table => {}
+            StatsRequest::Port { port_no: _port_no } => {}
+            StatsRequest::Queue {
+                port_no: _port_no,
+                queue_id: _queue_id,
+            } => {}
+            StatsRequest::Vendor {
+                vendor: _vendor,
+                body: _body,
+            } => {}
+        }
+    }
 }
 
 /// Whether the body of a request of this kind may have so many bytes.
@@ -142,7 +169,7 @@ impl Part for StatsRequest {
             StatsRequest::Table => 0,
             StatsRequest::Port { .. } => 8,
             StatsRequest::Queue { .. } => 8,
-            StatsRequest::Vendor { body, .. } => (4 + body.len().min(65536)).min(65536),
+            StatsRequest::Vendor { body, .. } => capped(4 + capped(body.len())),
         }
     }
 

@@ -1,2 +1,4 @@
 pub mod Streams
 pub mod Fronts
+pub mod Framings
+pub mod Cuttings

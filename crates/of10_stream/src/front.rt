@@ -1,16 +1,15 @@
 //! What comes first in bytes.
 
-ghost use Rattle.std.specs.Prelude.{◌≡◌, IfOk};
-ghost use Rattle.of10_stream.specs.Streams.{HasFrame, frame_length};
-ghost use Rattle.of10_stream.specs.Fronts.{IsFront};
+ghost use Rattle.std.specs.Prelude.{IfOk};
+ghost use Rattle.of10_stream.specs.Fronts.{IsFront, IsReadAs};
 
 use crate::tail::Tail;
 use of10_msgs::{Message, decode};
-use of10_wire::{WireWhy, header_refusal, u16_at};
+use of10_wire::{Opening, WireRefusal, WireWhy, opening_of};
 use std::alloc::{AllocError, Global};
 
 /// What comes first in bytes.
-#[derive(Debug, Drop)]
+#[derive(Drop)]
 pub enum Front {
     /// A message, and how many bytes its frame has.
     Message(Message, usize),
@@ -18,16 +17,14 @@ pub enum Front {
     Tail(Tail),
 }
 
-/// The message of the first frame, or the tail.
-fn first_message(alloc: Global, bytes: &[u8], len: usize) -> Result<Front, AllocError>
-    requires frame { HasFrame bytes.now }
-    requires len { len ≡ frame_length bytes.now }
-    ensures { IfOk result (IsFront bytes.now) }
+/// The message that a frame is, or why it is none. A want of memory is told apart from a refusal here alone.
+pub fn read_frame(alloc: Global, frame: &[u8]) -> Result<Result<Message, WireRefusal>, AllocError>
+    ensures { IfOk result (IsReadAs frame.now) }
 {
-    match decode(alloc, &bytes[..len]) {
-        Ok(message) => Ok(Front::Message(message, len)),
+    match decode(alloc, frame) {
+        Ok(message) => Ok(Ok(message)),
         Err(refusal) if refusal.why == WireWhy::Memory => Err(AllocError),
-        Err(refusal) => Ok(Front::Tail(Tail::Broken(refusal))),
+        Err(refusal) => Ok(Err(refusal)),
     }
 }
 
@@ -35,16 +32,12 @@ fn first_message(alloc: Global, bytes: &[u8], len: usize) -> Result<Front, Alloc
 pub fn read_front(alloc: Global, bytes: &[u8]) -> Result<Front, AllocError>
     ensures { IfOk result (IsFront bytes.now) }
 {
-    let left = bytes.len();
-    if left < 8 {
-        return Ok(Front::Tail(Tail::Cut(left)));
+    match opening_of(bytes) {
+        Opening::Wants(_) => Ok(Front::Tail(Tail::Cut(bytes.len()))),
+        Opening::Refused(refusal) => Ok(Front::Tail(Tail::Broken(refusal))),
+        Opening::Frame(len) => match read_frame(alloc, &bytes[..len])? {
+            Ok(message) => Ok(Front::Message(message, len)),
+            Err(refusal) => Ok(Front::Tail(Tail::Broken(refusal))),
+        },
     }
-    if let Some(refusal) = header_refusal(bytes) {
-        return Ok(Front::Tail(Tail::Broken(refusal)));
-    }
-    let len = u16_at(bytes, 2) as usize;
-    if left < len {
-        return Ok(Front::Tail(Tail::Cut(left)));
-    }
-    first_message(alloc, bytes, len)
 }

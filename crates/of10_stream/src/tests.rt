@@ -3,6 +3,7 @@
 use super::*;
 use of10_msgs::Message;
 use of10_wire::{WireRefusal, WireWhy};
+use std::alloc::AllocError;
 use std::test::Fail;
 
 #[test]
@@ -52,5 +53,33 @@ fn each_tail_is_told_with_its_place(rt: HostRuntime) -> Result<(), Fail> {
             "{bytes:?}"
         );
     }
+    Ok(())
+}
+
+#[test]
+fn a_frame_comes_in_pieces(rt: HostRuntime) -> Result<(), Fail> {
+    let mut framer = Framer::try_new(rt.alloc())?;
+    let Ok(fed) = framer.feed(&[1, 2, 0, 12, 0]) else {
+        return Err(Fail::from(AllocError));
+    };
+    assert_eq!(rt; fed.used, 5);
+    assert!(rt; !fed.ready);
+    let Ok(fed) = framer.feed(&[0, 0, 9, 97, 98, 99, 100, 1, 0]) else {
+        return Err(Fail::from(AllocError));
+    };
+    assert_eq!(rt; fed.used, 7);
+    assert!(rt; fed.ready);
+    assert_eq!(rt; framer.start(), 0);
+    assert_eq!(rt;
+        framer.frame(),
+        [1, 2, 0, 12, 0, 0, 0, 9, 97, 98, 99, 100].as_slice()
+    );
+    framer.next();
+    let read = framer.feed(&[1, 22, 0, 8, 0, 0, 0, 2, 5]);
+    let refusal = FrameRefusal {
+        at: 13,
+        why: WireWhy::BadType,
+    };
+    assert!(rt; matches!(read, Err(found) if found == refusal));
     Ok(())
 }

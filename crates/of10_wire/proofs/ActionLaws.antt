@@ -1,7 +1,7 @@
 -- The laws of actions.
 use Rattle.std.proofs.Common.{◌≡◌, ℕ, ◌+◌, ◌-◌, ◌%◌, ◌<◌, ◌≤◌, List, length, Bool, true, false, not, ◌||◌, eqb, ltb, refl, sym, ap, ◌∙◌, inl, inr, ◌⊎◌, arith}
 use Rattle.std.specs.Prelude.{IsTrue}
-use Rattle.std.proofs.lemmas.Bool.{cases_eq, or_parts, le-ltb, ltb-false, eqb-true, not-false}
+use Rattle.std.proofs.lemmas.Bool.{or_parts, le-ltb, ltb-false, eqb-true, not-false}
 use Rattle.std.proofs.lemmas.Bool.Decides.{nat_tests}
 use Rattle.of10_wire.specs.declared.action.Action.{Action}
 use Rattle.of10_wire.specs.declared.action.Action.TheVariants.{Output, SetVlanVid, SetVlanPcp, StripVlan, SetDlSrc, SetDlDst, SetNwSrc, SetNwDst, SetNwTos, SetTpSrc, SetTpDst, Enqueue, Vendor}
@@ -9,12 +9,13 @@ use Rattle.of10_wire.specs.declared.refusal.WireRefusal.{WireRefusal}
 use Rattle.of10_wire.specs.declared.refusal.WireWhy.TheVariants.{BadAction}
 use Rattle.of10_wire.specs.Refusals.{refusal}
 use Rattle.of10_wire.specs.Layout.{width, Stand, number, part}
-use Rattle.of10_wire.specs.Actions.{IsProper, action_slots, is_no_action, allows_len, RefusesAction}
+use Rattle.of10_wire.specs.Actions.{IsProper, action_slots, is_no_action, allows_action_len, RefusesAction}
 use Rattle.of10_wire.proofs.Standing.{length-part}
+use Rattle.of10_wire.proofs.Tests.{each_below, refusal_is}
 use Rattle.std.specs.List.{flat_map, AllByRecursion}
 use Rattle.of10_wire.proofs.Items.{items-proper}
 use Rattle.of10_wire.proofs.Once.{IsPart}
-use Rattle.of10_wire.proofs.Listed.{Front, IsItem}
+use Rattle.of10_wire.proofs.Listed.{PartOrRefusal, IsItem}
 
 pub action-once : (i : ℕ) (x y : Action) (bytes : List ℕ) → Stand i (action_slots x) bytes → Stand i (action_slots y) bytes → x ≡ y
 unfolding Stand action_slots
@@ -61,11 +62,11 @@ positive (SetTpDst a) = omega arith
 positive (Enqueue a b) = omega arith
 positive (Vendor a b) = omega arith
 
-good_from : (bytes : List ℕ) (kind len : ℕ) → number 2 0 bytes ≡ kind → number 2 2 bytes ≡ len → allows_len kind len ≡ true → 4 ≤ len → len ≤ length bytes → is_no_action bytes ≡ false
+good_from : (bytes : List ℕ) (kind len : ℕ) → number 2 0 bytes ≡ kind → number 2 2 bytes ≡ len → allows_action_len kind len ≡ true → 4 ≤ len → len ≤ length bytes → is_no_action bytes ≡ false
 unfolding is_no_action
 good_from bytes kind len h k allowed long within = rw (h, k, allowed, le-ltb (length bytes) 4 (omega arith), le-ltb (length bytes) len within) refl
 
-vendor_len : (n : ℕ) → n % 8 ≡ 0 → allows_len 65535 (4 + (4 + (n + 0))) ≡ true
+vendor_len : (n : ℕ) → n % 8 ≡ 0 → allows_action_len 65535 (4 + (4 + (n + 0))) ≡ true
 vendor_len n e =
     let m : (4 + (4 + (n + 0))) % 8 ≡ 0 = omega arith in
     grind (arith, m, nat_tests)
@@ -101,80 +102,80 @@ abbrev There : List ℕ → Type 0
 There bytes = (x : Action) × Stand 0 (action_slots x) bytes × (width (action_slots x) ≤ length bytes)
 
 -- what bytes show that begin with an action
-pub record Begun (bytes : List ℕ) : Type 0 where
-  pub allowed : allows_len (number 2 0 bytes) (number 2 2 bytes) ≡ true
+record BegunAction (bytes : List ℕ) : Type 0 where
+  pub allowed : allows_action_len (number 2 0 bytes) (number 2 2 bytes) ≡ true
   pub within : number 2 2 bytes ≤ length bytes
 
-begun : (bytes : List ℕ) → is_no_action bytes ≡ false → Begun bytes
+begun : (bytes : List ℕ) → is_no_action bytes ≡ false → BegunAction bytes
 unfolding is_no_action
 begun bytes h =
-    let parts = or_parts (ltb (length bytes) 4 || not (allows_len (number 2 0 bytes) (number 2 2 bytes))) (ltb (length bytes) (number 2 2 bytes)) h in
-    let first = or_parts (ltb (length bytes) 4) (not (allows_len (number 2 0 bytes) (number 2 2 bytes))) parts.0 in
-    record { allowed = not-false (allows_len (number 2 0 bytes) (number 2 2 bytes)) first.1; within = ltb-false (length bytes) (number 2 2 bytes) parts.1 }
+    let parts = or_parts (ltb (length bytes) 4 || not (allows_action_len (number 2 0 bytes) (number 2 2 bytes))) (ltb (length bytes) (number 2 2 bytes)) h in
+    let first = or_parts (ltb (length bytes) 4) (not (allows_action_len (number 2 0 bytes) (number 2 2 bytes))) parts.0 in
+    record { allowed = not-false (allows_action_len (number 2 0 bytes) (number 2 2 bytes)) first.1; within = ltb-false (length bytes) (number 2 2 bytes) parts.1 }
 
 -- the len of an action of a known type
-len_of : (bytes : List ℕ) (kind len : ℕ) → Begun bytes → number 2 0 bytes ≡ kind → allows_len kind (number 2 2 bytes) ≡ eqb (number 2 2 bytes) len → number 2 2 bytes ≡ len
+len_of : (bytes : List ℕ) (kind len : ℕ) → BegunAction bytes → number 2 0 bytes ≡ kind → allows_action_len kind (number 2 2 bytes) ≡ eqb (number 2 2 bytes) len → number 2 2 bytes ≡ len
 len_of bytes kind len b is e =
-    let allowed : allows_len kind (number 2 2 bytes) ≡ true = rw is at b.allowed in
+    let allowed : allows_action_len kind (number 2 2 bytes) ≡ true = rw is at b.allowed in
     eqb-true (number 2 2 bytes) len (sym e ∙ allowed)
 
-output : (bytes : List ℕ) → Begun bytes → number 2 0 bytes ≡ 0 → There bytes
+output : (bytes : List ℕ) → BegunAction bytes → number 2 0 bytes ≡ 0 → There bytes
 unfolding Stand action_slots
 output bytes b is = let len = len_of bytes 0 8 b is refl in (Output (number 2 4 bytes) (number 2 6 bytes), (is, (len, (refl, (refl, tt)))), omega (arith, len, b.within))
 
-set_vlan_vid : (bytes : List ℕ) → Begun bytes → number 2 0 bytes ≡ 1 → There bytes
+set_vlan_vid : (bytes : List ℕ) → BegunAction bytes → number 2 0 bytes ≡ 1 → There bytes
 unfolding Stand action_slots
 set_vlan_vid bytes b is = let len = len_of bytes 1 8 b is refl in (SetVlanVid (number 2 4 bytes), (is, (len, (refl, tt))), omega (arith, len, b.within))
 
-set_vlan_pcp : (bytes : List ℕ) → Begun bytes → number 2 0 bytes ≡ 2 → There bytes
+set_vlan_pcp : (bytes : List ℕ) → BegunAction bytes → number 2 0 bytes ≡ 2 → There bytes
 unfolding Stand action_slots
 set_vlan_pcp bytes b is = let len = len_of bytes 2 8 b is refl in (SetVlanPcp (number 1 4 bytes), (is, (len, (refl, tt))), omega (arith, len, b.within))
 
-strip_vlan : (bytes : List ℕ) → Begun bytes → number 2 0 bytes ≡ 3 → There bytes
+strip_vlan : (bytes : List ℕ) → BegunAction bytes → number 2 0 bytes ≡ 3 → There bytes
 unfolding Stand action_slots
 strip_vlan bytes b is = let len = len_of bytes 3 8 b is refl in (StripVlan, (is, (len, tt)), omega (arith, len, b.within))
 
-set_dl_src : (bytes : List ℕ) → Begun bytes → number 2 0 bytes ≡ 4 → There bytes
+set_dl_src : (bytes : List ℕ) → BegunAction bytes → number 2 0 bytes ≡ 4 → There bytes
 unfolding Stand action_slots
 set_dl_src bytes b is = let len = len_of bytes 4 16 b is refl in (SetDlSrc (part 6 4 bytes), (is, (len, (refl, tt))), omega (arith, len, b.within))
 
-set_dl_dst : (bytes : List ℕ) → Begun bytes → number 2 0 bytes ≡ 5 → There bytes
+set_dl_dst : (bytes : List ℕ) → BegunAction bytes → number 2 0 bytes ≡ 5 → There bytes
 unfolding Stand action_slots
 set_dl_dst bytes b is = let len = len_of bytes 5 16 b is refl in (SetDlDst (part 6 4 bytes), (is, (len, (refl, tt))), omega (arith, len, b.within))
 
-set_nw_src : (bytes : List ℕ) → Begun bytes → number 2 0 bytes ≡ 6 → There bytes
+set_nw_src : (bytes : List ℕ) → BegunAction bytes → number 2 0 bytes ≡ 6 → There bytes
 unfolding Stand action_slots
 set_nw_src bytes b is = let len = len_of bytes 6 8 b is refl in (SetNwSrc (number 4 4 bytes), (is, (len, (refl, tt))), omega (arith, len, b.within))
 
-set_nw_dst : (bytes : List ℕ) → Begun bytes → number 2 0 bytes ≡ 7 → There bytes
+set_nw_dst : (bytes : List ℕ) → BegunAction bytes → number 2 0 bytes ≡ 7 → There bytes
 unfolding Stand action_slots
 set_nw_dst bytes b is = let len = len_of bytes 7 8 b is refl in (SetNwDst (number 4 4 bytes), (is, (len, (refl, tt))), omega (arith, len, b.within))
 
-set_nw_tos : (bytes : List ℕ) → Begun bytes → number 2 0 bytes ≡ 8 → There bytes
+set_nw_tos : (bytes : List ℕ) → BegunAction bytes → number 2 0 bytes ≡ 8 → There bytes
 unfolding Stand action_slots
 set_nw_tos bytes b is = let len = len_of bytes 8 8 b is refl in (SetNwTos (number 1 4 bytes), (is, (len, (refl, tt))), omega (arith, len, b.within))
 
-set_tp_src : (bytes : List ℕ) → Begun bytes → number 2 0 bytes ≡ 9 → There bytes
+set_tp_src : (bytes : List ℕ) → BegunAction bytes → number 2 0 bytes ≡ 9 → There bytes
 unfolding Stand action_slots
 set_tp_src bytes b is = let len = len_of bytes 9 8 b is refl in (SetTpSrc (number 2 4 bytes), (is, (len, (refl, tt))), omega (arith, len, b.within))
 
-set_tp_dst : (bytes : List ℕ) → Begun bytes → number 2 0 bytes ≡ 10 → There bytes
+set_tp_dst : (bytes : List ℕ) → BegunAction bytes → number 2 0 bytes ≡ 10 → There bytes
 unfolding Stand action_slots
 set_tp_dst bytes b is = let len = len_of bytes 10 8 b is refl in (SetTpDst (number 2 4 bytes), (is, (len, (refl, tt))), omega (arith, len, b.within))
 
-enqueue : (bytes : List ℕ) → Begun bytes → number 2 0 bytes ≡ 11 → There bytes
+enqueue : (bytes : List ℕ) → BegunAction bytes → number 2 0 bytes ≡ 11 → There bytes
 unfolding Stand action_slots
 enqueue bytes b is = let len = len_of bytes 11 16 b is refl in (Enqueue (number 2 4 bytes) (number 4 12 bytes), (is, (len, (refl, (refl, tt)))), omega (arith, len, b.within))
 
-vendor_parts : (n : ℕ) → allows_len 65535 n ≡ true → (8 ≤ n) × ((n - 8) % 8 ≡ 0)
+vendor_parts : (n : ℕ) → allows_action_len 65535 n ≡ true → (8 ≤ n) × ((n - 8) % 8 ≡ 0)
 vendor_parts n h =
     let both : (8 ≤ n) × (n % 8 ≡ 0) = grind (arith, nat_tests, h) in
     (both.0, omega (arith, both.0, both.1))
 
-vendor : (bytes : List ℕ) → Begun bytes → number 2 0 bytes ≡ 65535 → There bytes
+vendor : (bytes : List ℕ) → BegunAction bytes → number 2 0 bytes ≡ 65535 → There bytes
 unfolding Stand action_slots
 vendor bytes b is =
-    let allowed : allows_len 65535 (number 2 2 bytes) ≡ true = rw is at b.allowed in
+    let allowed : allows_action_len 65535 (number 2 2 bytes) ≡ true = rw is at b.allowed in
     let parts = vendor_parts (number 2 2 bytes) allowed in
     let n = number 2 2 bytes - 8 in
     let len : length (part n 8 bytes) ≡ n = length-part n 8 bytes (omega (arith, b.within, parts.0)) in
@@ -182,59 +183,20 @@ vendor bytes b is =
     let blocks : length (part n 8 bytes) % 8 ≡ 0 = rw len parts.1 in
     (Vendor (number 4 4 bytes) (part n 8 bytes), (is, (omega (arith, len, parts.0), (refl, (body, blocks, tt)))), omega (arith, len, parts.0, b.within))
 
-no_other : (kind len : ℕ) → allows_len kind len ≡ true → (kind ≤ 11) ⊎ (kind ≡ 65535)
+no_other : (kind len : ℕ) → allows_action_len kind len ≡ true → (kind ≤ 11) ⊎ (kind ≡ 65535)
 no_other kind len h = grind (arith, nat_tests, h)
 
-none_left : (kind : ℕ) → (kind ≤ 11) ⊎ (kind ≡ 65535) → (kind ≡ 0 → ⊥) → (kind ≡ 1 → ⊥) → (kind ≡ 2 → ⊥) → (kind ≡ 3 → ⊥) → (kind ≡ 4 → ⊥) → (kind ≡ 5 → ⊥) → (kind ≡ 6 → ⊥) → (kind ≡ 7 → ⊥) → (kind ≡ 8 → ⊥) → (kind ≡ 9 → ⊥) → (kind ≡ 10 → ⊥) → (kind ≡ 11 → ⊥) → (kind ≡ 65535 → ⊥) → ⊥
-none_left kind (inl low) no0 no1 no2 no3 no4 no5 no6 no7 no8 no9 no10 no11 no65535 = omega (arith, low, no0, no1, no2, no3, no4, no5, no6, no7, no8, no9, no10, no11)
-none_left kind (inr is) no0 no1 no2 no3 no4 no5 no6 no7 no8 no9 no10 no11 no65535 = no65535 is
+there : (bytes : List ℕ) → BegunAction bytes → There bytes
+there bytes b = elim (no_other (number 2 0 bytes) (number 2 2 bytes) b.allowed) [
+  | inr is ↦ vendor bytes b is
+  | inl low ↦ each_below (λ (kind : ℕ). number 2 0 bytes ≡ kind → There bytes) 12 (
+    output bytes b,
+    (set_vlan_vid bytes b, (set_vlan_pcp bytes b, (strip_vlan bytes b, (set_dl_src bytes b, (set_dl_dst bytes b, (set_nw_src bytes b, (set_nw_dst bytes b, (set_nw_tos bytes b, (set_tp_src bytes b, (set_tp_dst bytes b, (enqueue bytes b, tt))))))))))),
+  )
+      (number 2 0 bytes) (omega (arith, low)) refl
+]
 
-there : (bytes : List ℕ) → Begun bytes → There bytes
-there bytes b =
-    let kind = number 2 0 bytes in
-    let known = no_other kind (number 2 2 bytes) b.allowed in
-    elim (cases_eq kind 0) [
-      | inl is ↦ output bytes b is
-      | inr no0 ↦ elim (cases_eq kind 1) [
-        | inl is ↦ set_vlan_vid bytes b is
-        | inr no1 ↦ elim (cases_eq kind 2) [
-          | inl is ↦ set_vlan_pcp bytes b is
-          | inr no2 ↦ elim (cases_eq kind 3) [
-            | inl is ↦ strip_vlan bytes b is
-            | inr no3 ↦ elim (cases_eq kind 4) [
-              | inl is ↦ set_dl_src bytes b is
-              | inr no4 ↦ elim (cases_eq kind 5) [
-                | inl is ↦ set_dl_dst bytes b is
-                | inr no5 ↦ elim (cases_eq kind 6) [
-                  | inl is ↦ set_nw_src bytes b is
-                  | inr no6 ↦ elim (cases_eq kind 7) [
-                    | inl is ↦ set_nw_dst bytes b is
-                    | inr no7 ↦ elim (cases_eq kind 8) [
-                      | inl is ↦ set_nw_tos bytes b is
-                      | inr no8 ↦ elim (cases_eq kind 9) [
-                        | inl is ↦ set_tp_src bytes b is
-                        | inr no9 ↦ elim (cases_eq kind 10) [
-                          | inl is ↦ set_tp_dst bytes b is
-                          | inr no10 ↦ elim (cases_eq kind 11) [
-                            | inl is ↦ enqueue bytes b is
-                            | inr no11 ↦ elim (cases_eq kind 65535) [
-                              | inl is ↦ vendor bytes b is
-                              | inr no65535 ↦ absurd (none_left kind known no0 no1 no2 no3 no4 no5 no6 no7 no8 no9 no10 no11 no65535)
-                            ]
-                          ]
-                        ]
-                      ]
-                    ]
-                  ]
-                ]
-              ]
-            ]
-          ]
-        ]
-      ]
-    ]
-
-action_front_by : (place : ℕ) (bytes : List ℕ) (bad : Bool) → is_no_action bytes ≡ bad → Front action_slots RefusesAction place bytes
+action_front_by : (place : ℕ) (bytes : List ℕ) (bad : Bool) → is_no_action bytes ≡ bad → PartOrRefusal action_slots RefusesAction place bytes
 action_front_by place bytes true is = inr (refusal place BadAction, (is, refl))
 action_front_by place bytes false is = inl (there bytes (begun bytes is))
 
@@ -246,7 +208,7 @@ action_item = record {
   part = action_part;
   kept = action_kept;
   refused-once = λ place bytes d e h k. h.1 ∙ sym k.1;
-  refused-within = λ place bytes e h. omega (arith, ap (λ (e : WireRefusal). e.at) h.1);
+  refused-within = λ place bytes e h. refusal_is place (place + length bytes) BadAction e (omega arith) (λ is. absurd cc) h.1;
   front = λ place bytes. action_front_by place bytes (is_no_action bytes) refl;
 }
 

@@ -13,7 +13,7 @@ use Rattle.of10_wire.specs.Writing.{Writes}
 use Rattle.of10_wire.proofs.Standing.{width-append, Stand-append, Stand-front, Stand-back, Stand-drop, Stand-at, Stand-part, length-part, Stand-in_drop, Stand-in_take, appended-append, Fit-append}
 
 -- these slots are the bytes up to a place
-pub record IsRead (slots : List Slot) (at : ℕ) (bytes : List ℕ) : Type 0 where
+pub record IsReadUpTo (slots : List Slot) (at : ℕ) (bytes : List ℕ) : Type 0 where
   pub stand : Stand 0 slots bytes
   pub place : at ≡ width slots
   pub within : at ≤ length bytes
@@ -21,22 +21,22 @@ pub record IsRead (slots : List Slot) (at : ℕ) (bytes : List ℕ) : Type 0 whe
 flat_map-one : {X : Type 0} (item : X → List Slot) (xs : List X) (x : X) → flat_map item (xs ++ x ∷ []) ≡ flat_map item xs ++ item x
 flat_map-one item xs x = simp (flat_map-append, append-nil)
 
-pub read_none : {X : Type 0} (item : X → List Slot) (bytes : List ℕ) → IsRead (flat_map item []) 0 bytes
+pub read_none : {X : Type 0} (item : X → List Slot) (bytes : List ℕ) → IsReadUpTo (flat_map item []) 0 bytes
 unfolding Stand
 read_none item bytes = record { stand = tt; place = refl; within = omega arith }
 
 -- one more item
 pub read_more : {X : Type 0} (item : X → List Slot) (xs : List X) (x : X) (at n : ℕ) (bytes : List ℕ)
-    → IsRead (flat_map item xs) at bytes → Stand 0 (item x) (drop at bytes) → width (item x) ≡ n → at + n ≤ length bytes
-    → IsRead (flat_map item (xs ++ x ∷ [])) (at + n) bytes
+    → IsReadUpTo (flat_map item xs) at bytes → Stand 0 (item x) (drop at bytes) → width (item x) ≡ n → at + n ≤ length bytes
+    → IsReadUpTo (flat_map item (xs ++ x ∷ [])) (at + n) bytes
 read_more item xs x at n bytes so_far stand wide le =
     let here : Stand (0 + width (flat_map item xs)) (item x) bytes = Stand-at (at + 0) (0 + width (flat_map item xs)) (item x) bytes (omega (arith, so_far.place)) (Stand-drop 0 at (item x) bytes stand) in
-    let both : IsRead (flat_map item xs ++ item x) (at + n) bytes = record {
+    let both : IsReadUpTo (flat_map item xs ++ item x) (at + n) bytes = record {
       stand = Stand-append 0 (flat_map item xs) (item x) bytes so_far.stand here;
       place = omega (arith, so_far.place, width-append (flat_map item xs) (item x));
       within = le;
     } in
-    subst (λ (s : List Slot). IsRead s (at + n) bytes) (sym (flat_map-one item xs x)) both
+    subst (λ (s : List Slot). IsReadUpTo s (at + n) bytes) (sym (flat_map-one item xs x)) both
 
 -- ---- from a place on
 

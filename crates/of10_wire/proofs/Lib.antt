@@ -7,3 +7,4 @@ pub mod Widths
 pub mod Nested
 pub mod PartLaws
 pub mod ActionLaws
+pub mod Openings

@@ -5,22 +5,23 @@ use Rattle.std.proofs.lemmas.Bool.{cases_lt}
 use Rattle.std.specs.List.{flat_map}
 use Rattle.of10_wire.specs.declared.refusal.WireRefusal.{WireRefusal}
 use Rattle.of10_wire.specs.Layout.{Slot, width, part, Stand, Spells}
+use Rattle.of10_wire.specs.Refusals.{IsOfBytes}
 use Rattle.of10_wire.specs.Lists.{IsRefusedIn}
 use Rattle.of10_wire.proofs.Standing.{Stand-at, Stand-in_drop}
-use Rattle.of10_wire.proofs.Items.{IsRead, read_none, read_more, part-here}
+use Rattle.of10_wire.proofs.Items.{IsReadUpTo, read_none, read_more, part-here}
 use Rattle.of10_wire.proofs.Once.{IsPart, next_item}
 
 -- a part stands at the front of the bytes, or they are refused
-abbrev pub Front : {X : Type 0} → (X → List Slot) → (ℕ → List ℕ → WireRefusal → Type 0) → ℕ → List ℕ → Type 0
-Front {X = X} slots refuses place bytes = ((x : X) × Stand 0 (slots x) bytes × (width (slots x) ≤ length bytes)) ⊎ ((e : WireRefusal) × refuses place bytes e)
+abbrev pub PartOrRefusal : {X : Type 0} → (X → List Slot) → (ℕ → List ℕ → WireRefusal → Type 0) → ℕ → List ℕ → Type 0
+PartOrRefusal {X = X} slots refuses place bytes = ((x : X) × Stand 0 (slots x) bytes × (width (slots x) ≤ length bytes)) ⊎ ((e : WireRefusal) × refuses place bytes e)
 
 -- the laws of a part that tells its own length
 pub record IsItem {X : Type 0} (slots : X → List Slot) (refuses : ℕ → List ℕ → WireRefusal → Type 0) : Type 0 where
   pub part : IsPart slots
   pub kept : (x : X) (place : ℕ) (bytes : List ℕ) (e : WireRefusal) → Stand 0 (slots x) bytes → width (slots x) ≤ length bytes → refuses place bytes e → ⊥
   pub refused-once : (place : ℕ) (bytes : List ℕ) (d e : WireRefusal) → refuses place bytes d → refuses place bytes e → d ≡ e
-  pub refused-within : (place : ℕ) (bytes : List ℕ) (e : WireRefusal) → refuses place bytes e → e.at ≤ place + length bytes
-  pub front : (place : ℕ) (bytes : List ℕ) → Front slots refuses place bytes
+  pub refused-within : (place : ℕ) (bytes : List ℕ) (e : WireRefusal) → refuses place bytes e → IsOfBytes (place + length bytes) e
+  pub front : (place : ℕ) (bytes : List ℕ) → PartOrRefusal slots refuses place bytes
 
 -- ---- a list is not refused, and one refusal stands
 
@@ -54,24 +55,24 @@ items-refused-once slots refuses it base bytes d e h k =
     ]
 
 pub items-refused-within : {X : Type 0} (slots : X → List Slot) (refuses : ℕ → List ℕ → WireRefusal → Type 0) (it : IsItem slots refuses) (base : ℕ) (bytes : List ℕ) (e : WireRefusal)
-    → IsRefusedIn slots refuses base bytes e → e.at ≤ base + length bytes
+    → IsRefusedIn slots refuses base bytes e → IsOfBytes (base + length bytes) e
 items-refused-within slots refuses it base bytes e r =
     let at = width (flat_map slots r.before) in
-    let near = it.refused-within (base + at) (drop at bytes) e r.next in
-    omega (arith, near, length-drop at bytes, r.more)
+    let there = it.refused-within (base + at) (drop at bytes) e r.next in
+    record { near = omega (arith, there.near, length-drop at bytes, r.more); named = there.named }
 
 -- ---- a list or a refusal
 
 -- the bytes are a list, or are refused
-abbrev pub Found : {X : Type 0} → (X → List Slot) → (ℕ → List ℕ → WireRefusal → Type 0) → ℕ → List ℕ → Type 0
-Found {X = X} slots refuses base bytes = ((xs : List X) × Spells (flat_map slots xs) bytes) ⊎ ((e : WireRefusal) × IsRefusedIn slots refuses base bytes e)
+abbrev pub ListOrRefusal : {X : Type 0} → (X → List Slot) → (ℕ → List ℕ → WireRefusal → Type 0) → ℕ → List ℕ → Type 0
+ListOrRefusal {X = X} slots refuses base bytes = ((xs : List X) × Spells (flat_map slots xs) bytes) ⊎ ((e : WireRefusal) × IsRefusedIn slots refuses base bytes e)
 
 found_end : {X : Type 0} (slots : X → List Slot) (refuses : ℕ → List ℕ → WireRefusal → Type 0) (base : ℕ) (done : List X) (at : ℕ) (bytes : List ℕ)
-    → IsRead (flat_map slots done) at bytes → length bytes ≤ at → Found slots refuses base bytes
+    → IsReadUpTo (flat_map slots done) at bytes → length bytes ≤ at → ListOrRefusal slots refuses base bytes
 found_end slots refuses base done at bytes h le = inl (done, record { stand = h.stand; whole = omega (arith, h.place, h.within) })
 
 found_refused : {X : Type 0} (slots : X → List Slot) (refuses : ℕ → List ℕ → WireRefusal → Type 0) (base : ℕ) (done : List X) (at : ℕ) (bytes : List ℕ) (e : WireRefusal)
-    → IsRead (flat_map slots done) at bytes → at < length bytes → refuses (base + at) (drop at bytes) e → Found slots refuses base bytes
+    → IsReadUpTo (flat_map slots done) at bytes → at < length bytes → refuses (base + at) (drop at bytes) e → ListOrRefusal slots refuses base bytes
 found_refused slots refuses base done at bytes e h lt r = inr (
   e,
   record {
@@ -84,24 +85,24 @@ found_refused slots refuses base done at bytes e h lt r = inr (
 
 -- one more part is read
 more_read : {X : Type 0} (slots : X → List Slot) (done : List X) (x : X) (at : ℕ) (bytes : List ℕ)
-    → IsRead (flat_map slots done) at bytes → Stand 0 (slots x) (drop at bytes) → width (slots x) ≤ length (drop at bytes) → IsRead (flat_map slots (done ++ x ∷ [])) (at + width (slots x)) bytes
+    → IsReadUpTo (flat_map slots done) at bytes → Stand 0 (slots x) (drop at bytes) → width (slots x) ≤ length (drop at bytes) → IsReadUpTo (flat_map slots (done ++ x ∷ [])) (at + width (slots x)) bytes
 more_read slots done x at bytes h stand le = read_more slots done x at (width (slots x)) bytes h stand refl (omega (arith, le, length-drop at bytes, h.within))
 
 found_step : {X : Type 0} (slots : X → List Slot) (refuses : ℕ → List ℕ → WireRefusal → Type 0) (base : ℕ) (done : List X) (at : ℕ) (bytes : List ℕ)
-    → IsRead (flat_map slots done) at bytes → at < length bytes → Front slots refuses (base + at) (drop at bytes)
-    → ((x : X) → IsRead (flat_map slots (done ++ x ∷ [])) (at + width (slots x)) bytes → Found slots refuses base bytes) → Found slots refuses base bytes
+    → IsReadUpTo (flat_map slots done) at bytes → at < length bytes → PartOrRefusal slots refuses (base + at) (drop at bytes)
+    → ((x : X) → IsReadUpTo (flat_map slots (done ++ x ∷ [])) (at + width (slots x)) bytes → ListOrRefusal slots refuses base bytes) → ListOrRefusal slots refuses base bytes
 found_step slots refuses base done at bytes h lt (inl (x, stand, le)) more = more x (more_read slots done x at bytes h stand le)
 found_step slots refuses base done at bytes h lt (inr (e, r)) more = found_refused slots refuses base done at bytes e h lt r
 
 found_within : {X : Type 0} (slots : X → List Slot) (refuses : ℕ → List ℕ → WireRefusal → Type 0) (it : IsItem slots refuses) (base : ℕ) (n : ℕ) (done : List X) (at : ℕ) (bytes : List ℕ)
-    → IsRead (flat_map slots done) at bytes → length bytes ≤ at + n → Found slots refuses base bytes
+    → IsReadUpTo (flat_map slots done) at bytes → length bytes ≤ at + n → ListOrRefusal slots refuses base bytes
 found_within slots refuses it base zero done at bytes h le = found_end slots refuses base done at bytes h (omega arith)
 found_within slots refuses it base (suc n) done at bytes h le = elim (cases_lt at (length bytes)) [
   | inl lt ↦ found_step slots refuses base done at bytes h lt (it.front (base + at) (drop at bytes)) (λ x read. found_within slots refuses it base n (done ++ x ∷ []) (at + width (slots x)) bytes read (omega (arith, it.part.positive x)))
   | inr ge ↦ found_end slots refuses base done at bytes h ge
 ]
 
-pub items-found : {X : Type 0} (slots : X → List Slot) (refuses : ℕ → List ℕ → WireRefusal → Type 0) (it : IsItem slots refuses) (base : ℕ) (bytes : List ℕ) → Found slots refuses base bytes
+pub items-found : {X : Type 0} (slots : X → List Slot) (refuses : ℕ → List ℕ → WireRefusal → Type 0) (it : IsItem slots refuses) (base : ℕ) (bytes : List ℕ) → ListOrRefusal slots refuses base bytes
 items-found slots refuses it base bytes = found_within slots refuses it base (length bytes) [] 0 bytes (read_none slots bytes) (omega arith)
 
 -- ---- in a part of the bytes

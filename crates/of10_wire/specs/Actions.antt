@@ -33,8 +33,8 @@ IsProper (Vendor vendor body) = length body % 8 ≡ 0
 IsProper action = Unit {0}
 
 -- what a len may be for a type
-abbrev pub allows_len : ℕ → ℕ → Bool
-allows_len kind len =
+abbrev pub allows_action_len : ℕ → ℕ → Bool
+allows_action_len kind len =
     if nat_le kind 11 then (if (kind == 4) || (kind == 5) || (kind == 11) then len == 16 else len == 8)
     else if kind == 65535 then nat_le 8 len && (len % 8 == 0)
     else false
@@ -42,7 +42,7 @@ allows_len kind len =
 -- no action begins these bytes: there are fewer than 4, the type is none or hasn't this len, or the len is above what
 -- is left
 unfoldable pub is_no_action : List ℕ → Bool
-is_no_action bytes = nat_lt (length bytes) 4 || not (allows_len (number 2 0 bytes) (number 2 2 bytes)) || nat_lt (length bytes) (number 2 2 bytes)
+is_no_action bytes = nat_lt (length bytes) 4 || not (allows_action_len (number 2 0 bytes) (number 2 2 bytes)) || nat_lt (length bytes) (number 2 2 bytes)
 
 -- the refusal of bytes at a place of their frame that begin with no action
 abbrev pub RefusesAction : ℕ → List ℕ → WireRefusal → Type 0

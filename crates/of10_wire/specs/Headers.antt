@@ -1,13 +1,19 @@
 -- The header of a frame, and what it shows before the frame is whole.
-use Rattle.std.specs.Prelude.{ℕ, List, [], ◌∷◌, Option, Some, None, Bool, not, ◌==◌, ◌&&◌, nat_lt, nat_le, if◌then◌else◌}
+use Rattle.std.specs.Prelude.{ℕ, ◌+◌, length, List, [], ◌∷◌, ◌++◌, Option, Some, None, Bool, not, ◌==◌, ◌&&◌, nat_lt, nat_le, if◌then◌else◌}
 use Rattle.of10_wire.specs.declared.types.Header.{Header}
 use Rattle.of10_wire.specs.declared.refusal.WireRefusal.{WireRefusal}
 use Rattle.of10_wire.specs.declared.refusal.WireWhy.TheVariants.{BadVersion, BadType, BadLength}
+use Rattle.of10_wire.specs.declared.rules.Opening.{Opening}
+use Rattle.of10_wire.specs.declared.rules.Opening.TheVariants.{Wants, Frame, Refused}
 use Rattle.of10_wire.specs.Refusals.{refusal}
-use Rattle.of10_wire.specs.Layout.{Slot, Number, number}
+use Rattle.of10_wire.specs.Layout.{Slot, Number, width, number}
 
-unfoldable pub header_slots : Header → List Slot
+abbrev pub header_slots : Header → List Slot
 header_slots header = Number 1 header.version ∷ Number 1 header.kind ∷ Number 2 header.length ∷ Number 4 header.xid ∷ []
+
+-- a whole frame: the header, whose length counts it all, and the fields behind it
+abbrev pub frame : (version kind xid : ℕ) → List Slot → List Slot
+frame version kind xid fields = header_slots (record { version = version; kind = kind; length = 8 + width fields; xid = xid }) ++ fields
 
 -- the types of OpenFlow 1.0
 abbrev pub is_kind : ℕ → Bool
@@ -21,3 +27,13 @@ header_refusal bytes =
     else if not (is_kind (number 1 1 bytes)) then Some (refusal 1 BadType)
     else if nat_lt (number 2 2 bytes) 8 then Some (refusal 2 BadLength)
     else None
+
+-- what a header shows of its frame, of which so many bytes are there
+abbrev pub opened : Option WireRefusal → (told have : ℕ) → Opening
+opened (Some e) told have = Refused e
+opened None told have = if nat_lt have told then Wants told else Frame told
+
+-- What bytes show of the frame that they begin with: less than a header, or than the frame; a whole frame of so many
+-- bytes; or a header that is refused by its own rules.
+unfoldable pub opening_of : List ℕ → Opening
+opening_of bytes = if nat_lt (length bytes) 8 then Wants 8 else opened (header_refusal bytes) (number 2 2 bytes) (length bytes)

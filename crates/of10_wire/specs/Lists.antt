@@ -7,7 +7,7 @@ use Rattle.of10_wire.specs.Refusals.{refusal}
 use Rattle.of10_wire.specs.Layout.{Slot, Stand, width, part}
 
 -- The part stands at the front of the bytes, and takes so many of them.
-pub record Begins {X : Type 0} (slots : X → List Slot) (bytes : List ℕ) (read : X × ℕ) : Type 0 where
+pub record StandsFirst {X : Type 0} (slots : X → List Slot) (bytes : List ℕ) (read : X × ℕ) : Type 0 where
   pub stand : Stand 0 (slots read.0) bytes
   pub wide : width (slots read.0) ≡ read.1
   pub some : 0 < read.1

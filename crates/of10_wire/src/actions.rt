@@ -2,10 +2,11 @@
 
 ghost use Rattle.std.specs.Prelude.{◌≡◌, ◌≤◌, ◌+◌, ◌<◌, ◌^◌, ◌∷◌, [], length, false, IfOk, vec_len, vec_capacity};
 ghost use Rattle.of10_wire.specs.Layout.{Number, Stand, width, number};
-ghost use Rattle.of10_wire.specs.Actions.{action_slots, allows_len, is_no_action, IsProper, RefusesAction};
+ghost use Rattle.of10_wire.specs.Actions.{action_slots, allows_action_len, is_no_action, IsProper, RefusesAction};
 ghost use Rattle.of10_wire.specs.Writing.{Writes};
 
 use crate::action::Action;
+use crate::lists::capped;
 use crate::parts::{Item, Part};
 use crate::read::{array_at, body_at, u8_at, u16_at, u32_at};
 use crate::refusal::{WireRefusal, WireWhy};
@@ -13,8 +14,8 @@ use crate::write::{put_bytes, put_pad, put_u8, put_u16, put_u32};
 use std::alloc::{AllocError, Global};
 
 /// Whether an action of this type may have this length.
-fn allows_len(kind: u16, len: u16) -> bool
-    ensures { result ≡ allows_len kind len }
+fn allows_action_len(kind: u16, len: u16) -> bool
+    ensures { result ≡ allows_action_len kind len }
 {
     match kind {
         4 | 5 | 11 => len == 16,
@@ -34,7 +35,7 @@ fn is_no_action(bytes: &[u8]) -> bool
         return true;
     }
     let len = u16_at(bytes, 2);
-    !allows_len(u16_at(bytes, 0), len) || bytes.len() < len as usize
+    !allows_action_len(u16_at(bytes, 0), len) || bytes.len() < len as usize
 }
 
 /// The action that begins these bytes.
@@ -126,7 +127,7 @@ impl Part for Action {
     fn len(&self) -> usize {
         match self {
             Action::SetDlSrc { .. } | Action::SetDlDst { .. } | Action::Enqueue { .. } => 16,
-            Action::Vendor { body, .. } => (8 + body.len().min(65536)).min(65536),
+            Action::Vendor { body, .. } => capped(8 + capped(body.len())),
             _ => 8,
         }
     }

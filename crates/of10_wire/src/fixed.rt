@@ -10,16 +10,10 @@ use crate::types::{FlowMatch, Header, PhyPort};
 use crate::write::{put_bytes, put_pad, put_u8, put_u16, put_u32};
 
 /// The header that these bytes are.
-#[tactic(auto, unfolding(crate::specs::Layout::Stand, crate::specs::Headers::header_slots))]
 pub fn header(bytes: &[u8; 8]) -> Header
     ensures { Spells (header_slots result) bytes.now }
 {
-    Header {
-        version: u8_at(bytes, 0),
-        kind: u8_at(bytes, 1),
-        length: u16_at(bytes, 2),
-        xid: u32_at(bytes, 4),
-    }
+    Header::read(bytes)
 }
 
 /// The match that these bytes are.
@@ -34,6 +28,43 @@ pub fn phy_port(bytes: &[u8; 48]) -> PhyPort
     ensures { Spells (port_slots result) bytes.now }
 {
     PhyPort::read(bytes)
+}
+
+impl Part for Header {
+    ghost slots = { header_slots };
+
+    ghost proper = { λ header. Unit };
+
+    fn len(&self) -> usize {
+        8
+    }
+
+    fn is_proper(&self) -> bool {
+        true
+    }
+
+    fn put(&self, out: &mut Vec<u8>) {
+        put_u8(out, self.version);
+        put_u8(out, self.kind);
+        put_u16(out, self.length);
+        put_u32(out, self.xid);
+    }
+}
+
+impl FixedPart for Header {
+    ghost WIDTH = { 8 };
+
+    const WIDTH: usize = 8;
+
+    #[tactic(auto, unfolding(crate::specs::Layout::Stand))]
+    fn read(bytes: &[u8]) -> Header {
+        Header {
+            version: u8_at(bytes, 0),
+            kind: u8_at(bytes, 1),
+            length: u16_at(bytes, 2),
+            xid: u32_at(bytes, 4),
+        }
+    }
 }
 
 impl Part for FlowMatch {

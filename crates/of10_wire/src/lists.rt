@@ -74,6 +74,13 @@ pub fn items_at<I: Item + Drop>(
     items(alloc, &bytes[from..to], base + from)
 }
 
+/// The length, up to 65,536, which is more than a frame may have.
+pub fn capped(len: usize) -> usize
+    ensures { result ≡ min len 65536 }
+{
+    len.min(65536)
+}
+
 /// How many bytes the parts take, up to 65,536.
 pub fn len_all<P: Part>(parts: &[P]) -> usize
     ensures { result ≡ min (width (flat_map P.slots parts.now)) 65536 }

@@ -3,7 +3,7 @@
 ghost use Rattle.std.specs.Prelude.{ℕ, List, min, length, IsTrue, ◌↔◌, ◌≡◌, ◌+◌, ◌<◌, ◌≤◌, ◌^◌, vec_len, vec_capacity};
 ghost use Rattle.of10_wire.specs.declared.refusal.WireRefusal.{WireRefusal};
 ghost use Rattle.of10_wire.specs.Layout.{Slot, Stand, width};
-ghost use Rattle.of10_wire.specs.Lists.{Begins};
+ghost use Rattle.of10_wire.specs.Lists.{StandsFirst};
 ghost use Rattle.of10_wire.specs.Refusals.{Answers};
 ghost use Rattle.of10_wire.specs.Writing.{Writes};
 
@@ -57,5 +57,5 @@ pub trait Item: Part {
     /// The part at the front of the bytes, and how many of them it takes. The bytes stand at `place` in their frame.
     fn read_first(alloc: Global, bytes: &[u8], place: usize) -> Result<(Self, usize), WireRefusal>
         requires { place + length bytes.now < 2 ^ 64 }
-        ensures { Answers result (Begins Self.slots bytes.now) (refuses place bytes.now) };
+        ensures { Answers result (StandsFirst Self.slots bytes.now) (refuses place bytes.now) };
 }

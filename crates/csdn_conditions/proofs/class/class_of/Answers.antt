@@ -1,10 +1,9 @@
-use Rattle.std.proofs.Common.{◌∙◌, inl, inr, ap, rules}
+use Rattle.std.proofs.Common.{inl, inr, rules}
 use Rattle.csdn_core.specs.Nodes.{nodes}
-use Rattle.decision_laws.specs.Laws.{form_of}
-use Rattle.fol_forms.specs.Limits.{capped}
+use Rattle.fol_forms.specs.Forms.{form_of}
 use Rattle.fol_forms.specs.Written.{written}
 use Rattle.csdn_conditions.specs.Classes.{copied}
-use Rattle.csdn_conditions.proofs.ClassLaws.{over_nodes, under_nodes, over_instances, under_instances, normal_nodes-is}
+use Rattle.csdn_conditions.proofs.ClassLaws.{over_nodes, under_nodes, over_instances, under_instances}
 use Rattle.csdn_conditions.proofs.class.class_of.Goals as goal
 
 pub returns-then-node_count-gt-MOST_NODES : goal.returns-then-node_count-gt-MOST_NODES
@@ -14,14 +13,14 @@ returns-then-node_count-gt-MOST_NODES c =
 pub returns-then-count_of-gt-MOST_NODES : goal.returns-then-count_of-gt-MOST_NODES
 returns-then-count_of-gt-MOST_NODES c =
     inr
-    (over_nodes (nodes (written (form_of c.args.sentence.now))) c.count_of.result (c.count_of.ensures ∙ ap capped (normal_nodes-is c.args.sentence.now))
+    (over_nodes (nodes (written (form_of c.args.sentence.now))) c.count_of.result c.count_of.ensures
     c.if-count_of-gt-MOST_NODES.true)
 
 pub returns-then-not-in_fragment : goal.returns-then-not-in_fragment
 returns-then-not-in_fragment c = (
   (
     under_nodes (nodes c.args.sentence.now) c.node_count.result c.node_count.ensures c.if-node_count-gt-MOST_NODES.false,
-    under_nodes (nodes (written (form_of c.args.sentence.now))) c.count_of.result (c.count_of.ensures ∙ ap capped (normal_nodes-is c.args.sentence.now))
+    under_nodes (nodes (written (form_of c.args.sentence.now))) c.count_of.result c.count_of.ensures
         c.if-count_of-gt-MOST_NODES.false,
   ),
   search rules,
@@ -31,7 +30,7 @@ pub returns-then-count-gt-MOST_INSTANCES : goal.returns-then-count-gt-MOST_INSTA
 returns-then-count-gt-MOST_INSTANCES c = (
   (
     under_nodes (nodes c.args.sentence.now) c.node_count.result c.node_count.ensures c.if-node_count-gt-MOST_NODES.false,
-    under_nodes (nodes (written (form_of c.args.sentence.now))) c.count_of.result (c.count_of.ensures ∙ ap capped (normal_nodes-is c.args.sentence.now))
+    under_nodes (nodes (written (form_of c.args.sentence.now))) c.count_of.result c.count_of.ensures
         c.if-count_of-gt-MOST_NODES.false,
   ),
   search rules,
@@ -43,7 +42,7 @@ pub returns : goal.returns
 returns c = (
   (
     under_nodes (nodes c.args.sentence.now) c.node_count.result c.node_count.ensures c.if-node_count-gt-MOST_NODES.false,
-    under_nodes (nodes (written (form_of c.args.sentence.now))) c.count_of.result (c.count_of.ensures ∙ ap capped (normal_nodes-is c.args.sentence.now))
+    under_nodes (nodes (written (form_of c.args.sentence.now))) c.count_of.result c.count_of.ensures
         c.if-count_of-gt-MOST_NODES.false,
   ),
   search rules,
