@@ -1,5 +1,5 @@
 -- Where options end, and calls.
-use Rattle.std.proofs.Common.{◌≡◌, ℕ, ◌<◌, ◌≤◌, Bool, true, false, if◌then◌else◌, List, [], ◌∷◌, length, take, drop, get_or, map, ap, sym, ◌∙◌, ◌&&◌, ◌-◌, Option, Some, None, refl, arith}
+use Rattle.std.proofs.Common.{◌≡◌, ℕ, ◌<◌, ◌≤◌, Bool, true, false, if◌then◌else◌, List, [], ◌∷◌, length, take, drop, get_or, map, ap, sym, ◌∙◌, ◌&&◌, ◌-◌, Some, None, refl, arith}
 use Rattle.std.proofs.lemmas.List.{take-map, take_rest, length-map}
 use Rattle.command_words.specs.Rows.{OptionRow, CommandRow}
 use Rattle.command_words.specs.Options.{is_option, behind_options, value_of, is_right, are_options}
@@ -14,11 +14,6 @@ pub value_in_few : {X : Type 0} (option : List ℕ) (f : X → List ℕ) (xs : L
 value_in_few option f [] few = refl
 value_in_few option f (x ∷ []) few = refl
 value_in_few option f (x ∷ y ∷ xs) few = absurd (grind (arith, few))
-
-pub few_are : {X : Type 0} (rows : List OptionRow) (f : X → List ℕ) (xs : List X) → length xs < 2 → are_options rows (map f xs) ≡ true
-few_are rows f [] few = refl
-few_are rows f (x ∷ []) few = refl
-few_are rows f (x ∷ y ∷ xs) few = absurd (grind (arith, few))
 
 shorter_by : (b : Bool) (behind : List (List ℕ)) (w v : List ℕ) (ws : List (List ℕ)) → length behind ≤ length ws → length (if b then behind else w ∷ v ∷ ws) ≤ length (w ∷ v ∷ ws)
 shorter_by true behind w v ws le = grind (arith, le)

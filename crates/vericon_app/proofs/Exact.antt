@@ -7,7 +7,6 @@ use Rattle.csdn_types.specs.declared.refusal.SortRefusal.{SortRefusal}
 use Rattle.csdn_types.specs.Resolved.{broken_rules, parts_of}
 use Rattle.truth_table.specs.FirstForm.{IsFirstForm}
 use Rattle.vericon_edge.specs.Told.{Told, holds, MayHold, MayBeMissing, MayBeLonger}
-use Rattle.vericon_app.specs.declared.source.FileKind.{FileKind}
 use Rattle.vericon_app.specs.declared.source.FileKind.TheVariants.{Program, Frames, Logs}
 use Rattle.vericon_app.specs.declared.program.Why.{Why}
 use Rattle.command_words.specs.Call.{Call}
@@ -15,7 +14,7 @@ use Rattle.command_words.specs.declared.table.Command.{Command}
 use Rattle.command_words.specs.declared.table.Command.TheVariants as command
 use Rattle.command_words.specs.Calls.{number_at}
 use Rattle.vericon_app.specs.Calls.{IsCheck, file_name}
-use Rattle.vericon_app.specs.Inputs.{Inputs, WithFile, was_read, was_refused, was_missing, was_longer, had_failed}
+use Rattle.vericon_app.specs.Inputs.{Inputs, was_read, was_refused, was_missing, was_longer, had_failed}
 use Rattle.vericon_app.specs.Programs.{Spells, IsNoProgram, has_no_reading, breaks_a_rule}
 use Rattle.vericon_app.specs.Small.{IsSmall}
 use Rattle.vericon_app.specs.Check.{VerdictOutput, is_inductive, is_false_at_start, is_false_after, ProgramOutput, has_the_form, has_not_the_form, TextOutput, is_small, is_large, BytesOutput, is_program, is_no_program, CheckOutput}

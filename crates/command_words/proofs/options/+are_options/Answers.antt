@@ -1,6 +1,6 @@
 use Rattle.std.proofs.Common.{map, string_bytes, refl}
 use Rattle.command_words.specs.Rows.{option_row}
-use Rattle.command_words.proofs.Ends.{options_step, few_are}
+use Rattle.command_words.proofs.Ends.{options_step}
 use Rattle.command_words.proofs.options.+are_options.Goals as goal
 
 pub returns-then-is_right : goal.returns-then-is_right
