@@ -12,4 +12,5 @@ text.append(f"pktIn(s, src->dst, i) {{ {body} }}")
 open(sys.argv[1], "w").write("\n".join(text) + "\n")
 PY
 "$vericon" check "$work/large.csdn" || true
-echo "12 relations: $(seconds "$vericon" check "$work/large.csdn") s"
+taken=$(wanted='0 1' seconds "$vericon" check "$work/large.csdn")
+echo "12 relations: $taken s"

@@ -8,7 +8,7 @@ for case in "random 150 0" "random 150 1" "random 150 2" "random 150 3" "random 
     ours=$(seconds "$vericon" clauses "$work/log.txt")
     if command -v minisat > /dev/null; then
         python3 "$here/clauses.py" dimacs "$@" > "$work/clauses.cnf"
-        theirs=$(seconds minisat "$work/clauses.cnf")
+        theirs=$(wanted='10 20' seconds minisat "$work/clauses.cnf")
         echo "$1 $2, seed $3: $answer, $ours s; minisat $theirs s, ratio $(ratio "$ours" "$theirs")"
     else
         echo "$1 $2, seed $3: $answer, $ours s"

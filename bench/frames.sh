@@ -1,7 +1,8 @@
 #!/bin/sh
 # Times `frames` on files of OpenFlow messages, against reading the file once (`wc -c` and `cat`): echoes of mixed sizes;
-# FEATURES_REPLY, PACKET_IN and FLOW_REMOVED; and all types mixed. The time must grow linearly with the file. Where tshark
-# is installed, it reads the file of all types too, as the payload of one TCP stream.
+# FEATURES_REPLY, PACKET_IN and FLOW_REMOVED; and all types mixed. The time must grow linearly with the file. Where they are
+# installed, `ovs-ofctl ofp-parse` reads the file of all types too, message by message, and tshark the same bytes as the
+# payload of one TCP stream; of its segments tshark takes only some messages apart, so its time stands beside their number.
 . "$(dirname "$0")/common.sh"
 python3 - "$work" <<'PY'
 import random, struct, sys
@@ -43,9 +44,13 @@ bodies = {
 def write(name, size, kinds):
     out = bytearray()
     xid = 0
-    while len(out) < size:
+    # no file is longer than its size: `frames` reads at most 16,777,216 bytes
+    while True:
         kind = random.choice(kinds)
-        out += frame(kind, xid, bodies[kind]())
+        more = frame(kind, xid, bodies[kind]())
+        if len(out) + len(more) > size:
+            break
+        out += more
         xid += 1
     open(f"{work}/{name}", "wb").write(out)
     return out
@@ -71,9 +76,17 @@ for name in echoes switch mixed; do
         echo "$name, $mib MiB: $ours s, wc $count s (ratio $(ratio "$ours" "$count")), cat $copy s (ratio $(ratio "$ours" "$copy"))"
     done
 done
+messages=$("$vericon" frames "$work/mixed-16" | wc -l)
+if command -v ovs-ofctl >/dev/null; then
+    theirs=$(seconds ovs-ofctl ofp-parse "$work/mixed-16")
+    echo "mixed, 16 MiB, $messages messages: ovs-ofctl $theirs s, ours $ours s (ratio $(ratio "$theirs" "$ours"))"
+else
+    echo 'ovs-ofctl is not installed'
+fi
 if command -v tshark >/dev/null; then
     theirs=$(seconds tshark -r "$work/mixed.pcap" -T fields -e openflow_1_0.type)
-    echo "mixed, 16 MiB: tshark $theirs s, ours $ours s (ratio $(ratio "$theirs" "$ours"))"
+    named=$(tshark -r "$work/mixed.pcap" -T fields -e openflow_1_0.type 2>/dev/null | tr ',' '\n' | grep -c .)
+    echo "mixed, 16 MiB: tshark $theirs s, and names the types of $named messages of $messages"
 else
     echo 'tshark is not installed'
 fi

@@ -10,8 +10,11 @@ for size in 10000 100000 1000000; do
 import os, resource, subprocess, sys, time
 size, path, command = int(sys.argv[1]), sys.argv[2], sys.argv[3:]
 start = time.perf_counter()
-answer = subprocess.run(command + [path], stdout=subprocess.PIPE).stdout.decode().strip()
+run = subprocess.run(command + [path], stdout=subprocess.PIPE)
 taken = time.perf_counter() - start
+answer = run.stdout.decode().strip()
+if run.returncode != 0:
+    sys.exit(f"status {run.returncode}: {answer}")
 memory = resource.getrusage(resource.RUSAGE_CHILDREN).ru_maxrss
 length = os.path.getsize(path)
 print(f"{size} steps: {answer}, {taken:.2f} s, {taken / size * 1e6:.2f} us a step, {memory} KiB for {length // 1024} KiB of text")

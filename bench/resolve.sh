@@ -13,7 +13,10 @@ def seconds(name, text):
     open(path, "w").write(text)
     start = time.perf_counter()
     for _ in range(20):
-        answer = subprocess.run([vericon, "check", path], stdout=subprocess.PIPE).stdout.decode().split("\n")[0]
+        run = subprocess.run([vericon, "check", path], stdout=subprocess.PIPE)
+        answer = run.stdout.decode().split("\n")[0]
+        if run.returncode not in (0, 1, 2, 3):
+            sys.exit(f"status {run.returncode}: {answer}")
     return (time.perf_counter() - start) / 20, answer.replace(work, "..")
 
 for kib in (16, 32, 64):

@@ -31,6 +31,8 @@ def seconds(program, count):
     start = time.perf_counter()
     answer = subprocess.run([vericon, "trace", program, net, journal], stdout=subprocess.PIPE)
     taken = time.perf_counter() - start
+    if answer.returncode not in (0, 1):
+        sys.exit(f"status {answer.returncode}")
     said = answer.stdout.decode().split("\n")
     return taken, f"status {answer.returncode}, {sum(line.endswith(' ok') for line in said)} ok, {sum(line.startswith('sent ') for line in said)} sent"
 

@@ -1,97 +1,80 @@
 -- A listing goes on, frame by frame.
-use Rattle.std.proofs.Common.{◌≡◌, ℕ, Ok, ◌+◌, ◌-◌, ◌<◌, ◌≤◌, ◌^◌, Bool, List, [], ◌∷◌, ◌++◌, length, take, drop, refl, sym, ap, ap₂, subst, ◌∙◌, append_assoc, arith}
-use Rattle.std.proofs.lemmas.List.{take_all}
+use Rattle.std.proofs.Common.{◌≡◌, ℕ, ◌+◌, ◌-◌, ◌<◌, ◌^◌, Bool, List, [], ◌∷◌, ◌++◌, length, take, drop, refl, sym, ap, subst, ◌∙◌, append_assoc, arith}
+use Rattle.std.proofs.lemmas.List.{take_all, append-nil}
 use Rattle.std.proofs.Common.{length-drop, length-take-le}
-use Rattle.of10_wire.specs.Layout.{number, Stand}
-use Rattle.of10_wire.proofs.Standing.{number-take}
+use Rattle.of10_wire.proofs.Openings.{framed}
 use Rattle.of10_msgs.specs.declared.message.Message.{Message}
-use Rattle.of10_msgs.specs.Messages.{message_slots, spells, kind_of, xid_of}
-use Rattle.of10_msgs.proofs.Spelled.{kind_stands}
+use Rattle.of10_msgs.specs.Messages.{kind_of, xid_of}
 use Rattle.of10_stream.specs.declared.tail.Tail.{Tail}
 use Rattle.of10_stream.specs.declared.tail.Tail.TheVariants.{Cut, Broken}
-use Rattle.of10_stream.specs.Streams.{frame_length, first_frame, behind, Begins, IsTail, IsStream}
-use Rattle.of10_stream.proofs.Once.{counts_header, refused_within}
-use Rattle.of10_listing.specs.Lines.{frame_line, message_line, tail_line, frame_width, IsNear}
-use Rattle.of10_listing.specs.Listings.{listing, is_whole, IsListing, IsFirst, GoesOn}
+use Rattle.of10_stream.specs.Streams.{Begins, IsTail, IsRead, frame_width, widths}
+use Rattle.of10_stream.proofs.Once.{refused_within, stream-one}
+use Rattle.of10_stream.proofs.ReadLaws.{read-next, read-width, widths-next}
+use Rattle.of10_listing.specs.declared.lines.Line.{Line}
+use Rattle.of10_listing.specs.Lines.{frame_line, message_line, tail_line, IsNear}
+use Rattle.of10_listing.specs.Listings.{lines, is_whole, IsListing, IsFirstLine, IsKept}
 
-pub starts : (bytes : List ℕ) → GoesOn bytes 0 bytes []
-starts bytes = λ ms t h. (ms, h, refl)
+pub starts : (bytes : List ℕ) → IsKept bytes 0 bytes []
+unfolding IsRead
+starts bytes = record { messages = []; read = refl; place = refl; listed = refl }
 
-xid_stands : (m : Message) (bytes : List ℕ) → spells m bytes → number 4 4 bytes ≡ xid_of m
-unfolding Stand message_slots
-xid_stands m bytes h = h.stand.1.1.1.0
+lines-next : (at : ℕ) (ms : List Message) (m : Message) → lines at (ms ++ m ∷ []) ≡ lines at ms ++ message_line (at + widths ms) m
+lines-next at [] m = append-nil (message_line at m) ∙ ap (λ (n : ℕ). message_line n m) (omega arith)
+lines-next at (k ∷ ms) m = ap (λ (l : List ℕ). message_line at k ++ l) (lines-next (at + frame_width k) ms m) ∙ (sym (append_assoc (message_line at k) (lines (at + frame_width k) ms) _) ∙ ap (λ (n : ℕ). (message_line at k ++ lines (at + frame_width k) ms) ++ message_line n m) (omega arith))
 
--- what a header says of the message that its frame spells
-module _ (m : Message) (rest : List ℕ) (h : Begins m rest) where
-  pub counts : 8 ≤ frame_length rest
-  counts = counts_header rest h.frame.header.kept
+-- ---- what is printed of the first message
 
-  kind_told : number 1 1 rest ≡ kind_of m
-  kind_told = sym (number-take 1 1 (frame_length rest) rest (omega (arith, counts))) ∙ kind_stands m (first_frame rest) h.spelled
+pub first_is : (bytes : List ℕ) (m : Message) (line : Line) → Begins m line.length bytes → line.kind ≡ kind_of m → line.xid ≡ xid_of m → IsFirstLine bytes line
+first_is bytes m line h kind xid =
+    let f = framed bytes line.length h.frame in
+    record { message = m; begins = h; kind = kind; xid = xid; long = f.long; within = f.within }
 
-  xid_told : number 4 4 rest ≡ xid_of m
-  xid_told = sym (number-take 4 4 (frame_length rest) rest (omega (arith, counts))) ∙ xid_stands m (first_frame rest) h.spelled
+line_wide : (bytes : List ℕ) (line : Line) (h : IsFirstLine bytes line) → line.length ≡ frame_width h.message
+line_wide bytes line h = sym (h.begins.spelled.whole ∙ length-take-le line.length bytes h.within)
 
-  width_told : frame_width m ≡ frame_length rest
-  width_told = h.spelled.whole ∙ length-take-le (frame_length rest) rest h.frame.fits
+line_told : (bytes : List ℕ) (line : Line) (at : ℕ) (h : IsFirstLine bytes line) → frame_line at line.kind line.length line.xid ≡ message_line at h.message
+line_told bytes line at h = rw (h.kind, h.xid, line_wide bytes line h) refl
 
-  line_told : (at : ℕ) → frame_line at (number 1 1 rest) (frame_length rest) (number 4 4 rest) ≡ message_line at m
-  line_told at = rw (kind_told, xid_told, width_told) refl
+-- ---- what is left behind it
 
-  left : take (length rest - frame_length rest) (behind rest) ≡ behind rest
-  left = let e : length (behind rest) ≡ length rest - frame_length rest = length-drop (frame_length rest) rest in
-      take_all (length rest - frame_length rest) (behind rest) (omega (arith, e))
+pub length_left : (n : ℕ) (bytes : List ℕ) → length (take (length bytes - n) (drop n bytes)) ≡ length bytes - n
+length_left n bytes = length-take-le (length bytes - n) (drop n bytes) (omega (arith, length-drop n bytes))
 
-  abbrev Listed : List ℕ → ℕ → List ℕ → List Message → Tail → Type 0
-  Listed bytes at text ms t = (all : List Message) × IsStream bytes all t × (text ++ listing at ms t ≡ listing 0 all t)
+left : (n : ℕ) (bytes : List ℕ) → drop n bytes ≡ take (length bytes - n) (drop n bytes)
+left n bytes = sym (take_all (length bytes - n) (drop n bytes) (omega (arith, length-drop n bytes)))
 
-  pub goes : (bytes text : List ℕ) (at : ℕ) → GoesOn bytes at rest text → GoesOn bytes (at + frame_length rest) (behind rest) (text ++ frame_line at (number 1 1 rest) (frame_length rest) (number 4 4 rest))
-  unfolding IsStream listing
-  goes bytes text at on = λ ms t s.
-      let next = on (m ∷ ms) t (h, s) in
-      let line : frame_line at (number 1 1 rest) (frame_length rest) (number 4 4 rest) ≡ message_line at m = line_told at in
-      let there : at + frame_length rest ≡ at + frame_width m = ap (λ (n : ℕ). at + n) (sym width_told) in
-      (next.0, next.1, ap₂ (λ (l : List ℕ) (n : ℕ). (text ++ l) ++ listing n ms t) line there ∙ append_assoc text (message_line at m) (listing (at + frame_width m) ms t) ∙ next.2)
+pub kept : (bytes rest text new : List ℕ) (at : ℕ) (line : Line) → IsFirstLine rest line → new ≡ text ++ frame_line at line.kind line.length line.xid → IsKept bytes at rest text → IsKept bytes (at + line.length) (take (length rest - line.length) (drop line.length rest)) new
+kept bytes rest text new at line h is inv = record {
+  messages = inv.messages ++ h.message ∷ [];
+  read = subst (λ (l : List ℕ). IsRead bytes (inv.messages ++ h.message ∷ []) l) (left line.length rest) (read-next inv.messages h.message line.length bytes rest inv.read h.begins);
+  place = omega (arith, inv.place, widths-next inv.messages h.message, line_wide rest line h);
+  listed = is ∙ (rw (line_told rest line at h, inv.place, inv.listed) (ap (λ (n : ℕ). lines 0 inv.messages ++ message_line n h.message) (omega arith) ∙ sym (lines-next 0 inv.messages h.message)));
+}
 
-  -- the same, with the rest as the code cuts it
-  pub goes_on : (bytes text : List ℕ) (at len : ℕ) → len ≡ frame_length rest → GoesOn bytes at rest text
-      → GoesOn bytes (at + len) (take (length rest - len) (drop len rest)) (text ++ frame_line at (number 1 1 rest) len (number 4 4 rest))
-  goes_on bytes text at len is on =
-      let Q : ℕ → List ℕ → Type 0 = λ n xs. GoesOn bytes (at + n) xs (text ++ frame_line at (number 1 1 rest) n (number 4 4 rest)) in
-      let done : Q (frame_length rest) (take (length rest - frame_length rest) (behind rest)) = subst (Q (frame_length rest)) (sym left) (goes bytes text at on) in
-      subst (λ (n : ℕ). Q n (take (length rest - n) (drop n rest))) (sym is) done
-
-pub ends : (bytes rest text : List ℕ) (at : ℕ) (t : Tail) (whole : Bool) → GoesOn bytes at rest text → IsTail rest t → whole ≡ is_whole t → IsListing bytes (text ++ tail_line at t) whole
-unfolding IsStream listing
-ends bytes rest text at t whole on is w =
-    let all = on [] t is in
-    record { messages = all.0; tail = t; stream = all.1; lines = all.2; ends = w }
-
--- ---- what the loop keeps
-
-abbrev pub IsKept : List ℕ → ℕ → List ℕ → List ℕ → Type 0
-IsKept bytes at rest text = (at + length rest ≡ length bytes) × GoesOn bytes at rest text
-
-pub first_counts : (rest : List ℕ) (len : ℕ) → IsFirst rest (Ok len) → (8 ≤ len) × (len ≤ length rest)
-first_counts rest len (m, h, is) = (omega (arith, counts m rest h, is), omega (arith, h.frame.fits, is))
-
-pub length_left : (rest : List ℕ) (len : ℕ) → IsFirst rest (Ok len) → length (take (length rest - len) (drop len rest)) ≡ length rest - len
-length_left rest len f =
-    let e : length (drop len rest) ≡ length rest - len = length-drop len rest in
-    length-take-le (length rest - len) (drop len rest) (omega (arith, e))
-
-pub kept : (bytes rest text new : List ℕ) (at len kind xid : ℕ) → IsFirst rest (Ok len) → kind ≡ number 1 1 rest → xid ≡ number 4 4 rest
-    → new ≡ text ++ frame_line at kind len xid → IsKept bytes at rest text → IsKept bytes (at + len) (take (length rest - len) (drop len rest)) new
-kept bytes rest text new at len kind xid f k x is inv =
-    let Q : List ℕ → Type 0 = GoesOn bytes (at + len) (take (length rest - len) (drop len rest)) in
-    let line : text ++ frame_line at (number 1 1 rest) len (number 4 4 rest) ≡ new = rw (is, k, x) refl in
-    (omega (arith, length_left rest len f, inv.0, (first_counts rest len f).1), subst Q line (goes_on f.0 rest f.1 bytes text at len f.2 inv.1))
+-- the place and the rest are all bytes
+pub place_is : (bytes rest text : List ℕ) (at : ℕ) → IsKept bytes at rest text → at + length rest ≡ length bytes
+place_is bytes rest text at inv = omega (arith, inv.place, read-width inv.messages bytes rest inv.read)
 
 pub near : (bytes rest text : List ℕ) (at : ℕ) (t : Tail) → length bytes < 2 ^ 64 → IsTail rest t → IsKept bytes at rest text → IsNear at t
 near bytes rest text at (Cut len) short h inv = tt
-near bytes rest text at (Broken e) short h inv = omega (arith, refused_within rest e h, inv.0, short)
+near bytes rest text at (Broken e) short h inv = omega (arith, refused_within rest e h, place_is bytes rest text at inv, short)
 
 pub ended : (bytes rest text new : List ℕ) (at : ℕ) (t : Tail) (whole : Bool) → IsKept bytes at rest text → IsTail rest t → new ≡ text ++ tail_line at t → whole ≡ is_whole t → IsListing bytes new whole
-ended bytes rest text new at t whole inv h is w =
-    let Q : List ℕ → Type 0 = λ (xs : List ℕ). IsListing bytes xs whole in
-    subst Q (sym is) (ends bytes rest text at t whole inv.1 h w)
+ended bytes rest text new at t whole inv h is w = record {
+  messages = inv.messages;
+  tail = t;
+  stream = (rest, inv.read, h);
+  listed = is ∙ rw (inv.listed, inv.place) refl;
+  ends = w;
+}
+
+-- ---- one listing
+
+text_by : (ms ns : List Message) (t u : Tail) → ms ≡ ns → t ≡ u → (lines 0 ms ++ tail_line (widths ms) t ≡ lines 0 ns ++ tail_line (widths ns) u) × (is_whole t ≡ is_whole u)
+text_by ms ns t u e d = (λ i. lines 0 (e i) ++ tail_line (widths (e i)) (d i), ap is_whole d)
+
+pub one_text : (bytes t u : List ℕ) (v w : Bool) → IsListing bytes t v → IsListing bytes u w → (t ≡ u) × (v ≡ w)
+one_text bytes t u v w h k =
+    let same = stream-one bytes h.messages k.messages h.tail k.tail h.stream k.stream in
+    let both = text_by h.messages k.messages h.tail k.tail same.0 same.1 in
+    (h.listed ∙ (both.0 ∙ sym k.listed), h.ends ∙ (both.1 ∙ sym k.ends))

@@ -2,11 +2,11 @@
 use Rattle.std.specs.Prelude.{ℕ, zero, suc, ◌+◌, ◌<◌, ◌^◌, ◌==◌, if◌then◌else◌, List, [], ◌++◌, codes, decimal}
 use Rattle.of10_wire.specs.declared.refusal.WireWhy.{WireWhy}
 use Rattle.of10_wire.specs.declared.refusal.WireWhy.TheVariants.{Memory, BadVersion, BadType, BadLength, BadAction, BadStat, BadProperty}
-use Rattle.of10_wire.specs.Layout.{width}
 use Rattle.of10_msgs.specs.declared.message.Message.{Message}
-use Rattle.of10_msgs.specs.Messages.{message_slots, kind_of, xid_of}
+use Rattle.of10_msgs.specs.Messages.{kind_of, xid_of}
 use Rattle.of10_stream.specs.declared.tail.Tail.{Tail}
 use Rattle.of10_stream.specs.declared.tail.Tail.TheVariants.{Cut, Broken}
+use Rattle.of10_stream.specs.Streams.{frame_width}
 
 -- the name of a message type (OpenFlow Switch Specification 1.0.0, section 5.1)
 unfoldable pub type_name : ℕ → List ℕ
@@ -43,10 +43,6 @@ why_name BadLength = codes "BadLength"
 why_name BadAction = codes "BadAction"
 why_name BadStat = codes "BadStat"
 why_name BadProperty = codes "BadProperty"
-
--- how many bytes the message's frame has
-abbrev pub frame_width : Message → ℕ
-frame_width message = width (message_slots message)
 
 -- the line of a message of this type, length and number, whose frame begins at a place
 abbrev pub frame_line : (at kind length xid : ℕ) → List ℕ

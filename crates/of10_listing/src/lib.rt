@@ -4,7 +4,7 @@
 mod lines;
 mod listing;
 
-pub use listing::{Listing, list};
+pub use listing::{Listing, list, listings_have_one_text};
 
 #[cfg(test)]
 mod tests;

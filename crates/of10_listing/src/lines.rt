@@ -56,25 +56,25 @@ fn why_name(why: WireWhy) -> &'static [u8]
     }
 }
 
-/// What a header says of its message.
+/// What a line says of a message.
 #[derive(Clone, Copy, Debug)]
-pub struct Told {
+pub struct Line {
     pub kind: u8,
     pub length: usize,
     pub xid: u32,
 }
 
 /// Appends the line of a message whose frame begins at a place.
-pub fn put_message_line(out: &mut Vec<u8>, at: usize, told: Told) -> Result<(), AllocError>
-    ensures { OnOk result (out.new.items ≡ out.old.items ++ frame_line at told.kind told.length told.xid) }
+pub fn put_message_line(out: &mut Vec<u8>, at: usize, line: Line) -> Result<(), AllocError>
+    ensures { OnOk result (out.new.items ≡ out.old.items ++ frame_line at line.kind line.length line.xid) }
 {
     put_number(out, at as u64)?;
     put_word(out, b" ")?;
-    put_word(out, type_name(told.kind))?;
+    put_word(out, type_name(line.kind))?;
     put_word(out, b" length ")?;
-    put_number(out, told.length as u64)?;
+    put_number(out, line.length as u64)?;
     put_word(out, b" xid ")?;
-    put_number(out, u64::from(told.xid))?;
+    put_number(out, u64::from(line.xid))?;
     put_line_end(out)
 }
 

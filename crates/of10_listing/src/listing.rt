@@ -1,12 +1,11 @@
 //! The listing of a stream.
 
-ghost use Rattle.std.specs.Prelude.{ℕ, List, ◌≡◌, IfOk};
+ghost use Rattle.std.specs.Prelude.{ℕ, Bool, List, ◌≡◌, IfOk};
 ghost use Rattle.of10_stream.specs.Fronts.{IsFront};
 ghost use Rattle.of10_listing.specs.Listings.{IsListing, IsFirst, is_whole};
 
-use crate::lines::{Told, put_message_line, put_tail_line};
+use crate::lines::{Line, put_message_line, put_tail_line};
 use of10_stream::{Front, Tail, read_front};
-use of10_wire::{u8_at, u32_at};
 use std::alloc::{AllocError, Global};
 
 /// The listing of a stream.
@@ -18,22 +17,26 @@ pub struct Listing {
     pub is_whole: bool,
 }
 
-/// How many bytes the first message's frame has, or the tail.
-fn length_of(front: &Front) -> Result<usize, Tail>
+/// What is told of the first message, or the tail.
+fn line_of(front: &Front) -> Result<Line, Tail>
     ensures { (bytes : List ℕ) → IsFront bytes front.now → IsFirst bytes result }
 {
     match front {
-        Front::Message(_, length) => Ok(*length),
+        Front::Message(message, length) => Ok(Line {
+            kind: message.kind(),
+            length: *length,
+            xid: message.xid(),
+        }),
         Front::Tail(tail) => Err(*tail),
     }
 }
 
-/// How many bytes the first message's frame has, or the tail that all bytes are.
-fn first_length(alloc: Global, bytes: &[u8]) -> Result<Result<usize, Tail>, AllocError>
+/// What is told of the first message, or the tail that all bytes are.
+fn first_line(alloc: Global, bytes: &[u8]) -> Result<Result<Line, Tail>, AllocError>
     ensures { IfOk result (IsFirst bytes.now) }
 {
     let front = read_front(alloc, bytes)?;
-    Ok(length_of(&front))
+    Ok(line_of(&front))
 }
 
 /// Whether nothing is left.
@@ -54,16 +57,11 @@ pub fn list(alloc: Global, bytes: &[u8]) -> Result<Listing, AllocError>
     let mut at = 0;
     let mut rest = bytes;
     'frames: loop {
-        match first_length(alloc, rest)? {
-            Ok(length) => {
-                let told = Told {
-                    kind: u8_at(rest, 1),
-                    length,
-                    xid: u32_at(rest, 4),
-                };
-                put_message_line(&mut text, at, told)?;
-                at += length;
-                rest = &rest[length..];
+        match first_line(alloc, rest)? {
+            Ok(line) => {
+                put_message_line(&mut text, at, line)?;
+                at += line.length;
+                rest = &rest[line.length..];
             }
             Err(tail) => {
                 put_tail_line(&mut text, at, tail)?;
@@ -75,3 +73,8 @@ pub fn list(alloc: Global, bytes: &[u8]) -> Result<Listing, AllocError>
         }
     }
 }
+
+/// A law: bytes have one listing.
+pub fn listings_have_one_text()
+    ensures { (bytes t u : List ℕ) (v w : Bool) → IsListing bytes t v → IsListing bytes u w → (t ≡ u) × (v ≡ w) }
+{}
