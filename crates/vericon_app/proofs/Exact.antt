@@ -1,5 +1,5 @@
 -- The relation of outputs leaves no choice where nothing disturbs the call.
-use Rattle.std.proofs.Common.{◌≡◌, ℕ, ◌<◌, ◌⊎◌, inl, inr, List, [], Option, Contains, sym, ◌∙◌, ap, subst, arith}
+use Rattle.std.proofs.Common.{◌≡◌, ℕ, ◌<◌, ◌⊎◌, inl, inr, List, [], Option, Some, None, Contains, sym, ◌∙◌, ap, subst, arith}
 use Rattle.csdn_core.specs.declared.program.Parts.{Parts}
 use Rattle.csdn_tree.specs.declared.syntax.RawProgram.{RawProgram}
 use Rattle.csdn_text.proofs.Whole.{reads_one}
@@ -7,20 +7,24 @@ use Rattle.csdn_types.specs.declared.refusal.SortRefusal.{SortRefusal}
 use Rattle.csdn_types.specs.Resolved.{broken_rules, parts_of}
 use Rattle.truth_table.specs.FirstForm.{IsFirstForm}
 use Rattle.vericon_edge.specs.Told.{Told, holds, MayHold, MayBeMissing, MayBeLonger}
-use Rattle.vericon_app.specs.declared.source.FileKind.{FileKind}
 use Rattle.vericon_app.specs.declared.source.FileKind.TheVariants.{Program, Frames, Logs}
 use Rattle.vericon_app.specs.declared.program.Why.{Why}
-use Rattle.vericon_app.specs.Words.{Form, usage, check, show, eval, eval_condition, trace, conditions, frames, clauses}
-use Rattle.vericon_app.specs.Inputs.{Inputs, WithFile, was_read, was_refused, was_missing, was_longer, had_failed}
+use Rattle.command_words.specs.Call.{Call}
+use Rattle.command_words.specs.declared.table.Command.{Command}
+use Rattle.command_words.specs.declared.table.Command.TheVariants as command
+use Rattle.command_words.specs.Calls.{number_at}
+use Rattle.vericon_app.specs.Calls.{IsCheck, file_name}
+use Rattle.vericon_app.specs.Inputs.{Inputs, was_read, was_refused, was_missing, was_longer, had_failed}
 use Rattle.vericon_app.specs.Programs.{Spells, IsNoProgram, has_no_reading, breaks_a_rule}
 use Rattle.vericon_app.specs.Small.{IsSmall}
 use Rattle.vericon_app.specs.Check.{VerdictOutput, is_inductive, is_false_at_start, is_false_after, ProgramOutput, has_the_form, has_not_the_form, TextOutput, is_small, is_large, BytesOutput, is_program, is_no_program, CheckOutput}
 use Rattle.vericon_app.specs.Show.{PrintedOutput}
 use Rattle.vericon_app.specs.Frames.{ListingOutput}
 use Rattle.vericon_app.specs.Clauses.{BlocksOutput}
-use Rattle.vericon_app.specs.Output.{Output}
+use Rattle.vericon_app.specs.Output.{EvalCallOutput, CommandOutput, Output}
 use Rattle.vericon_app.specs.Left.{HasLeft, whole, no_memory, cut, cut_memory}
 use Rattle.vericon_app.specs.Quiet.{IsUndisturbed, calm, Answers, answers, wants_memory}
+use Rattle.vericon_app.proofs.Outputs.{checked}
 use Rattle.vericon_app.proofs.Eased.{calming, file_eased, eval_eased, eval_condition_eased, trace_eased, conditions_eased}
 use Rattle.vericon_app.specs.Decided.{IsDecided, is_yes, is_counterexample, is_not_yet, spells_none, is_too_long}
 
@@ -69,32 +73,43 @@ file_decided given name bytes text status told steady counted (was_refused (was_
 file_decided given name bytes text status told steady counted (was_refused (had_failed rose text_is status_is)) = absurd (omega arith)
 
 -- an undisturbed check decides by the bytes, or memory was short
-pub decided : (form : Form) (given : Inputs) (old new : Option (List ℕ)) (before after status : ℕ) (name bytes : List ℕ) → form ≡ check name → given.told name ≡ holds bytes → IsUndisturbed given before after
-    → HasLeft (Output form given) old new before after status → IsDecided bytes status ⊎ (status ≡ 7)
-decided form given old new before after status name bytes asked told quiet (whole text out grown steady) =
-    inl (file_decided given name bytes text status told quiet.no_read_fault quiet.reads_counted (subst (λ (f : Form). Output f given text status) asked out))
-decided form given old new before after status name bytes asked told quiet (no_memory is grown steady) = inr is
-decided form given old new before after status name bytes asked told quiet (cut text other out is grown rose) = absurd (omega (arith, rose, quiet.no_write_fault, quiet.writes_counted))
-decided form given old new before after status name bytes asked told quiet (cut_memory is grown rose) = absurd (omega (arith, rose, quiet.no_write_fault, quiet.writes_counted))
+pub decided : (asked : Option Call) (given : Inputs) (old new : Option (List ℕ)) (before after status : ℕ) (name bytes : List ℕ) → IsCheck asked name → given.told name ≡ holds bytes → IsUndisturbed given before after
+    → HasLeft (Output asked given) old new before after status → IsDecided bytes status ⊎ (status ≡ 7)
+decided asked given old new before after status name bytes check told quiet (whole text out grown steady) =
+    inl (file_decided given name bytes text status told quiet.no_read_fault quiet.reads_counted (checked asked given text status name check out))
+decided asked given old new before after status name bytes check told quiet (no_memory is grown steady) = inr is
+decided asked given old new before after status name bytes check told quiet (cut text other out is grown rose) = absurd (omega (arith, rose, quiet.no_write_fault, quiet.writes_counted))
+decided asked given old new before after status name bytes check told quiet (cut_memory is grown rose) = absurd (omega (arith, rose, quiet.no_write_fault, quiet.writes_counted))
 
 -- ---- undisturbed calls
 
 -- what no fault disturbed has the output of calm files
-calmed : (form : Form) (given : Inputs) (text : List ℕ) (status : ℕ) → given.after ≡ given.before → given.before < 18446744073709551615 → Output form given text status → Output form (calm given.told) text status
-calmed usage given text status steady counts out = out
-calmed (check name) given text status steady counts out = file_eased given.told given.before given.after 0 0 (calming given.before given.after steady counts) Program name (BytesOutput name) (BytesOutput name) text status (λ bytes said. said) out
-calmed (show name) given text status steady counts out = file_eased given.told given.before given.after 0 0 (calming given.before given.after steady counts) Program name (PrintedOutput name) (PrintedOutput name) text status (λ bytes said. said) out
-calmed (eval name net) given text status steady counts out = eval_eased given.told given.before given.after 0 0 (calming given.before given.after steady counts) name net text status out
-calmed (eval_condition name net index) given text status steady counts out = eval_condition_eased given.told given.before given.after 0 0 (calming given.before given.after steady counts) name net index text status out
-calmed (trace name net journal) given text status steady counts out = trace_eased given.told given.before given.after 0 0 (calming given.before given.after steady counts) name net journal text status out
-calmed (conditions name) given text status steady counts out = conditions_eased given.told given.before given.after 0 0 (calming given.before given.after steady counts) name text status out
-calmed (frames name) given text status steady counts out = file_eased given.told given.before given.after 0 0 (calming given.before given.after steady counts) Frames name ListingOutput ListingOutput text status (λ bytes said. said) out
-calmed (clauses name) given text status steady counts out = file_eased given.told given.before given.after 0 0 (calming given.before given.after steady counts) Logs name (BlocksOutput name) (BlocksOutput name) text status (λ bytes said. said) out
+eval_calmed : (index : Option ℕ) (given : Inputs) (name net text : List ℕ) (status : ℕ) → given.after ≡ given.before → given.before < 18446744073709551615 → EvalCallOutput index given name net text status → EvalCallOutput index (calm given.told) name net text status
+eval_calmed None given name net text status steady counts out = eval_eased given.told given.before given.after 0 0 (calming given.before given.after steady counts) name net text status out
+eval_calmed (Some index) given name net text status steady counts out = eval_condition_eased given.told given.before given.after 0 0 (calming given.before given.after steady counts) name net index text status out
+
+command_calmed : (which : Command) (call : Call) (given : Inputs) (text : List ℕ) (status : ℕ) → given.after ≡ given.before → given.before < 18446744073709551615 → CommandOutput which call given text status → CommandOutput which call (calm given.told) text status
+command_calmed command.Check call given text status steady counts out =
+    file_eased given.told given.before given.after 0 0 (calming given.before given.after steady counts) Program (file_name call 0) (BytesOutput (file_name call 0)) (BytesOutput (file_name call 0)) text status (λ bytes said. said) out
+command_calmed command.Show call given text status steady counts out =
+    file_eased given.told given.before given.after 0 0 (calming given.before given.after steady counts) Program (file_name call 0) (PrintedOutput (file_name call 0)) (PrintedOutput (file_name call 0)) text status (λ bytes said. said) out
+command_calmed command.Eval call given text status steady counts out = eval_calmed (number_at call.operands 3) given (file_name call 0) (file_name call 1) text status steady counts out
+command_calmed command.Trace call given text status steady counts out =
+    trace_eased given.told given.before given.after 0 0 (calming given.before given.after steady counts) (file_name call 0) (file_name call 1) (file_name call 2) text status out
+command_calmed command.Conditions call given text status steady counts out = conditions_eased given.told given.before given.after 0 0 (calming given.before given.after steady counts) (file_name call 0) text status out
+command_calmed command.Clauses call given text status steady counts out =
+    file_eased given.told given.before given.after 0 0 (calming given.before given.after steady counts) Logs (file_name call 0) (BlocksOutput (file_name call 0)) (BlocksOutput (file_name call 0)) text status (λ bytes said. said) out
+command_calmed command.Frames call given text status steady counts out =
+    file_eased given.told given.before given.after 0 0 (calming given.before given.after steady counts) Frames (file_name call 0) ListingOutput ListingOutput text status (λ bytes said. said) out
+
+calmed : (asked : Option Call) (given : Inputs) (text : List ℕ) (status : ℕ) → given.after ≡ given.before → given.before < 18446744073709551615 → Output asked given text status → Output asked (calm given.told) text status
+calmed None given text status steady counts out = out
+calmed (Some call) given text status steady counts out = command_calmed call.command call given text status steady counts out
 
 -- an undisturbed call answers, or memory was short
-pub answered : (form : Form) (given : Inputs) (old new : Option (List ℕ)) (before after status : ℕ) → IsUndisturbed given before after → HasLeft (Output form given) old new before after status
-    → Answers form given.told old new status
-answered form given old new before after status quiet (whole text out grown steady) = answers text (calmed form given text status quiet.no_read_fault quiet.reads_counted out) grown
-answered form given old new before after status quiet (no_memory is grown steady) = wants_memory is grown
-answered form given old new before after status quiet (cut text other out is grown rose) = absurd (omega (arith, rose, quiet.no_write_fault, quiet.writes_counted))
-answered form given old new before after status quiet (cut_memory is grown rose) = absurd (omega (arith, rose, quiet.no_write_fault, quiet.writes_counted))
+pub answered : (asked : Option Call) (given : Inputs) (old new : Option (List ℕ)) (before after status : ℕ) → IsUndisturbed given before after → HasLeft (Output asked given) old new before after status
+    → Answers asked given.told old new status
+answered asked given old new before after status quiet (whole text out grown steady) = answers text (calmed asked given text status quiet.no_read_fault quiet.reads_counted out) grown
+answered asked given old new before after status quiet (no_memory is grown steady) = wants_memory is grown
+answered asked given old new before after status quiet (cut text other out is grown rose) = absurd (omega (arith, rose, quiet.no_write_fault, quiet.writes_counted))
+answered asked given old new before after status quiet (cut_memory is grown rose) = absurd (omega (arith, rose, quiet.no_write_fault, quiet.writes_counted))

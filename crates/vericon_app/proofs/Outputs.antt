@@ -3,11 +3,13 @@ use Rattle.std.proofs.Common.{◌≡◌, ℕ, List, ◌++◌, Option, Result, Ok
 use Rattle.csdn_core.specs.declared.program.Parts.{Parts}
 use Rattle.csdn_core.proofs.Induction.{sound}
 use Rattle.vericon_edge.specs.Told.{Told, MayHold}
-use Rattle.vericon_app.specs.Words.{Form, check}
+use Rattle.command_words.specs.Call.{Call}
+use Rattle.command_words.specs.declared.table.Command.{Command}
+use Rattle.vericon_app.specs.Calls.{IsCheck, file_name}
 use Rattle.vericon_app.specs.Inputs.{Inputs, was_read, was_refused, was_missing, was_longer, had_failed}
 use Rattle.vericon_app.specs.Programs.{Spells}
 use Rattle.vericon_app.specs.Check.{VerdictOutput, is_inductive, is_false_at_start, is_false_after, ProgramOutput, has_the_form, has_not_the_form, TextOutput, is_small, is_large, BytesOutput, is_program, is_no_program, CheckOutput}
-use Rattle.vericon_app.specs.Output.{Output}
+use Rattle.vericon_app.specs.Output.{CommandOutput, Output}
 use Rattle.vericon_app.specs.Left.{HasLeft, whole, cut, Finishes, all, front}
 use Rattle.vericon_app.specs.Verified.{IsVerified}
 
@@ -52,9 +54,15 @@ verified_file given name text status (was_refused (was_missing may text_is statu
 verified_file given name text status (was_refused (was_longer may text_is status_is)) zero_is = absurd (omega arith)
 verified_file given name text status (was_refused (had_failed rose text_is status_is)) zero_is = absurd (omega arith)
 
+-- the output of a call of `check`
+pub checked : (asked : Option Call) (given : Inputs) (text : List ℕ) (status : ℕ) (name : List ℕ) → IsCheck asked name → Output asked given text status → CheckOutput given name text status
+checked asked given text status name check out =
+    let said : CommandOutput check.call.command check.call given text status = subst (λ (a : Option Call). Output a given text status) check.asked_is out in
+    let named : CheckOutput given (file_name check.call 0) text status = subst (λ (command : Command). CommandOutput command check.call given text status) check.command_is said in
+    subst (λ (n : List ℕ). CheckOutput given n text status) check.name_is named
+
 -- a call of `check` that ends with 0 has written a yes
-pub verified : (form : Form) (given : Inputs) (text : List ℕ) (said : ℕ) (old new : Option (List ℕ)) (before after status : ℕ) (name : List ℕ)
-    → Output form given text said → Finishes text said old new before after status → form ≡ check name → status ≡ 0 → IsVerified (given.told name)
-verified form given text said old new before after status name out (all is grown steady) asked zero_is =
-    verified_file given name text said (subst (λ (f : Form). Output f given text said) asked out) (sym is ∙ zero_is)
-verified form given text said old new before after status name out (front is grown rose) asked zero_is = absurd (omega arith)
+pub verified : (asked : Option Call) (given : Inputs) (text : List ℕ) (said : ℕ) (old new : Option (List ℕ)) (before after status : ℕ) (name : List ℕ)
+    → Output asked given text said → Finishes text said old new before after status → IsCheck asked name → status ≡ 0 → IsVerified (given.told name)
+verified asked given text said old new before after status name out (all is grown steady) check zero_is = verified_file given name text said (checked asked given text said name check out) (sym is ∙ zero_is)
+verified asked given text said old new before after status name out (front is grown rose) check zero_is = absurd (omega arith)

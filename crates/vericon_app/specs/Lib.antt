@@ -1,5 +1,5 @@
 pub mod Status
-pub mod Words
+pub mod Calls
 pub mod Refusals
 pub mod Programs
 pub mod Lines

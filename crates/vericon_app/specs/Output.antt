@@ -1,6 +1,10 @@
 -- The outputs of all commands.
-use Rattle.std.specs.Prelude.{◌≡◌, ℕ, List}
-use Rattle.vericon_app.specs.Words.{Form, usage, check, show, eval, eval_condition, trace, conditions, frames, clauses}
+use Rattle.std.specs.Prelude.{◌≡◌, ℕ, List, Option, Some, None}
+use Rattle.command_words.specs.declared.table.Command.{Command}
+use Rattle.command_words.specs.declared.table.Command.TheVariants.{Check, Show, Eval, Trace, Conditions, Clauses, Frames}
+use Rattle.command_words.specs.Call.{Call}
+use Rattle.command_words.specs.Calls.{number_at}
+use Rattle.vericon_app.specs.Calls.{file_name}
 use Rattle.vericon_app.specs.Inputs.{Inputs}
 use Rattle.vericon_app.specs.Lines.{usage_text}
 use Rattle.vericon_app.specs.Check.{CheckOutput}
@@ -11,14 +15,22 @@ use Rattle.vericon_app.specs.Trace.{TraceOutput}
 use Rattle.vericon_app.specs.Frames.{FramesOutput}
 use Rattle.vericon_app.specs.Clauses.{ClausesOutput}
 
--- what a call of this form may print, and its status
-abbrev pub Output : Form → Inputs → List ℕ → ℕ → Type 0
-Output usage given text status = (text ≡ usage_text) × (status ≡ 6)
-Output (check name) given text status = CheckOutput given name text status
-Output (show name) given text status = ShowOutput given name text status
-Output (eval name net) given text status = EvalOutput given name net text status
-Output (eval_condition name net index) given text status = EvalConditionOutput given name net index text status
-Output (trace name net journal) given text status = TraceOutput given name net journal text status
-Output (conditions name) given text status = ConditionsOutput given name text status
-Output (frames name) given text status = FramesOutput given name text status
-Output (clauses name) given text status = ClausesOutput given name text status
+-- `eval PROGRAM NET`; and with the number of a condition, `eval PROGRAM NET 0 INDEX`
+abbrev pub EvalCallOutput : Option ℕ → Inputs → List ℕ → List ℕ → List ℕ → ℕ → Type 0
+EvalCallOutput None given name net text status = EvalOutput given name net text status
+EvalCallOutput (Some index) given name net text status = EvalConditionOutput given name net index text status
+
+-- what a call of the command may print, and its status
+abbrev pub CommandOutput : Command → Call → Inputs → List ℕ → ℕ → Type 0
+CommandOutput Check call given text status = CheckOutput given (file_name call 0) text status
+CommandOutput Show call given text status = ShowOutput given (file_name call 0) text status
+CommandOutput Eval call given text status = EvalCallOutput (number_at call.operands 3) given (file_name call 0) (file_name call 1) text status
+CommandOutput Trace call given text status = TraceOutput given (file_name call 0) (file_name call 1) (file_name call 2) text status
+CommandOutput Conditions call given text status = ConditionsOutput given (file_name call 0) text status
+CommandOutput Clauses call given text status = ClausesOutput given (file_name call 0) text status
+CommandOutput Frames call given text status = FramesOutput given (file_name call 0) text status
+
+-- what a call with these words may print, and its status
+abbrev pub Output : Option Call → Inputs → List ℕ → ℕ → Type 0
+Output None given text status = (text ≡ usage_text) × (status ≡ 6)
+Output (Some call) given text status = CommandOutput call.command call given text status

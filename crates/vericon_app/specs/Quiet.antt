@@ -2,7 +2,7 @@
 use Rattle.std.specs.Prelude.{◌≡◌, ℕ, ◌<◌, ◌-◌, ◌^◌, List, Option}
 use Rattle.vericon_edge.specs.Told.{Told}
 use Rattle.vericon_edge.specs.Written.{Grown}
-use Rattle.vericon_app.specs.Words.{Form}
+use Rattle.command_words.specs.Call.{Call}
 use Rattle.vericon_app.specs.Inputs.{Inputs}
 use Rattle.vericon_app.specs.Lines.{memory_text}
 use Rattle.vericon_app.specs.Output.{Output}
@@ -19,6 +19,6 @@ abbrev pub calm : (List ℕ → Told) → Inputs
 calm told = record { told = told; before = 0; after = 0 }
 
 -- An output that no fault explains was written whole; or the line `memory` was.
-pub data Answers (form : Form) (told : List ℕ → Told) (old new : Option (List ℕ)) (status : ℕ) : Type 0 where
-  answers : (text : List ℕ) → Output form (calm told) text status → Grown old new text → Answers form told old new status
-  wants_memory : status ≡ 7 → Grown old new memory_text → Answers form told old new status
+pub data Answers (asked : Option Call) (told : List ℕ → Told) (old new : Option (List ℕ)) (status : ℕ) : Type 0 where
+  answers : (text : List ℕ) → Output asked (calm told) text status → Grown old new text → Answers asked told old new status
+  wants_memory : status ≡ 7 → Grown old new memory_text → Answers asked told old new status

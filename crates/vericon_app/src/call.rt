@@ -1,12 +1,12 @@
 //! The call of a command that uses no network.
-ghost use Rattle.std.specs.Prelude.{◌≡◌, ◌≤◌, ◌⊎◌, ℕ, List, map, string_bytes, IfOk};
+ghost use Rattle.std.specs.Prelude.{◌≡◌, ◌≤◌, ◌+◌, ◌⊎◌, ℕ, false, List, map, string_bytes, IfOk};
 ghost use Rattle.vericon_app.specs.Status.{code_of};
-ghost use Rattle.vericon_app.specs.Words.{form_of};
+ghost use Rattle.command_words.specs.Calls.{asked_call};
+ghost use Rattle.vericon_app.specs.Calls.{IsCheck, files_of, files_named};
 ghost use Rattle.vericon_app.specs.Lines.{memory_text};
 ghost use Rattle.vericon_app.specs.Inputs.{inputs_of};
-ghost use Rattle.vericon_app.specs.Output.{Output};
+ghost use Rattle.vericon_app.specs.Output.{CommandOutput, Output};
 ghost use Rattle.vericon_app.specs.Left.{HasLeft, Finishes};
-ghost use Rattle.vericon_app.specs.Words.{check as check_form};
 ghost use Rattle.vericon_app.specs.Verified.{IsVerified};
 ghost use Rattle.vericon_app.specs.Quiet.{IsUndisturbed, Answers};
 ghost use Rattle.vericon_app.specs.Decided.{IsDecided};
@@ -15,51 +15,69 @@ ghost use Rattle.vericon_edge.specs.Told.{holds};
 use crate::check::check;
 use crate::clauses::clauses;
 use crate::conditions::conditions;
-use crate::eval::{eval, eval_condition};
+use crate::eval::eval_call;
 use crate::frames::frames;
 use crate::lines::usage;
 use crate::outcome::{Outcome, Status};
 use crate::show::show;
 use crate::trace::trace;
-use crate::words::{Request, request_of};
+use command_words::request::Request;
+use command_words::request_of;
+use command_words::table::Command;
 use std::alloc::{AllocError, Global};
 use vericon_edge::files::Files;
 use vericon_edge::sink::{Sink, write_piece};
 
-/// What the command that the words name says.
-fn run_command<F: Files>(
+/// What the command that a call names says.
+fn run_request<F: Files>(
+    alloc: Global,
+    request: &Request,
+    files: &mut F,
+) -> Result<Outcome, AllocError>
+    ensures output { IfOk result (λ outcome. CommandOutput request.now.command request.now (inputs_of F.told F.read_faults files.old files.new) outcome.text.items (code_of outcome.status)) }
+    ensures told { F.told files.new ≡ F.told files.old }
+    ensures later { F.read_faults files.old ≤ F.read_faults files.new }
+    ensures writes { F.write_faults files.new ≡ F.write_faults files.old }
+    ensures reads { F.read_calls files.new ≤ F.read_calls files.old + files_of request.now.command }
+    ensures no_write { F.write_calls files.new ≡ F.write_calls files.old }
+{
+    let file = request.operand(0);
+    let net = request.operand(1);
+    let journal = request.operand(2);
+    let index = request.number(3);
+    match request.command() {
+        Command::Check => check(alloc, files, file),
+        Command::Show => show(alloc, files, file),
+        Command::Eval => eval_call(alloc, files, file, net, index),
+        Command::Trace => trace(alloc, files, file, net, journal),
+        Command::Conditions => conditions(alloc, files, file),
+        Command::Clauses => clauses(alloc, files, file),
+        Command::Frames => frames(alloc, files, file),
+    }
+}
+
+/// What the call says that the words are.
+fn run_words<F: Files>(
     alloc: Global,
     words: &[String],
     files: &mut F,
 ) -> Result<Outcome, AllocError>
-    ensures output { IfOk result (λ outcome. Output (form_of (map string_bytes words.now)) (inputs_of F.told F.read_faults files.old files.new) outcome.text.items (code_of outcome.status)) }
+    ensures output { IfOk result (λ outcome. Output (asked_call (map string_bytes words.now)) (inputs_of F.told F.read_faults files.old files.new) outcome.text.items (code_of outcome.status)) }
     ensures told { F.told files.new ≡ F.told files.old }
     ensures later { F.read_faults files.old ≤ F.read_faults files.new }
     ensures writes { F.write_faults files.new ≡ F.write_faults files.old }
+    ensures reads { F.read_calls files.new ≤ F.read_calls files.old + files_named (asked_call (map string_bytes words.now)) }
+    ensures no_write { F.write_calls files.new ≡ F.write_calls files.old }
 {
     match request_of(words) {
-        Request::Usage => usage(alloc),
-        Request::Check { program } => check(alloc, files, program),
-        Request::Show { program } => show(alloc, files, program),
-        Request::Eval { program, net } => eval(alloc, files, program, net),
-        Request::EvalCondition {
-            program,
-            net,
-            index,
-        } => eval_condition(alloc, files, program, net, index),
-        Request::Trace {
-            program,
-            net,
-            journal,
-        } => trace(alloc, files, program, net, journal),
-        Request::Conditions { program } => conditions(alloc, files, program),
-        Request::Frames { file } => frames(alloc, files, file),
-        Request::Clauses { file } => clauses(alloc, files, file),
+        None => usage(alloc),
+        Some(request) => run_request(alloc, &request, files),
     }
 }
 
 /// Writes a text. The answer is the status where all of it was written.
 fn finish<S: Sink>(out: &mut S, text: &[u8], status: Status) -> u8
+    requires { S.has_failed out.old ≡ false }
     ensures finishes { Finishes text.now (code_of status) (S.written out.old) (S.written out.new) (S.faults out.old) (S.faults out.new) result }
     ensures later { S.faults out.old ≤ S.faults out.new }
 {
@@ -71,6 +89,7 @@ fn finish<S: Sink>(out: &mut S, text: &[u8], status: Status) -> u8
 
 /// Says that there was no memory for the call.
 pub fn no_memory<S: Sink>(out: &mut S) -> u8
+    requires { S.has_failed out.old ≡ false }
     ensures finishes { Finishes memory_text 7 (S.written out.old) (S.written out.new) (S.faults out.old) (S.faults out.new) result }
     ensures later { S.faults out.old ≤ S.faults out.new }
 {
@@ -95,24 +114,25 @@ pub fn check_call<F: Files, S: Sink>(
     files: &mut F,
     out: &mut S,
 ) -> u8
+    requires { S.has_failed out.old ≡ false }
     // what is written, and its status
-    ensures output { HasLeft (Output (form_of (map string_bytes words.now)) (inputs_of F.told F.read_faults files.old files.new)) (S.written out.old) (S.written out.new) (S.faults out.old) (S.faults out.new) result }
+    ensures output { HasLeft (Output (asked_call (map string_bytes words.now)) (inputs_of F.told F.read_faults files.old files.new)) (S.written out.old) (S.written out.new) (S.faults out.old) (S.faults out.new) result }
     // a yes: the program is inductive, and holds its invariants in every network and every run
-    ensures yes { (name : List ℕ) → form_of (map string_bytes words.now) ≡ check_form name → result ≡ 0 → IsVerified (F.told files.old name) }
+    ensures yes { (name : List ℕ) → IsCheck (asked_call (map string_bytes words.now)) name → result ≡ 0 → IsVerified (F.told files.old name) }
     // where no fault was counted, want of memory is the only excuse
-    ensures answered { IsUndisturbed (inputs_of F.told F.read_faults files.old files.new) (S.faults out.old) (S.faults out.new) → Answers (form_of (map string_bytes words.now)) (F.told files.old) (S.written out.old) (S.written out.new) result }
+    ensures answered { IsUndisturbed (inputs_of F.told F.read_faults files.old files.new) (S.faults out.old) (S.faults out.new) → Answers (asked_call (map string_bytes words.now)) (F.told files.old) (S.written out.old) (S.written out.new) result }
     // so what `check` is told fixes its status
-    ensures decided { (name bytes : List ℕ) → form_of (map string_bytes words.now) ≡ check_form name → F.told files.old name ≡ holds bytes → IsUndisturbed (inputs_of F.told F.read_faults files.old files.new) (S.faults out.old) (S.faults out.new) → IsDecided bytes result ⊎ (result ≡ 7) }
+    ensures decided { (name bytes : List ℕ) → IsCheck (asked_call (map string_bytes words.now)) name → F.told files.old name ≡ holds bytes → IsUndisturbed (inputs_of F.told F.read_faults files.old files.new) (S.faults out.old) (S.faults out.new) → IsDecided bytes result ⊎ (result ≡ 7) }
+    // each file that is named is read once at most, and none is written
+    ensures once { F.read_calls files.new ≤ F.read_calls files.old + files_named (asked_call (map string_bytes words.now)) }
+    ensures no_write { F.write_calls files.new ≡ F.write_calls files.old }
     ensures told { F.told files.new ≡ F.told files.old }
     ensures reads { F.read_faults files.old ≤ F.read_faults files.new }
     ensures writes { F.write_faults files.new ≡ F.write_faults files.old }
     ensures faults { S.faults out.old ≤ S.faults out.new }
 {
-    match run_command(alloc, words, files) {
+    match run_words(alloc, words, files) {
         Ok(outcome) => finish(out, outcome.text.as_slice(), outcome.status),
         Err(_) => no_memory(out),
     }
 }
-
-#[cfg(test)]
-mod tests;

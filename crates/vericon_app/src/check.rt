@@ -1,5 +1,5 @@
 //! `check PROGRAM`: whether a program holds its invariants.
-ghost use Rattle.std.specs.Prelude.{◌≡◌, ◌≤◌, IfOk, Ok, true, false};
+ghost use Rattle.std.specs.Prelude.{◌≡◌, ◌+◌, ◌≤◌, IfOk, Ok, true, false};
 ghost use Rattle.vericon_app.specs.Status.{code_of};
 ghost use Rattle.vericon_app.specs.Inputs.{inputs_of};
 ghost use Rattle.truth_table.specs.FirstForm.{IsFirstForm};
@@ -83,6 +83,8 @@ pub fn check<F: Files>(alloc: Global, files: &mut F, name: &str) -> Result<Outco
     ensures told { F.told files.new ≡ F.told files.old }
     ensures later { F.read_faults files.old ≤ F.read_faults files.new }
     ensures writes { F.write_faults files.new ≡ F.write_faults files.old }
+    ensures reads { F.read_calls files.new ≤ F.read_calls files.old + 1 }
+    ensures no_write { F.write_calls files.new ≡ F.write_calls files.old }
 {
     match read_file(alloc, files, FileKind::Program, name)? {
         Source::Bytes(bytes) => check_bytes(alloc, name, &bytes),

@@ -1,5 +1,5 @@
 //! `clauses FILE`: whether the logs of a file are accepted, and answers to clauses without a log.
-ghost use Rattle.std.specs.Prelude.{◌≡◌, ◌≤◌, IfOk, if◌then◌else◌};
+ghost use Rattle.std.specs.Prelude.{◌≡◌, ◌+◌, ◌≤◌, IfOk, if◌then◌else◌};
 ghost use Rattle.vericon_app.specs.Status.{code_of};
 ghost use Rattle.vericon_app.specs.Inputs.{inputs_of};
 ghost use Rattle.vericon_app.specs.Clauses.{BlocksOutput, ClausesOutput};
@@ -45,6 +45,8 @@ pub fn clauses<F: Files>(alloc: Global, files: &mut F, name: &str) -> Result<Out
     ensures told { F.told files.new ≡ F.told files.old }
     ensures later { F.read_faults files.old ≤ F.read_faults files.new }
     ensures writes { F.write_faults files.new ≡ F.write_faults files.old }
+    ensures reads { F.read_calls files.new ≤ F.read_calls files.old + 1 }
+    ensures no_write { F.write_calls files.new ≡ F.write_calls files.old }
 {
     match read_file(alloc, files, FileKind::Logs, name)? {
         Source::Bytes(bytes) => list_blocks(alloc, name, &bytes),

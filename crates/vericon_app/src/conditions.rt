@@ -1,5 +1,5 @@
 //! `conditions PROGRAM`: what has to be decided of a program, and which of it can be.
-ghost use Rattle.std.specs.Prelude.{◌≡◌, ◌≤◌, IfOk};
+ghost use Rattle.std.specs.Prelude.{◌≡◌, ◌+◌, ◌≤◌, IfOk};
 ghost use Rattle.vericon_app.specs.Status.{code_of};
 ghost use Rattle.vericon_app.specs.Inputs.{inputs_of};
 ghost use Rattle.vericon_app.specs.Conditions.{ClassesOutput, ConditionsOutput};
@@ -28,6 +28,8 @@ pub fn conditions<F: Files>(alloc: Global, files: &mut F, name: &str) -> Result<
     ensures told { F.told files.new ≡ F.told files.old }
     ensures later { F.read_faults files.old ≤ F.read_faults files.new }
     ensures writes { F.write_faults files.new ≡ F.write_faults files.old }
+    ensures reads { F.read_calls files.new ≤ F.read_calls files.old + 1 }
+    ensures no_write { F.write_calls files.new ≡ F.write_calls files.old }
 {
     match load_program(alloc, files, name)? {
         Load::Loaded(program) => class_lines(alloc, &program),

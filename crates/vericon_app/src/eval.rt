@@ -1,10 +1,11 @@
 //! `eval PROGRAM NET`: which invariants are true in a network. `eval PROGRAM NET 0 INDEX`: and whether a condition is.
-ghost use Rattle.std.specs.Prelude.{◌≡◌, ◌<◌, ◌≤◌, IfOk, if◌then◌else◌, length};
+ghost use Rattle.std.specs.Prelude.{◌≡◌, ◌+◌, ◌<◌, ◌≤◌, IfOk, if◌then◌else◌, length};
 ghost use Rattle.csdn_conditions.specs.Kinds.{kinds};
 ghost use Rattle.vericon_app.specs.Status.{code_of};
 ghost use Rattle.vericon_app.specs.Inputs.{inputs_of};
 ghost use Rattle.vericon_app.specs.Loads.{WithCase};
 ghost use Rattle.vericon_app.specs.Eval.{TruthOutput, EvalOutput};
+ghost use Rattle.vericon_app.specs.Output.{EvalCallOutput};
 ghost use Rattle.vericon_app.specs.Conditions.{ConditionOutput, EvalConditionOutput, IsTold};
 
 use crate::lines::usage;
@@ -41,6 +42,8 @@ fn eval_program<F: Files>(
     ensures told { F.told files.new ≡ F.told files.old }
     ensures later { F.read_faults files.old ≤ F.read_faults files.new }
     ensures writes { F.write_faults files.new ≡ F.write_faults files.old }
+    ensures reads { F.read_calls files.new ≤ F.read_calls files.old + 1 }
+    ensures no_write { F.write_calls files.new ≡ F.write_calls files.old }
 {
     match load_case(alloc, files, program, net)? {
         Load::Loaded(case) => case_lines(alloc, program, &case),
@@ -49,7 +52,7 @@ fn eval_program<F: Files>(
 }
 
 /// What `eval` says of a program and a network.
-pub fn eval<F: Files>(
+fn eval<F: Files>(
     alloc: Global,
     files: &mut F,
     name: &str,
@@ -59,6 +62,8 @@ pub fn eval<F: Files>(
     ensures told { F.told files.new ≡ F.told files.old }
     ensures later { F.read_faults files.old ≤ F.read_faults files.new }
     ensures writes { F.write_faults files.new ≡ F.write_faults files.old }
+    ensures reads { F.read_calls files.new ≤ F.read_calls files.old + 2 }
+    ensures no_write { F.write_calls files.new ≡ F.write_calls files.old }
 {
     match load_program(alloc, files, name)? {
         Load::Loaded(program) => eval_program(alloc, files, net, &program),
@@ -126,6 +131,8 @@ fn eval_condition_in<F: Files>(
     ensures told { F.told files.new ≡ F.told files.old }
     ensures later { F.read_faults files.old ≤ F.read_faults files.new }
     ensures writes { F.write_faults files.new ≡ F.write_faults files.old }
+    ensures reads { F.read_calls files.new ≤ F.read_calls files.old + 1 }
+    ensures no_write { F.write_calls files.new ≡ F.write_calls files.old }
 {
     match load_case(alloc, files, program, net)? {
         Load::Loaded(case) => condition_in(alloc, program, &case, index),
@@ -134,7 +141,7 @@ fn eval_condition_in<F: Files>(
 }
 
 /// What `eval` says of a program, a network and the number of a condition.
-pub fn eval_condition<F: Files>(
+fn eval_condition<F: Files>(
     alloc: Global,
     files: &mut F,
     name: &str,
@@ -145,9 +152,32 @@ pub fn eval_condition<F: Files>(
     ensures told { F.told files.new ≡ F.told files.old }
     ensures later { F.read_faults files.old ≤ F.read_faults files.new }
     ensures writes { F.write_faults files.new ≡ F.write_faults files.old }
+    ensures reads { F.read_calls files.new ≤ F.read_calls files.old + 2 }
+    ensures no_write { F.write_calls files.new ≡ F.write_calls files.old }
 {
     match load_program(alloc, files, name)? {
         Load::Loaded(program) => eval_condition_in(alloc, files, net, index, &program),
         Load::Refused(outcome) => Ok(outcome),
+    }
+}
+
+/// What `eval` says of a program and a network, and of a condition, where its number is given.
+pub fn eval_call<F: Files>(
+    alloc: Global,
+    files: &mut F,
+    name: &str,
+    net: &str,
+    index: Option<u32>,
+) -> Result<Outcome, AllocError>
+    ensures output { IfOk result (λ outcome. EvalCallOutput index (inputs_of F.told F.read_faults files.old files.new) name.now net.now outcome.text.items (code_of outcome.status)) }
+    ensures told { F.told files.new ≡ F.told files.old }
+    ensures later { F.read_faults files.old ≤ F.read_faults files.new }
+    ensures writes { F.write_faults files.new ≡ F.write_faults files.old }
+    ensures reads { F.read_calls files.new ≤ F.read_calls files.old + 2 }
+    ensures no_write { F.write_calls files.new ≡ F.write_calls files.old }
+{
+    match index {
+        None => eval(alloc, files, name, net),
+        Some(index) => eval_condition(alloc, files, name, net, index),
     }
 }

@@ -1,5 +1,5 @@
 //! `frames FILE`: what OpenFlow messages a file holds.
-ghost use Rattle.std.specs.Prelude.{◌≡◌, ◌≤◌, IfOk};
+ghost use Rattle.std.specs.Prelude.{◌≡◌, ◌+◌, ◌≤◌, IfOk};
 ghost use Rattle.vericon_app.specs.Status.{code_of};
 ghost use Rattle.vericon_app.specs.Inputs.{inputs_of};
 ghost use Rattle.vericon_app.specs.Frames.{ListingOutput, FramesOutput};
@@ -32,6 +32,8 @@ pub fn frames<F: Files>(alloc: Global, files: &mut F, name: &str) -> Result<Outc
     ensures told { F.told files.new ≡ F.told files.old }
     ensures later { F.read_faults files.old ≤ F.read_faults files.new }
     ensures writes { F.write_faults files.new ≡ F.write_faults files.old }
+    ensures reads { F.read_calls files.new ≤ F.read_calls files.old + 1 }
+    ensures no_write { F.write_calls files.new ≡ F.write_calls files.old }
 {
     match read_file(alloc, files, FileKind::Frames, name)? {
         Source::Bytes(bytes) => list_bytes(alloc, &bytes),

@@ -1,5 +1,5 @@
 //! Files that are read as a program, a network or a journal.
-ghost use Rattle.std.specs.Prelude.{◌≡◌, ◌≤◌, IfOk};
+ghost use Rattle.std.specs.Prelude.{◌≡◌, ◌+◌, ◌≤◌, IfOk};
 ghost use Rattle.vericon_app.specs.Status.{code_of};
 ghost use Rattle.vericon_app.specs.Inputs.{inputs_of};
 ghost use Rattle.vericon_app.specs.LoadGives.{CaseOf, IsCaseLoad, IsNotesLoad, IsProgramLoad, NotesOf, ProgramOf};
@@ -49,6 +49,8 @@ pub fn load_program<F: Files>(
     ensures told { F.told files.new ≡ F.told files.old }
     ensures later { F.read_faults files.old ≤ F.read_faults files.new }
     ensures writes { F.write_faults files.new ≡ F.write_faults files.old }
+    ensures reads { F.read_calls files.new ≤ F.read_calls files.old + 1 }
+    ensures no_write { F.write_calls files.new ≡ F.write_calls files.old }
 {
     match read_file(alloc, files, FileKind::Program, name)? {
         Source::Bytes(bytes) => program_of(alloc, name, &bytes),
@@ -98,6 +100,8 @@ pub fn load_case<F: Files>(
     ensures told { F.told files.new ≡ F.told files.old }
     ensures later { F.read_faults files.old ≤ F.read_faults files.new }
     ensures writes { F.write_faults files.new ≡ F.write_faults files.old }
+    ensures reads { F.read_calls files.new ≤ F.read_calls files.old + 1 }
+    ensures no_write { F.write_calls files.new ≡ F.write_calls files.old }
 {
     match read_file(alloc, files, FileKind::Network, name)? {
         Source::Bytes(bytes) => case_of(alloc, program, name, &bytes),
@@ -129,6 +133,8 @@ pub fn load_notes<F: Files>(
     ensures told { F.told files.new ≡ F.told files.old }
     ensures later { F.read_faults files.old ≤ F.read_faults files.new }
     ensures writes { F.write_faults files.new ≡ F.write_faults files.old }
+    ensures reads { F.read_calls files.new ≤ F.read_calls files.old + 1 }
+    ensures no_write { F.write_calls files.new ≡ F.write_calls files.old }
 {
     match read_file(alloc, files, FileKind::Journal, name)? {
         Source::Bytes(bytes) => notes_of(alloc, name, &bytes),

@@ -1,5 +1,5 @@
 //! Reading one file of a call.
-ghost use Rattle.std.specs.Prelude.{◌≡◌, ◌≤◌, IfOk};
+ghost use Rattle.std.specs.Prelude.{◌≡◌, ◌+◌, ◌≤◌, IfOk};
 ghost use Rattle.vericon_app.specs.Inputs.{longest};
 ghost use Rattle.vericon_app.specs.Sources.{IsSource};
 ghost use Rattle.vericon_app.specs.Lines.{too_long_text};
@@ -69,6 +69,8 @@ pub fn read_file<F: Files>(
     ensures told { F.told files.new ≡ F.told files.old }
     ensures later { F.read_faults files.old ≤ F.read_faults files.new }
     ensures writes { F.write_faults files.new ≡ F.write_faults files.old }
+    ensures reads { F.read_calls files.new ≤ F.read_calls files.old + 1 }
+    ensures no_write { F.write_calls files.new ≡ F.write_calls files.old }
 {
     match files.read_all(alloc, name, kind.longest()) {
         Ok(bytes) => Ok(Source::Bytes(bytes)),

@@ -1,5 +1,5 @@
 //! `trace PROGRAM NET JOURNAL`: what a journal's notes lead to.
-ghost use Rattle.std.specs.Prelude.{◌≡◌, ◌≤◌, IfOk};
+ghost use Rattle.std.specs.Prelude.{◌≡◌, ◌+◌, ◌≤◌, IfOk};
 ghost use Rattle.vericon_app.specs.Status.{code_of};
 ghost use Rattle.vericon_app.specs.Inputs.{inputs_of};
 ghost use Rattle.vericon_app.specs.Loads.{WithCase, WithNotes};
@@ -52,6 +52,8 @@ fn trace_case<F: Files>(
     ensures told { F.told files.new ≡ F.told files.old }
     ensures later { F.read_faults files.old ≤ F.read_faults files.new }
     ensures writes { F.write_faults files.new ≡ F.write_faults files.old }
+    ensures reads { F.read_calls files.new ≤ F.read_calls files.old + 1 }
+    ensures no_write { F.write_calls files.new ≡ F.write_calls files.old }
 {
     match load_notes(alloc, files, journal)? {
         Load::Loaded(notes) => trace_notes(alloc, program, case, notes.as_slice()),
@@ -71,6 +73,8 @@ fn trace_program<F: Files>(
     ensures told { F.told files.new ≡ F.told files.old }
     ensures later { F.read_faults files.old ≤ F.read_faults files.new }
     ensures writes { F.write_faults files.new ≡ F.write_faults files.old }
+    ensures reads { F.read_calls files.new ≤ F.read_calls files.old + 2 }
+    ensures no_write { F.write_calls files.new ≡ F.write_calls files.old }
 {
     match load_case(alloc, files, program, net)? {
         Load::Loaded(case) => trace_case(alloc, files, journal, program, case),
@@ -90,6 +94,8 @@ pub fn trace<F: Files>(
     ensures told { F.told files.new ≡ F.told files.old }
     ensures later { F.read_faults files.old ≤ F.read_faults files.new }
     ensures writes { F.write_faults files.new ≡ F.write_faults files.old }
+    ensures reads { F.read_calls files.new ≤ F.read_calls files.old + 3 }
+    ensures no_write { F.write_calls files.new ≡ F.write_calls files.old }
 {
     match load_program(alloc, files, name)? {
         Load::Loaded(program) => trace_program(alloc, files, net, journal, &program),

@@ -1,5 +1,6 @@
 //! Which calls of an object in memory are to fail.
-ghost use Rattle.std.specs.Prelude.{◌≡◌, ◌+◌, ◌-◌, ◌^◌, ◌↔◌, [], min, Contains, IsTrue};
+ghost use Rattle.std.specs.Prelude.{◌≡◌, ◌↔◌, [], Contains, IsTrue};
+ghost use Rattle.vericon_edge.specs.Counts.{counted};
 
 use std::alloc::Global;
 
@@ -32,7 +33,7 @@ impl FaultPlan {
     pub fn count_call(&mut self) -> bool
         ensures due { IsTrue result ↔ Contains self.old.failing.items self.old.calls }
         ensures failing { self.new.failing ≡ self.old.failing }
-        ensures calls { self.new.calls ≡ min (self.old.calls + 1) (2 ^ 64 - 1) }
+        ensures calls { self.new.calls ≡ counted self.old.calls }
     {
         let call = self.calls;
         self.calls = call.saturating_add(1);

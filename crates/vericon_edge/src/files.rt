@@ -1,5 +1,6 @@
 //! Files, as a command sees them.
 ghost use Rattle.std.specs.Prelude.{◌≡◌, ◌≤◌, ℕ, List};
+ghost use Rattle.vericon_edge.specs.Counts.{counted};
 ghost use Rattle.vericon_edge.specs.Told.{Told};
 ghost use Rattle.vericon_edge.specs.FileAnswers.{ReadAnswers, WriteAnswers};
 
@@ -25,11 +26,17 @@ pub enum FileFault {
 
 /// Files by their names, each with a list of bytes.
 ///
-/// An object may tell what its names hold. It counts the reads and the writes that failed; neither
-/// count ever falls.
+/// An object may tell what its names hold. It counts its reads and its writes, and those that failed;
+/// no count ever falls.
 pub trait Files {
     /// What is told of a name.
     ghost told: { Self → List ℕ → Told };
+
+    /// How often a read was asked for.
+    ghost read_calls: { Self → ℕ };
+
+    /// How often a write was asked for.
+    ghost write_calls: { Self → ℕ };
 
     /// How often a read has failed.
     ghost read_faults: { Self → ℕ };
@@ -44,7 +51,9 @@ pub trait Files {
         ensures answer { ReadAnswers (told self.old name.now) most (read_faults self.old) (read_faults self.new) result }
         ensures told { told self.new ≡ told self.old }
         ensures later { read_faults self.old ≤ read_faults self.new }
-        ensures writes { write_faults self.new ≡ write_faults self.old };
+        ensures writes { write_faults self.new ≡ write_faults self.old }
+        ensures one_read { read_calls self.new ≡ counted (read_calls self.old) }
+        ensures no_write { write_calls self.new ≡ write_calls self.old };
 
     /// Makes a name hold exactly these bytes. No other name changes.
     ///
@@ -53,5 +62,7 @@ pub trait Files {
         ensures answer { WriteAnswers (told self.old name.now) (told self.new name.now) bytes.now (write_faults self.old) (write_faults self.new) result }
         ensures others { (other : List ℕ) → (other ≡ name.now → ⊥) → told self.new other ≡ told self.old other }
         ensures later { write_faults self.old ≤ write_faults self.new }
-        ensures reads { read_faults self.new ≡ read_faults self.old };
+        ensures reads { read_faults self.new ≡ read_faults self.old }
+        ensures one_write { write_calls self.new ≡ counted (write_calls self.old) }
+        ensures no_read { read_calls self.new ≡ read_calls self.old };
 }

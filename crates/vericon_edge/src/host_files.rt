@@ -13,6 +13,8 @@ use std::rt::Files as SystemFiles;
 #[derive(Drop)]
 pub struct HostFiles<R: SystemFiles + Drop> {
     rt: R,
+    read_calls: u64,
+    write_calls: u64,
     read_faults: u64,
     write_faults: u64,
 }
@@ -20,11 +22,15 @@ pub struct HostFiles<R: SystemFiles + Drop> {
 impl<R: SystemFiles + Drop> HostFiles<R> {
     /// The files that this runtime reaches.
     pub fn new(rt: R) -> HostFiles<R>
-        ensures reads { result.read_faults ≡ 0 }
-        ensures writes { result.write_faults ≡ 0 }
+        ensures read_calls { result.read_calls ≡ 0 }
+        ensures write_calls { result.write_calls ≡ 0 }
+        ensures read_faults { result.read_faults ≡ 0 }
+        ensures write_faults { result.write_faults ≡ 0 }
     {
         HostFiles {
             rt,
+            read_calls: 0,
+            write_calls: 0,
             read_faults: 0,
             write_faults: 0,
         }
@@ -87,11 +93,16 @@ fn read_path<R: SystemFiles>(
 impl<R: SystemFiles + Drop> Files for HostFiles<R> {
     ghost told = { λ _ _. untold };
 
+    ghost read_calls = { λ f. f.read_calls };
+
+    ghost write_calls = { λ f. f.write_calls };
+
     ghost read_faults = { λ f. f.read_faults };
 
     ghost write_faults = { λ f. f.write_faults };
 
     fn read_all(&mut self, alloc: Global, name: &str, most: usize) -> Result<Vec<u8>, FileFault> {
+        self.read_calls = self.read_calls.saturating_add(1);
         let answer = read_path(alloc, &self.rt, name, most);
         if matches!(&answer, Err(FileFault::Missing | FileFault::Failed)) {
             self.read_faults = self.read_faults.saturating_add(1);
@@ -100,6 +111,7 @@ impl<R: SystemFiles + Drop> Files for HostFiles<R> {
     }
 
     fn write_all(&mut self, _alloc: Global, name: &str, bytes: &[u8]) -> Result<(), FileFault> {
+        self.write_calls = self.write_calls.saturating_add(1);
         if fs::write(&self.rt, name, bytes).is_err() {
             self.write_faults = self.write_faults.saturating_add(1);
             return Err(FileFault::Failed);

@@ -1,5 +1,5 @@
 //! A stream of the host as a sink.
-ghost use Rattle.std.specs.Prelude.{◌≡◌, ◌<◌, ◌≤◌, length, None, IfOk};
+ghost use Rattle.std.specs.Prelude.{◌≡◌, ◌<◌, ◌≤◌, false, length, None, IfOk};
 
 use crate::fault::Failed;
 use crate::sink::Sink;
@@ -10,14 +10,20 @@ use std::io::{ErrorKind, Write};
 pub struct HostSink<W: Write + Drop> {
     writer: W,
     faults: u64,
+    has_failed: bool,
 }
 
 impl<W: Write + Drop> HostSink<W> {
     /// A sink that writes to this writer.
     pub fn new(writer: W) -> HostSink<W>
-        ensures { result.faults ≡ 0 }
+        ensures faults { result.faults ≡ 0 }
+        ensures has_failed { result.has_failed ≡ false }
     {
-        HostSink { writer, faults: 0 }
+        HostSink {
+            writer,
+            faults: 0,
+            has_failed: false,
+        }
     }
 }
 
@@ -42,10 +48,13 @@ impl<W: Write + Drop> Sink for HostSink<W> {
 
     ghost faults = { λ s. s.faults };
 
+    ghost has_failed = { λ s. s.has_failed };
+
     fn write(&mut self, piece: &[u8]) -> Result<usize, Failed> {
         let answer = write_some(&mut self.writer, piece);
         if answer.is_err() {
             self.faults = self.faults.saturating_add(1);
+            self.has_failed = true;
         }
         answer
     }

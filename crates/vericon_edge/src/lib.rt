@@ -10,6 +10,7 @@ pub mod fault_plan;
 pub mod files;
 pub mod host_files;
 pub mod host_sink;
+pub mod host_words;
 pub mod mem_files;
 pub mod mem_sink;
 pub mod sink;

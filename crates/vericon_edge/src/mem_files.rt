@@ -1,6 +1,7 @@
 //! Files in memory.
 ghost use Rattle.std.specs.Prelude.{◌≡◌, ◌≤◌, ◌<◌, ◌∷◌, ◌↔◌, ℕ, List, MatchOption, OnOk, OnErr, IsErrOf, string_bytes};
 ghost use Rattle.vericon_edge.specs.declared.fault_plan.FaultPlan.{FaultPlan};
+ghost use Rattle.vericon_edge.specs.Counts.{counted};
 ghost use Rattle.vericon_edge.specs.Told.{Told, absent};
 ghost use Rattle.vericon_edge.specs.FileAnswers.{ReadAnswers, WriteAnswers};
 ghost use Rattle.vericon_edge.specs.FaultPlan.{IsNextDue};
@@ -86,6 +87,10 @@ impl MemFiles {
 impl Files for MemFiles {
     ghost told = { contents };
 
+    ghost read_calls = { λ m. m.reads.calls };
+
+    ghost write_calls = { λ m. m.writes.calls };
+
     ghost read_faults = { λ m. m.read_faults };
 
     ghost write_faults = { λ m. m.write_faults };
@@ -95,6 +100,8 @@ impl Files for MemFiles {
         ensures told { contents self.new ≡ contents self.old }
         ensures later { self.old.read_faults ≤ self.new.read_faults }
         ensures writes { self.new.write_faults ≡ self.old.write_faults }
+        ensures one_read { self.new.reads.calls ≡ counted self.old.reads.calls }
+        ensures no_write { self.new.writes.calls ≡ self.old.writes.calls }
         // exactly the planned reads fail
         ensures planned { IsErrOf result FileFault.Failed ↔ IsNextDue (read_plan self.old) }
     {
@@ -118,6 +125,8 @@ impl Files for MemFiles {
         ensures others { (other : List ℕ) → (other ≡ name.now → ⊥) → contents self.new other ≡ contents self.old other }
         ensures later { self.old.write_faults ≤ self.new.write_faults }
         ensures reads { self.new.read_faults ≡ self.old.read_faults }
+        ensures one_write { self.new.writes.calls ≡ counted self.old.writes.calls }
+        ensures no_read { self.new.reads.calls ≡ self.old.reads.calls }
         // none but the planned writes fail
         ensures planned { IsErrOf result FileFault.Failed → IsNextDue (write_plan self.old) }
         ensures unplanned { OnOk result (IsNextDue (write_plan self.old) → ⊥) }

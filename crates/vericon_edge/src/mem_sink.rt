@@ -1,5 +1,6 @@
 //! A sink in memory.
-ghost use Rattle.std.specs.Prelude.{◌≡◌, ◌<◌, ◌≤◌, Some, [], OnOk};
+ghost use Rattle.std.specs.Prelude.{◌≡◌, ◌<◌, ◌≤◌, false, Some, [], OnOk};
+ghost use Rattle.std.specs.Result.{is_err};
 
 use crate::fault::Failed;
 use crate::fault_plan::FaultPlan;
@@ -14,6 +15,7 @@ pub struct MemSink {
     most: usize,
     writes: FaultPlan,
     faults: u64,
+    has_failed: bool,
     ghost takes_some: { 0 < most },
 }
 
@@ -25,12 +27,14 @@ impl MemSink {
         ensures most { result.most ≡ most }
         ensures writes { result.writes ≡ writes }
         ensures faults { result.faults ≡ 0 }
+        ensures has_failed { result.has_failed ≡ false }
     {
         MemSink {
             bytes: Vec::new(alloc),
             most,
             writes,
             faults: 0,
+            has_failed: false,
         }
     }
 
@@ -50,16 +54,21 @@ impl Sink for MemSink {
 
     ghost faults = { λ s. s.faults };
 
+    ghost has_failed = { λ s. s.has_failed };
+
     /// A write that finds no memory fails, too.
     fn write(&mut self, piece: &[u8]) -> Result<usize, Failed>
+        requires { self.old.has_failed ≡ false }
         ensures answer { WriteAnswers (Some self.old.bytes.items) (Some self.new.bytes.items) piece.now self.old.faults self.new.faults result }
         ensures later { self.old.faults ≤ self.new.faults }
+        ensures failed { self.new.has_failed ≡ is_err result }
         ensures unplanned { OnOk result (IsNextDue self.old.writes → ⊥) }
     {
         let taken = piece.len().min(self.most);
         let fails = self.writes.count_call();
         if fails || self.bytes.extend_from_slice(&piece[..taken]).is_err() {
             self.faults = self.faults.saturating_add(1);
+            self.has_failed = true;
             return Err(Failed);
         }
         Ok(taken)

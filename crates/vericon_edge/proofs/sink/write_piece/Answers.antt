@@ -8,4 +8,5 @@ loop-done-preserved g c =
       within = within_front c.args.piece.now c.loop-done.done c.in_ok-done.field-0 c.loop-done.invariant.within took.0;
       grown = grown_front _ _ _ c.args.piece.now c.loop-done.done c.in_ok-done.field-0 c.loop-done.invariant.grown took.2;
       steady = cc;
+      unfailed = c.in_ok-done.ensures.failed;
     }

@@ -1,11 +1,13 @@
-//! Whole outputs and statuses, worked by hand from the documents of the commands.
+//! Rows of calls, with what they print and their statuses.
 mod conditions;
 mod traces;
 
-use super::*;
+use std::alloc::{AllocError, Global};
 use std::process::Abort;
 use std::test::Fail;
+use vericon_app::call::check_call;
 use vericon_edge::fault_plan::FaultPlan;
+use vericon_edge::files::Files;
 use vericon_edge::mem_files::MemFiles;
 use vericon_edge::mem_sink::MemSink;
 
@@ -235,8 +237,8 @@ fn eval_prints_which_invariants_are_true(rt: HostRuntime) -> Result<(), Fail> {
     prints(&rt, rt.alloc(), EVALUATED)
 }
 
-/// A call on a text that blanks fill up to a length: the words, the text and the length of the file `p`, whether the first
-/// write fails after three bytes, what is printed, and the status.
+/// A call on a text that blanks fill up to a length: the words, the text and the length of the file `p`, whether the second
+/// write fails, where each takes three bytes, what is printed, and the status.
 type Odd = (
     &'static [&'static str],
     &'static [u8],
@@ -279,12 +281,12 @@ fn filled_up(alloc: Global, text: &[u8], length: usize) -> Result<Vec<u8>, Alloc
     Ok(filled)
 }
 
-// A sink in memory, of which the first write may fail after three bytes.
-fn sink(alloc: Global, fails: bool) -> Result<MemSink, AllocError> {
+// The second write fails, or none does.
+fn plan(alloc: Global, fails: bool) -> Result<FaultPlan, AllocError> {
     if fails {
-        Ok(MemSink::new(alloc, 3, FaultPlan::new(vec![in alloc; 1]?)))
+        Ok(FaultPlan::new(vec![in alloc; 1]?))
     } else {
-        Ok(MemSink::new(alloc, 4096, FaultPlan::none(alloc)))
+        Ok(FaultPlan::none(alloc))
     }
 }
 
@@ -294,7 +296,7 @@ fn odd_input_is_answered_by_these_lines_and_statuses(rt: HostRuntime) -> Result<
     for (words, text, length, fails, printed, number) in ODD_INPUT {
         let words = words_of(alloc, words)?;
         let mut files = files_with(alloc, &[&filled_up(alloc, text, *length)?])?;
-        let mut out = sink(alloc, *fails)?;
+        let mut out = MemSink::new(alloc, 3, plan(alloc, *fails)?);
         assert_eq!(rt; check_call(alloc, &words, &mut files, &mut out), *number);
         assert_eq!(rt; out.bytes(), *printed);
     }

@@ -1,0 +1,49 @@
+//! Which words are of a kind.
+ghost use Rattle.std.specs.Prelude.{◌≡◌, map, string_bytes, option_map};
+ghost use Rattle.command_words.specs.Kinds.{any_number, fits as word_fits, behind_kinds as words_behind};
+
+use crate::table::Kind;
+use text_lines::read_number;
+
+/// The number that a word is, of at most 32 bits.
+pub fn number_in(word: &str) -> Option<u32>
+    ensures { result ≡ any_number word.now }
+{
+    match read_number(word.as_bytes(), 0xffff_ffff) {
+        Some(number) => Some(number as u32),
+        None => None,
+    }
+}
+
+/// Whether a word is of a kind.
+pub fn fits(kind: Kind, word: &str) -> bool
+    ensures { result ≡ word_fits kind word.now }
+{
+    match kind {
+        Kind::Text => true,
+        Kind::Number { least, most } => match read_number(word.as_bytes(), u64::from(most)) {
+            Some(number) => u64::from(least) <= number,
+            None => false,
+        },
+        Kind::NotYet => false,
+    }
+}
+
+/// The words behind those that are of these kinds, one by one; `None`, where one of them isn't.
+pub fn behind_kinds<'a>(kinds: &[Kind], words: &'a [String]) -> Option<&'a [String]>
+    ensures { option_map (λ behind. map string_bytes behind.now) result ≡ words_behind kinds.now (map string_bytes words.now) }
+{
+    let mut kinds_left = kinds;
+    let mut rest = words;
+    while let [kind, kinds_more @ ..] = kinds_left {
+        let [word, more @ ..] = rest else {
+            return None;
+        };
+        if !fits(*kind, word.as_str()) {
+            return None;
+        }
+        kinds_left = kinds_more;
+        rest = more;
+    }
+    Some(rest)
+}

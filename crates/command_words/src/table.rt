@@ -1,0 +1,66 @@
+//! The commands.
+
+/// The commands, by their names.
+#[derive(Clone, Copy, Debug, PartialEq, Eq)]
+pub enum Command {
+    Check,
+    Show,
+    Eval,
+    Trace,
+    Conditions,
+    Clauses,
+    Frames,
+}
+
+/// What a word may be.
+#[derive(Clone, Copy)]
+pub enum Kind {
+    /// Any word, as the name of a file.
+    Text,
+    /// A decimal number from `least` to `most`, without a sign or leading zeros.
+    Number { least: u32, most: u32 },
+    /// None: the option's word is kept for an option that is not served yet.
+    NotYet,
+}
+
+/// An option: its word, and what its value is.
+pub type OptionRow = (&'static str, Kind);
+
+/// A command: its word, its name, its options, its operands, and further operands, of which all stand or none.
+pub type CommandRow = (
+    &'static str,
+    Command,
+    &'static [OptionRow],
+    &'static [Kind],
+    &'static [Kind],
+);
+
+const FILE: Kind = Kind::Text;
+
+const LEVEL: Kind = Kind::Number { least: 0, most: 0 };
+
+const INDEX: Kind = Kind::Number {
+    least: 0,
+    most: 0xffff_ffff,
+};
+
+const STRENGTHEN: OptionRow = ("--strengthen", Kind::NotYet);
+
+const LOG: OptionRow = ("--log", Kind::NotYet);
+
+/// The commands that are served.
+pub const COMMANDS: [CommandRow; 7] = [
+    ("check", Command::Check, &[STRENGTHEN, LOG], &[FILE], &[]),
+    ("show", Command::Show, &[], &[FILE], &[]),
+    ("eval", Command::Eval, &[], &[FILE, FILE], &[LEVEL, INDEX]),
+    ("trace", Command::Trace, &[], &[FILE, FILE, FILE], &[]),
+    (
+        "conditions",
+        Command::Conditions,
+        &[STRENGTHEN],
+        &[FILE],
+        &[],
+    ),
+    ("clauses", Command::Clauses, &[], &[FILE], &[]),
+    ("frames", Command::Frames, &[], &[FILE], &[]),
+];

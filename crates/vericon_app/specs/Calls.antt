@@ -1,0 +1,30 @@
+-- What the words of a call ask of the commands.
+use Rattle.std.specs.Prelude.{◌≡◌, ℕ, List, [], slice_index_or, Option, Some, None}
+use Rattle.command_words.specs.declared.table.Command.{Command}
+use Rattle.command_words.specs.declared.table.Command.TheVariants.{Check, Show, Eval, Trace, Conditions, Clauses, Frames}
+use Rattle.command_words.specs.Call.{Call}
+
+-- the operand at a place, as the name of a file
+abbrev pub file_name : Call → ℕ → List ℕ
+file_name call index = slice_index_or call.operands index []
+
+-- how many files a call of the command names
+abbrev pub files_of : Command → ℕ
+files_of Check = 1
+files_of Show = 1
+files_of Eval = 2
+files_of Trace = 3
+files_of Conditions = 1
+files_of Clauses = 1
+files_of Frames = 1
+
+abbrev pub files_named : Option Call → ℕ
+files_named None = 0
+files_named (Some call) = files_of call.command
+
+-- a call of `check` with this file
+pub record IsCheck (asked : Option Call) (name : List ℕ) : Type 0 where
+  pub call : Call
+  pub asked_is : asked ≡ Some call
+  pub command_is : call.command ≡ Check
+  pub name_is : file_name call 0 ≡ name
