@@ -11,6 +11,7 @@ use csdn_core::program::Program;
 use csdn_core::syntax::Formula;
 use csdn_core::terms::{Sort, Term, VarId};
 use csdn_types_tests::resolved;
+use csdn_wp::commands::wp;
 use fol_forms::count::node_count;
 use fol_forms::instances::instance_count;
 use net_text::read_net;
@@ -43,6 +44,25 @@ fn judged(alloc: Global, text: &[u8], net: &[u8], index: u32) -> Result<Vec<u8>,
     };
     let told = judge(alloc, &program, &case.network, state, 0, index)?;
     Ok(told.text)
+}
+
+/// How many nodes the precondition of the first handler's body has, of the first safety invariant; none where one is missing,
+/// it is too large, or the text is no program.
+fn nodes_before(alloc: Global, text: &[u8]) -> Result<Option<u64>, AllocError> {
+    let Ok(Ok(program)) = resolved(alloc, text) else {
+        return Ok(None);
+    };
+    let parts = program.parts();
+    let Some(handler) = parts.handlers.get(0) else {
+        return Ok(None);
+    };
+    let Some(invariant) = parts.safety.get(0) else {
+        return Ok(None);
+    };
+    match wp(alloc, &program, &handler.body, &invariant.formula) {
+        Ok(before) => Ok(Some(node_count(&before))),
+        Err(_) => Ok(None),
+    }
 }
 
 /// The counts of a sentence.
@@ -354,6 +374,14 @@ mod tests {
             };
             assert_eq!(rt; found, Some(counted));
         }
+        Ok(())
+    }
+
+    // Five quantifiers and a negation; and in the atom's place `(ft(..) or same) and not same`, where `same` has five equations.
+    #[test]
+    fn makes_the_precondition_of_a_body(rt: HostRuntime) -> Result<(), Fail> {
+        let found = nodes_before(rt.alloc(), UNINSTALLED)?;
+        assert_eq!(rt; found, Some(28));
         Ok(())
     }
 
