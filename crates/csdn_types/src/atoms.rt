@@ -19,7 +19,7 @@ use crate::refusal::SortRefusal;
 use crate::scope::Scope;
 use crate::terms::{named_term, term};
 use csdn_core::syntax::Formula;
-use csdn_core::terms::{Place, Pred, Sort, Term, Terms, VarId};
+use csdn_core::terms::{MOST_VARIABLES, Place, Pred, Sort, Term, Terms, VarId};
 use csdn_tree::names::RawName;
 use csdn_tree::syntax::{FlowWord, RawFlow, RawFormula, RawPacket};
 use sqlite_items::Boxed;
@@ -48,7 +48,7 @@ pub fn bind(
     if scope.named(name.text.as_slice()).is_some() {
         return Err(SortRefusal::Duplicate { at });
     }
-    if 24 <= scope.depth() {
+    if MOST_VARIABLES <= scope.depth() {
         return Err(SortRefusal::TooMany { at });
     }
     let var = scope.bind(alloc, name, sort)?;

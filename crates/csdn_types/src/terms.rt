@@ -4,7 +4,6 @@ ghost use Rattle.csdn_tree.specs.Places.{place as place_of};
 ghost use Rattle.csdn_tree.specs.declared.names.RawTerm.TheVariants.{Name};
 ghost use Rattle.csdn_types.specs.declared.refusal.SortRefusal.TheVariants.{Unknown};
 ghost use Rattle.csdn_types.specs.Answers.{Answers, IsFirst};
-ghost use Rattle.csdn_core.specs.Same.{same_sort};
 ghost use Rattle.csdn_types.specs.Faults.{term_faults, terms_faults, same_faults, known_faults, sort_faults, atom_faults, is_forbidden as is_forbidden_there, stands_outside as stands_there};
 ghost use Rattle.csdn_types.specs.Typed.{known_term, term_of, terms_of};
 ghost use Rattle.csdn_types.specs.Scope.{meaning, relation_named};
@@ -29,17 +28,6 @@ pub struct Written {
     pub terms: Terms,
 }
 
-fn is_same_sort(a: Sort, b: Sort) -> bool
-    ensures { result ≡ same_sort a b }
-{
-    match (a, b) {
-        (Sort::Sw, Sort::Sw) => true,
-        (Sort::Ho, Sort::Ho) => true,
-        (Sort::Pr, Sort::Pr) => true,
-        _ => false,
-    }
-}
-
 /// What stands at a place, where a term of a sort belongs.
 fn of_sort(at: usize, sort: Sort, meant: Option<SortedTerm>) -> Result<Term, SortRefusal>
     ensures { Answers (sort_faults at sort meant) (known_term meant) result }
@@ -47,7 +35,7 @@ fn of_sort(at: usize, sort: Sort, meant: Option<SortedTerm>) -> Result<Term, Sor
     match meant {
         None => Err(SortRefusal::Unknown { at }),
         Some(known) => {
-            if is_same_sort(known.sort, sort) {
+            if known.sort.is_same(sort) {
                 Ok(known.term)
             } else {
                 Err(SortRefusal::WrongSort { at })

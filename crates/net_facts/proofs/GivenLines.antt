@@ -13,9 +13,10 @@ use Rattle.csdn_core.specs.declared.event.Packet.{Packet}
 use Rattle.csdn_core.specs.declared.event.Packet.TheVariants.{At}
 use Rattle.csdn_core.specs.declared.program.Parts.{Parts}
 use Rattle.csdn_core.specs.declared.program.Relation.{Relation}
-use Rattle.csdn_core.specs.Truth.{same_truth}
 use Rattle.csdn_core.specs.Network.{Network, elements, HaveElements}
 use Rattle.csdn_core.specs.Sorted.{flow_sorts, packet_sorts}
+use Rattle.csdn_core.specs.Truth.{same_truth}
+use Rattle.fol_forms.proofs.NormalTruth.{same_truth-is}
 use Rattle.net_structs.specs.declared.row.Row.{Row}
 use Rattle.net_structs.specs.Networks.{has}
 use Rattle.net_facts.specs.Cases.{IsPacket}
@@ -24,11 +25,6 @@ use Rattle.net_structs.proofs.Accepted.{there}
 use Rattle.net_text.specs.declared.refusal.Why.{Why}
 use Rattle.net_text.specs.declared.refusal.Why.TheVariants as why
 use Rattle.net_text.specs.Lines.{◌>>=◌, most, or_why, wants, elements_from, has_some, sort_of, relation_from, cells_of, tuple_of, flow_of, packet_of}
-
-same_truth-is : (a b : Bool) → same_truth a b ≡ true → a ≡ b
-same_truth-is true b is = sym is
-same_truth-is false true is = is
-same_truth-is false false is = refl
 
 -- ---- the parts of a chain that gives something
 

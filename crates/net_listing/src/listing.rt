@@ -10,6 +10,7 @@ ghost use Rattle.csdn_core.specs.declared.event.Packet.TheVariants.{Nothing};
 
 use csdn_core::event::Packet;
 use csdn_core::program::{Invariant, Program};
+use csdn_core::terms::MOST_VARIABLES;
 use net_structs::case::Case;
 use net_structs::env::Env;
 use net_structs::network::Network;
@@ -17,9 +18,6 @@ use net_structs::state::State;
 use net_structs::truth::truth;
 use std::alloc::{AllocError, Global};
 use text_lines::{put_line_end, put_next_word, put_word};
-
-// The most variables that are in scope in a program.
-const MOST_VARIABLES: usize = 24;
 
 /// A line for each topology invariant; where there is a state one for each safety invariant; and where there is a packet one
 /// for each transition invariant.

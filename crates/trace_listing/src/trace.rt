@@ -9,6 +9,7 @@ use crate::invariants::Setting;
 use crate::notes::{put_note, put_refusal, take};
 use csdn_core::event::Packet;
 use csdn_core::program::Program;
+use csdn_core::terms::MOST_VARIABLES;
 use csdn_step::initial;
 use journal_text::Note;
 use net_structs::case::Case;
@@ -17,9 +18,6 @@ use net_structs::network::Network;
 use net_structs::state::State;
 use net_text::print_net;
 use std::alloc::{AllocError, Global};
-
-// The most variables that are in scope in a program.
-const MOST_VARIABLES: usize = 24;
 
 /// How a trace ended.
 #[derive(Clone, Copy, Debug, PartialEq, Eq)]
