@@ -33,6 +33,7 @@ impl Clauses {
     ghost use Rattle.std.specs.Prelude.{◌≡◌, ◌<◌, ◌^◌, [], ◌∷◌, ◌++◌, IfOk, OnOk, OnErr, length, true, slice_index_or};
     ghost use Rattle.std.specs.List.{list_all};
     ghost use Rattle.clause_log.specs.Literals.{is_clause};
+    ghost use Rattle.clause_log.specs.Rows.{split, AreFlatClauses};
 
     /// No clauses, over the atoms from 1 to `atoms`.
     pub fn try_new(alloc: Global, atoms: u64) -> Result<Clauses, AllocError>
@@ -44,6 +45,19 @@ impl Clauses {
             literals: Vec::new(alloc),
             ends: Vec::new(alloc),
         })
+    }
+
+    /// The clauses whose literals stand one after the other in `literals`, each up to its place in `ends`. It takes no memory
+    /// and copies nothing.
+    pub fn of_rows(atoms: u64, literals: Vec<Lit>, ends: Vec<usize>) -> Clauses
+        requires { AreFlatClauses atoms ends.items literals.items }
+        ensures { result ≡ record { atoms = atoms; clauses = split 0 ends.items literals.items } }
+    {
+        Clauses {
+            atoms,
+            literals,
+            ends,
+        }
     }
 
     /// Appends the clause with these literals. Nothing is changed on want of memory.

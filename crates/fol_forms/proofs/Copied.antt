@@ -30,12 +30,13 @@ instances-capped m n same (ForAll v s p) = product_alike (m s) (n s) (instances 
 instances-capped m n same (ForSome v s p) = instances-capped m n same p
 
 -- the counts of the three sorts, each cut off
-pub instances-of_counts : (P Q : Parts) (F : Formula) (k : Counts) → Q ≡ P → k.sw ≡ capped (counts Q F Sw) → k.ho ≡ capped (counts Q F Ho) → k.pr ≡ capped (counts Q F Pr) →
-    capped (instances (count_of k) (form_of F)) ≡ capped (instances (counts P F) (form_of F))
+pub counts_at : (P : Parts) (F : Formula) (k : Counts) → k.sw ≡ capped (counts P F Sw) → k.ho ≡ capped (counts P F Ho) → k.pr ≡ capped (counts P F Pr) → (s : Sort) → count_of k s ≡ capped (counts P F s)
 unfolding count_of
-instances-of_counts P Q F k is sw ho pr = instances-capped (count_of k) (counts P F) same (form_of F)
-  where
-    same : (s : Sort) → count_of k s ≡ capped (counts P F s)
-    same Sw = sw ∙ ap (λ parts. capped (counts parts F Sw)) is
-    same Ho = ho ∙ ap (λ parts. capped (counts parts F Ho)) is
-    same Pr = pr ∙ ap (λ parts. capped (counts parts F Pr)) is
+counts_at P F k sw ho pr Sw = sw
+counts_at P F k sw ho pr Ho = ho
+counts_at P F k sw ho pr Pr = pr
+
+pub instances-of_counts : (P Q : Parts) (F : Formula) (k : Counts) → Q ≡ P → ((s : Sort) → count_of k s ≡ capped (counts Q F s)) →
+    capped (instances (count_of k) (form_of F)) ≡ capped (instances (counts P F) (form_of F))
+instances-of_counts P Q F k is same =
+    instances-capped (count_of k) (counts P F) (λ s. same s ∙ ap (λ parts. capped (counts parts F s)) is) (form_of F)

@@ -2,6 +2,7 @@
 #![tactic(auto)]
 
 ghost use Rattle.std.specs.Prelude.{◌≡◌, ◌+◌, ◌*◌, max, true};
+ghost use Rattle.csdn_core.specs.declared.terms.Sort.{Sort as AnySort};
 ghost use Rattle.fol_forms.specs.Constants.{counts as counts_of, instances as instances_of, need as need_of};
 ghost use Rattle.fol_forms.specs.Counts.{count_of};
 ghost use Rattle.fol_forms.specs.Forms.{form_of, normal_form};
@@ -20,12 +21,20 @@ use csdn_core::terms::Sort;
 pub fn instance_count(program: &Program, formula: &Formula) -> u64
     ensures { result ≡ capped (instances_of (counts_of program.now formula.now) (form_of formula.now)) }
 {
-    let parts = program.parts();
-    let sw = constants(parts, formula, Sort::Sw);
-    let ho = constants(parts, formula, Sort::Ho);
-    let pr = constants(parts, formula, Sort::Pr);
-    let counts = Counts { sw, ho, pr };
+    let counts = constants_of(program.parts(), formula);
     instances(formula, true, &counts)
+}
+
+/// How many constants each sort has for a formula: those that the program names, and those that its normal form needs; at least
+/// one. 2^64 - 1 where there are more. It takes no memory.
+pub fn constants_of(parts: &Parts, formula: &Formula) -> Counts
+    ensures { (s : AnySort) → count_of result s ≡ capped (counts_of parts.now formula.now s) }
+{
+    Counts {
+        sw: constants(parts, formula, Sort::Sw),
+        ho: constants(parts, formula, Sort::Ho),
+        pr: constants(parts, formula, Sort::Pr),
+    }
 }
 
 /// A number for each sort.
@@ -38,7 +47,8 @@ pub struct Counts {
 
 impl Counts {
     #[tactic(auto, unfolding(crate::specs::Counts::count_of))]
-    fn of(&self, sort: Sort) -> u64
+    /// The number of a sort.
+    pub fn of(&self, sort: Sort) -> u64
         ensures { result ≡ count_of self.now sort }
     {
         match sort {

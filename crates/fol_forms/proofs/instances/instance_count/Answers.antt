@@ -5,4 +5,4 @@ use Rattle.fol_forms.proofs.instances.instance_count.Goals as goal
 pub returns : goal.returns
 returns c =
     c.instances.ensures
-    ∙ instances-of_counts c.args.program.now c.parts-parts.result.now c.args.formula.now (record { sw = c.constants-sw.result; ho = c.constants-ho.result; pr = c.constants-pr.result }) c.parts-parts.ensures.value c.constants-sw.ensures c.constants-ho.ensures c.constants-pr.ensures
+    ∙ instances-of_counts c.args.program.now c.parts.result.now c.args.formula.now c.constants_of-counts.result c.parts.ensures.value c.constants_of-counts.ensures

@@ -1,0 +1,12 @@
+//! The clauses of a sentence: copies of it over finitely many constants, and what equality asks of these.
+//!
+//! [`making::ground`] makes them. `specs/` says what they are, on the definitions of decision_laws.
+#![tactic(auto)]
+
+pub mod equality;
+pub mod facts;
+pub mod making;
+pub mod rows;
+pub mod sentence;
+pub mod simplify;
+pub mod walk;
