@@ -42,7 +42,7 @@ num_of facts f = suc (fact_number (count_of facts.counts) (record {
 
 -- these are the constants and the relations of a sentence, and its facts have the numbers of its atoms, which are few
 pub record AreFactsOf (P : Parts) (F : Formula) (facts : Facts) : Type 0 where
-  pub counts : (s : Sort) → count_of facts.counts s ≡ counts P F s
+  pub constants : (s : Sort) → count_of facts.counts s ≡ counts P F s
   pub relations : map (λ u. u.relation) facts.relations ≡ (words P F).relations
   pub sorts : map (λ u. u.sorts) facts.relations ≡ map (words P F).columns (words P F).relations
   pub few : fact_count (counts P F) (words P F) < 2 ^ 62

@@ -1,7 +1,7 @@
 //! The facts of a sentence over its constants, and their numbers.
 #![tactic(auto)]
 
-ghost use Rattle.std.specs.Prelude.{◌≡◌, map, nat, IfOk};
+ghost use Rattle.std.specs.Prelude.{◌≡◌, IfOk};
 ghost use Rattle.decision_laws.specs.Copies.{Tuple as TupleFact, Equation as EquationFact};
 ghost use Rattle.ground_inst.specs.Facts.{AreFactsOf, num_of};
 
