@@ -3,9 +3,11 @@
 //! [`making::ground`] makes them. `specs/` says what they are, on the definitions of decision_laws.
 #![tactic(auto)]
 
+mod bases;
 pub mod equality;
 pub mod facts;
 pub mod making;
+mod places;
 pub mod rows;
 pub mod sentence;
 pub mod simplify;
