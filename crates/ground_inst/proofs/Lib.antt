@@ -1,2 +1,3 @@
 mod Scopes
 mod Steps
+mod Wholes
