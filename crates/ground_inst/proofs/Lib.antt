@@ -1,0 +1,2 @@
+pub mod FactSteps
+pub mod FactLaws
