@@ -3,6 +3,7 @@
 //! [`making::ground`] makes them. `specs/` says what they are, on the definitions of decision_laws.
 #![tactic(auto)]
 
+pub mod constants;
 pub mod equality;
 pub mod facts;
 pub mod making;
