@@ -1,2 +1,4 @@
 pub mod FactSteps
 pub mod FactLaws
+mod Scopes
+mod Steps

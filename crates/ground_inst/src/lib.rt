@@ -3,10 +3,12 @@
 //! [`making::ground`] makes them. `specs/` says what they are, on the definitions of decision_laws.
 #![tactic(auto)]
 
-pub mod constants;
+mod bases;
+mod constants;
 pub mod equality;
 pub mod facts;
 pub mod making;
+mod places;
 pub mod rows;
 pub mod sentence;
 pub mod simplify;
