@@ -1,3 +1,5 @@
+pub mod FactSteps
+pub mod FactLaws
 mod Scopes
 mod Steps
 mod Wholes

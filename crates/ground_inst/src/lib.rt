@@ -4,6 +4,7 @@
 #![tactic(auto)]
 
 mod bases;
+mod constants;
 pub mod equality;
 pub mod facts;
 pub mod making;
