@@ -3,3 +3,4 @@ pub mod FactLaws
 mod Scopes
 mod Steps
 mod Wholes
+mod WholeClauses
