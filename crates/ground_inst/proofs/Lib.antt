@@ -2,3 +2,4 @@ pub mod FactSteps
 pub mod FactLaws
 mod Scopes
 mod Steps
+mod Turns

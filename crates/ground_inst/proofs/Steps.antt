@@ -126,7 +126,7 @@ sum-more g i (suc m) =
     let at : suc i + m ≡ i + suc m = omega arith in
     omega (arith, deep, ap g at)
 
-flat-more : {X : Type 0} (g : ℕ → List X) (i m : ℕ) → flat_map g (places_from i (suc m)) ≡ flat_map g (places_from i m) ++ g (i + m)
+pub flat-more : {X : Type 0} (g : ℕ → List X) (i m : ℕ) → flat_map g (places_from i (suc m)) ≡ flat_map g (places_from i m) ++ g (i + m)
 flat-more g i zero = append-nil (g i) ∙ ap g (sym (add-zero i))
 flat-more g i (suc m) =
     let at : suc i + m ≡ i + suc m = omega arith in
