@@ -37,7 +37,11 @@ pub struct Constants<'a> {
 
 impl<'a> Constants<'a> {
     /// The constants of these facts. `AllocError` also where a numeral stands at a place that is none.
-    pub fn of(alloc: Global, parts: &'a Parts, facts: &'a Facts) -> Result<Constants<'a>, AllocError>
+    pub fn of(
+        alloc: Global,
+        parts: &'a Parts,
+        facts: &'a Facts,
+    ) -> Result<Constants<'a>, AllocError>
         ensures parts { IfOk result (λ constants. constants.parts.now ≡ parts.now) }
         ensures facts { IfOk result (λ constants. constants.facts.now ≡ facts.now) }
     {

@@ -1,16 +1,17 @@
 //! The clauses of equality.
 #![tactic(auto)]
 
-ghost use Rattle.std.specs.Prelude.{◌≡◌, ◌++◌, [], ◌∷◌, OnOk, flat_map};
+ghost use Rattle.std.specs.Prelude.{◌≡◌, ◌++◌, [], ◌∷◌, OnOk, flat_map, map};
 ghost use Rattle.fol_forms.specs.Counts.{count_of};
-ghost use Rattle.decision_laws.specs.Clauses.{equality_clauses, same_clauses, chain_clauses, chain_clause, yes as yes_of};
+ghost use Rattle.decision_laws.specs.Clauses.{equality_clauses, same_clauses, chain_clauses, chain_clause, replace_clauses, yes as yes_of};
 ghost use Rattle.decision_laws.specs.Copies.{Equation as EquationFact};
 ghost use Rattle.decision_laws.specs.Vocabulary.{places_from};
 ghost use Rattle.ground_inst.specs.Equality.{chain_at, numerals_differ};
 ghost use Rattle.ground_inst.specs.Facts.{num_of, vocabulary_of};
 
 use crate::constants::{Constants, Numeral};
-use crate::facts::{equation_atom, Facts};
+use crate::exchange::write_replacements;
+use crate::facts::{Facts, equation_atom};
 use crate::places::literal;
 use crate::rows::Rows;
 use csdn_core::program::Parts;
@@ -26,7 +27,39 @@ pub fn write_equality(
 ) -> Result<(), AllocError>
     ensures { OnOk result (rows.new ≡ rows.old ++ equality_clauses (num_of facts.now) (count_of facts.now.counts) (vocabulary_of parts.now facts.now)) }
 {
-    Err(AllocError)
+    let constants = Constants::of(alloc, parts, facts)?;
+    write_all(alloc, &constants, rows)
+}
+
+// The clauses of equality between these constants.
+fn write_all(alloc: Global, constants: &Constants, rows: &mut Rows) -> Result<(), AllocError>
+    ensures { OnOk result (rows.new ≡ rows.old ++ equality_clauses (num_of constants.now.facts.now) (count_of constants.now.facts.now.counts) (vocabulary_of constants.now.parts.now constants.now.facts.now)) }
+{
+    write_sort(constants, Sort::Sw, rows)?;
+    write_sort(constants, Sort::Ho, rows)?;
+    write_sort(constants, Sort::Pr, rows)?;
+    write_relations(alloc, constants, rows)?;
+    write_numerals(constants.facts, constants.numerals.as_slice(), rows)
+}
+
+// That constants of a sort are equal to themselves, and equality is transitive.
+fn write_sort(constants: &Constants, sort: Sort, rows: &mut Rows) -> Result<(), AllocError>
+    ensures { OnOk result (rows.new ≡ rows.old ++ (same_clauses (num_of constants.now.facts.now) (count_of constants.now.facts.now.counts) sort ++ chain_clauses (num_of constants.now.facts.now) (count_of constants.now.facts.now.counts) (vocabulary_of constants.now.parts.now constants.now.facts.now) sort)) }
+{
+    write_same(constants, sort, rows)?;
+    write_chains(constants, sort, rows)
+}
+
+// Equal constants replace each other in the tuples of each relation.
+fn write_relations(alloc: Global, constants: &Constants, rows: &mut Rows) -> Result<(), AllocError>
+    ensures { OnOk result (rows.new ≡ rows.old ++ flat_map (λ r. replace_clauses (num_of constants.now.facts.now) (count_of constants.now.facts.now.counts) (vocabulary_of constants.now.parts.now constants.now.facts.now) r) (map (λ u. u.relation) constants.now.facts.now.relations)) }
+{
+    let mut rest = constants.facts.relations.as_slice();
+    'relations: while let [used, more @ ..] = rest {
+        write_replacements(alloc, constants, used.relation, rows)?;
+        rest = more;
+    }
+    Ok(())
 }
 
 // Each constant of a sort is equal to itself.
@@ -130,11 +163,7 @@ fn append_chain(
 }
 
 // Different numerals are different.
-fn write_numerals(
-    facts: &Facts,
-    numerals: &[Numeral],
-    rows: &mut Rows,
-) -> Result<(), AllocError>
+fn write_numerals(facts: &Facts, numerals: &[Numeral], rows: &mut Rows) -> Result<(), AllocError>
     ensures { OnOk result (rows.new ≡ rows.old ++ flat_map (λ p. flat_map (λ q. numerals_differ (num_of facts.now) p q) numerals.now) numerals.now) }
 {
     let mut rest = numerals;

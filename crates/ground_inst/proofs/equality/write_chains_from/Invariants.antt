@@ -1,10 +1,8 @@
-use Rattle.std.proofs.Common.{◌≡◌, ◌++◌, [], ◌∷◌}
+use Rattle.std.proofs.Common.{◌≡◌, ◌++◌}
 use Rattle.std.specs.Prelude.{flat_map}
-use Rattle.decision_laws.specs.Clauses.{yes}
-use Rattle.decision_laws.specs.Copies.{Equation}
 use Rattle.decision_laws.specs.Vocabulary.{places_from}
 use Rattle.fol_forms.specs.Counts.{count_of}
-use Rattle.ground_inst.specs.Equality.{chain_at, numerals_differ}
+use Rattle.ground_inst.specs.Equality.{chain_at}
 use Rattle.ground_inst.specs.Facts.{num_of, vocabulary_of}
 use Rattle.ground_inst.proofs.equality.write_chains_from.Given as goal
 

@@ -1,11 +1,7 @@
-use Rattle.std.proofs.Common.{◌≡◌, ◌++◌, [], ◌∷◌, length}
+use Rattle.std.proofs.Common.{◌≡◌, ◌++◌, length}
 use Rattle.std.specs.Prelude.{flat_map}
-use Rattle.decision_laws.specs.Clauses.{yes}
-use Rattle.decision_laws.specs.Copies.{Equation}
-use Rattle.decision_laws.specs.Vocabulary.{places_from}
-use Rattle.fol_forms.specs.Counts.{count_of}
-use Rattle.ground_inst.specs.Equality.{chain_at, numerals_differ}
-use Rattle.ground_inst.specs.Facts.{num_of, vocabulary_of}
+use Rattle.ground_inst.specs.Equality.{numerals_differ}
+use Rattle.ground_inst.specs.Facts.{num_of}
 use Rattle.ground_inst.proofs.equality.write_numerals.Given as goal
 
 abbrev pub invariant-numerals : goal.invariant-numerals
