@@ -3,3 +3,5 @@ pub mod FactLaws
 mod Scopes
 mod Steps
 mod Turns
+mod Wholes
+mod WholeClauses

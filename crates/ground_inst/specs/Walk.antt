@@ -99,6 +99,10 @@ pub record AddsEach (m : Ways) (f : Form) (v : VarId) (s : Sort) (old new : Stat
   pub next : new.next ≡ old.next + size (each_at m f v s old)
   pub env : new.env ≡ old.env
 
+-- the clauses of copies with a node or a leaf at the top: those of their nodes, and the literal of the whole
+abbrev pub named_clauses : (Fact → ℕ) → ℕ → Copy → List (List Literal)
+named_clauses num k c = node_clauses num k c ++ (top num k c ∷ []) ∷ []
+
 -- which truth value the copies of a form are, if they are one
 abbrev pub value_by : ℕ → Option Bool → Option Bool
 value_by zero o = Some true

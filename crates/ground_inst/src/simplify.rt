@@ -12,11 +12,10 @@ use sqlite_items::Boxed;
 use std::alloc::{AllocError, Global};
 
 /// A formula whose normal form is that of this one with its truth values simplified away, since no sort is empty.
-pub fn simplify(alloc: Global, formula: &Formula) -> Result<Formula, AllocError>
+pub fn simplify(alloc: Global, formula: &Formula) -> Result<Boxed<Formula>, AllocError>
     ensures { IfOk result (λ simple. form_of simple ≡ simplified (form_of formula.now)) }
 {
-    let simple = made(alloc, formula, true)?;
-    Ok(simple.into_inner())
+    made(alloc, formula, true)
 }
 
 // The simplified normal form of the formula, or for the sign `false` of its negation.

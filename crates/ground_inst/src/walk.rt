@@ -1,13 +1,15 @@
 //! The clauses of a sentence's copies.
 #![tactic(auto)]
 
-ghost use Rattle.std.specs.Prelude.{◌≡◌, ◌+◌, ◌++◌, [], ◌∷◌, IfOk, OnOk, not};
+ghost use Rattle.std.specs.Prelude.{◌≡◌, ◌+◌, ◌++◌, [], ◌∷◌, IfOk, OnOk, length, not};
+ghost use Rattle.csdn_core.specs.declared.terms.Sort.{Sort as AnySort};
+ghost use Rattle.fol_forms.specs.Constants.{names_of};
 ghost use Rattle.fol_forms.specs.Counts.{count_of};
 ghost use Rattle.fol_forms.specs.Forms.{And, ForAll, ForSome, Or, form_of, normal_form};
 ghost use Rattle.decision_laws.specs.Clauses.{either_clauses, member_clause, whole_clauses};
 ghost use Rattle.ground_inst.specs.Copies.{copies_over};
 ghost use Rattle.ground_inst.specs.Facts.{num_of};
-ghost use Rattle.ground_inst.specs.Walk.{AddsBound, AddsCopies, AddsEach, AddsMember, copied_value, numbered, state_of, ways_of};
+ghost use Rattle.ground_inst.specs.Walk.{AddsBound, AddsCopies, AddsEach, AddsMember, copied_value as value_copied, named_clauses, numbered, state_of, ways_of};
 
 use crate::bases::{larger, one_more};
 use crate::facts::Facts;
@@ -17,9 +19,11 @@ use clause_log::Lit;
 use csdn_core::program::Parts;
 use csdn_core::syntax::Formula;
 use csdn_core::terms::{Sort, VarId};
+use fol_forms::constants::known;
 use fol_forms::instances::Counts;
 use fol_forms::signed::{Signed, view};
 use std::alloc::{AllocError, Global};
+use std::mem::replace;
 
 // What the walk has made, and where it stands: the constants of variables, the first free constant of each sort, the number of
 // the next conjunction or disjunction, and the clauses.
@@ -32,7 +36,7 @@ pub struct Work {
 }
 
 /// Appends the clauses of the copies of a formula over the constants of `facts`; its conjunctions and disjunctions are the atoms
-/// from `first` on. What is appended on want of memory is not told.
+/// from `first` on. What the rows are after want of memory is not told.
 pub fn write_copies(
     alloc: Global,
     parts: &Parts,
@@ -43,7 +47,59 @@ pub fn write_copies(
 ) -> Result<(), AllocError>
     ensures { OnOk result (rows.new ≡ rows.old ++ whole_clauses (num_of facts.now) first (copies_over parts.now (count_of facts.now.counts) (form_of formula.now))) }
 {
-    Err(AllocError)
+    match copied_value(&facts.counts, formula, true) {
+        Some(true) => Ok(()),
+        Some(false) => rows.push(&[]),
+        None => write_nodes(alloc, Names { parts, facts }, formula, first, rows),
+    }
+}
+
+// Which truth value the copies of a formula are, if they are one; for the sign `false` those of its negation.
+fn copied_value(counts: &Counts, formula: &Formula, sign: bool) -> Option<bool>
+    ensures { result ≡ value_copied (count_of counts.now) (normal_form sign formula.now) }
+{
+    match view(formula, sign) {
+        Signed::Truth(value) => Some(value),
+        Signed::Forall(_, sort, p) => match counts.of(sort) {
+            0 => Some(true),
+            1 => copied_value(counts, p.formula, p.sign),
+            _ => None,
+        },
+        Signed::Exists(_, _, p) => copied_value(counts, p.formula, p.sign),
+        _ => None,
+    }
+}
+
+// How many names each sort has: behind them stand the free constants.
+fn known_of(parts: &Parts) -> Counts
+    ensures { (t : AnySort) → count_of result t ≡ length (names_of parts.now t) }
+{
+    Counts {
+        sw: known(parts, Sort::Sw) as u64,
+        ho: known(parts, Sort::Ho) as u64,
+        pr: known(parts, Sort::Pr) as u64,
+    }
+}
+
+// The clauses of copies that are no truth value.
+fn write_nodes(
+    alloc: Global,
+    names: Names,
+    formula: &Formula,
+    first: u64,
+    rows: &mut Rows,
+) -> Result<(), AllocError>
+    ensures { OnOk result (rows.new ≡ rows.old ++ named_clauses (num_of names.entry.facts.now) first (copies_over names.entry.parts.now (count_of names.entry.facts.now.counts) (form_of formula.now))) }
+{
+    let mut work = Work {
+        env: Vec::new(alloc),
+        base: known_of(names.parts),
+        next: first,
+        rows: replace(rows, Rows::new(alloc)),
+    };
+    let top = walk(&names, formula, true, &mut work)?;
+    *rows = work.rows;
+    rows.push(&[top])
 }
 
 // Takes the number of a conjunction or disjunction.
