@@ -1,0 +1,6 @@
+pub mod FactSteps
+pub mod FactLaws
+mod Scopes
+mod Steps
+mod Wholes
+mod WholeClauses

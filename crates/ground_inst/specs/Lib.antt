@@ -1,3 +1,4 @@
 pub mod Facts
 pub mod Copies
 pub mod Ground
+pub mod Walk

@@ -3,10 +3,15 @@
 //! [`making::ground`] makes them. `specs/` says what they are, on the definitions of decision_laws.
 #![tactic(auto)]
 
+mod bases;
+mod constants;
 pub mod equality;
 pub mod facts;
 pub mod making;
+mod places;
+mod room;
 pub mod rows;
 pub mod sentence;
 pub mod simplify;
 pub mod walk;
+mod weights;
