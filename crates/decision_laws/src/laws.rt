@@ -19,7 +19,8 @@ ghost use Rattle.decision_laws.specs.Numbers.{tuple_count, tuple_of};
 ghost use Rattle.decision_laws.specs.Weights.{weight};
 ghost use Rattle.decision_laws.specs.Sublists.{ArePart, AreBroken, left_of};
 ghost use Rattle.decision_laws.specs.Example.{program, sentence, r, example_counts, example_copies, example_node_clauses, example_equality_clauses, example_judgement, example_network, small_program, contradiction, contradiction_clauses, contradiction_log};
-ghost use Rattle.decision_laws.specs.Laws.{words, sentence_copies, IsSentence, IsTrueIn, HasNetwork, IsJudgement, AgreesOnNames, naming, name, judged, atoms, clauses, AreTied, AreTiedBy, HasModel};
+ghost use Rattle.csdn_core.specs.Satisfied.{IsTrueIn, HasNetwork};
+ghost use Rattle.decision_laws.specs.Laws.{words, sentence_copies, IsSentence, IsJudgement, AgreesOnNames, naming, name, judged, atoms, clauses, AreTied, AreTiedBy, HasModel};
 ghost use Rattle.decision_laws.specs.Simplified.{simplified};
 
 /// A sentence that is true in a network and state has a fair judgement of its copies.

@@ -2,7 +2,8 @@
 #![tactic(auto)]
 
 ghost use Rattle.std.specs.Prelude.{◌↔◌, IfOk};
-ghost use Rattle.decision_laws.specs.Laws.{IsSentence, HasNetwork, AreTied, HasModel};
+ghost use Rattle.csdn_core.specs.Satisfied.{HasNetwork};
+ghost use Rattle.decision_laws.specs.Laws.{IsSentence, AreTied, HasModel};
 ghost use Rattle.ground_inst.specs.Ground.{IsGround};
 
 use crate::sentence::Ground;
