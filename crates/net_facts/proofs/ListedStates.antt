@@ -9,6 +9,7 @@ use Rattle.std.proofs.lemmas.List.Elements.{All-nil, All-cons, All-append, All-m
 use Rattle.std.proofs.lemmas.List.Folds.{list_any-append}
 use Rattle.general_facts.proofs.Lists.{list_any-map}
 use Rattle.general_facts.proofs.Numbers.{self_equal}
+use Rattle.std.proofs.Math.Bool.{and-false}
 use Rattle.csdn_core.proofs.Same.{same_pred-refl, same_cells-is, same_pred-is}
 use Rattle.csdn_core.specs.declared.terms.Sort.{Sort}
 use Rattle.csdn_core.specs.declared.terms.Pred.{Pred}
@@ -193,11 +194,7 @@ one_held x r cells row true true same there rest left is = mine ∙ true_and (x 
 one_held x r cells row true false same there rest left is =
     let parts = and_parts (same_pred r row.pred) (same_cells cells row.cells) same in
     let absent : x r cells ≡ false = ap₂ x (same_pred-is r row.pred parts.0) (same_cells-is cells row.cells parts.1) ∙ there in
-    is ∙ ap (λ b. rest && b) absent ∙ and_false rest ∙ sym absent
-  where
-    and_false : (b : Bool) → (b && false) ≡ false
-    and_false true = refl
-    and_false false = refl
+    is ∙ ap (λ b. rest && b) absent ∙ and-false rest ∙ sym absent
 one_held x r cells row false true same there rest left is = is
 one_held x r cells row false false same there rest left is = is
 
