@@ -53,10 +53,10 @@ module _ (num : Fact → ℕ) (n : Sort → ℕ) (voc : Vocabulary) (r : Pred) w
       ap₂ (λ ys zs. no (num (Equation s (get_or xs at 0) b)) ∷ no (num (Tuple r ys)) ∷ yes (num (Tuple r zs)) ∷ []) whole other
 
 -- what was put last is taken off again
-pub popped : {X : Type 0} (front before after : List X) (x : X) (k : ℕ) → before ≡ front ++ x ∷ [] → k ≡ length before → after ≡ take (k - 1) before → after ≡ front
-popped front before after x k e long rest =
-    let count : k - 1 ≡ length front = (let l = length-append front (x ∷ []) in let m = ap length e in omega (arith, long, l, m)) in
-    rest ∙ ap₂ (λ n xs. take n xs) count e ∙ take-append_seam front (x ∷ [])
+pub popped : {X : Type 0} (front before after : List X) (x : X) (k : ℕ) (set : List X) → set ≡ front ++ x ∷ [] → before ≡ set → k ≡ length before → after ≡ take (k - 1) before → after ≡ front
+popped front before after x k set e kept long rest =
+    let count : k - 1 ≡ length front = (let l = length-append front (x ∷ []) in let m = ap length e in let n = ap length kept in omega (arith, long, l, m, n)) in
+    rest ∙ ap₂ (λ n xs. take n xs) count (kept ∙ e) ∙ take-append_seam front (x ∷ [])
 
 pub flat_flat : {X Y Z : Type 0} (g : Y → List Z) (f : X → List Y) (xs : List X) → flat_map g (flat_map f xs) ≡ flat_map (λ x. flat_map g (f x)) xs
 flat_flat g f [] = refl
@@ -83,10 +83,14 @@ module _ (P : Parts) (facts : Facts) (r : Pred) (cols : List Sort) where
   abbrev pub tuples_from : List Sort → List ℕ → List (List Literal)
   tuples_from ss front = flat_map (λ xs. exchanges P facts r cols (front ++ xs)) (all_tuples (count_of facts.counts) ss)
 
-  pub longer_front : (ss : List Sort) (front : List ℕ) (a : ℕ) → tuples_from ss (front ++ a ∷ []) ≡ flat_map (λ xs. exchanges P facts r cols (front ++ a ∷ xs)) (all_tuples (count_of facts.counts) ss)
+  longer_front : (ss : List Sort) (front : List ℕ) (a : ℕ) → tuples_from ss (front ++ a ∷ []) ≡ flat_map (λ xs. exchanges P facts r cols (front ++ a ∷ xs)) (all_tuples (count_of facts.counts) ss)
   longer_front ss front a =
       let same : (xs : List ℕ) → exchanges P facts r cols ((front ++ a ∷ []) ++ xs) ≡ exchanges P facts r cols (front ++ a ∷ xs) = λ xs. ap (exchanges P facts r cols) (append_assoc front (a ∷ []) xs) in
       ap (λ f. flat_map f (all_tuples (count_of facts.counts) ss)) (fun_ext same)
+
+  pub turned : (ss : List Sort) (front set : List ℕ) (a : ℕ) (rows new : List (List Literal)) → set ≡ front ++ a ∷ [] → new ≡ rows ++ tuples_from ss set
+      → new ≡ rows ++ flat_map (λ xs. exchanges P facts r cols (front ++ a ∷ xs)) (all_tuples (count_of facts.counts) ss)
+  turned ss front set a rows new e made = made ∙ ap (λ z. rows ++ tuples_from ss z) e ∙ ap (λ z. rows ++ z) (longer_front ss front a)
 
   -- the tuples of one more sort, by their first place
   pub by_first : (s : Sort) (ss : List Sort) (front : List ℕ)
