@@ -25,6 +25,9 @@ use csdn_core::program::{Parts, Program};
 use csdn_core::syntax::Formula;
 use std::alloc::{AllocError, Global};
 
+#[cfg(test)]
+mod tests;
+
 /// The clauses of a sentence of the program: those of its copies, and those of equality. `AllocError` also where they have 2^62
 /// atoms or more. Literals and ends are kept flat, in room that is taken once.
 pub fn ground(alloc: Global, program: &Program, sentence: &Formula) -> Result<Ground, AllocError>
