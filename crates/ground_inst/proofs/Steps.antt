@@ -1,5 +1,5 @@
 -- What one step of the walk adds.
-use Rattle.std.proofs.Common.{◌≡◌, ◌↔◌, ◌⊎◌, ℕ, zero, suc, ◌+◌, ◌<◌, ◌≤◌, max, Bool, true, List, [], ◌∷◌, ◌++◌, length, map, reverse, flat_map, Option, Some, None, IsSome, option_to_list, Result, Ok, Err, IfOk, refl, sym, ap, ap₂, ◌∙◌, subst, inl, inr, arith, append_assoc, append-nil, add-one, add-zero}
+use Rattle.std.proofs.Common.{◌≡◌, ◌↔◌, ℕ, zero, suc, ◌+◌, ◌<◌, max, Bool, true, List, [], ◌∷◌, ◌++◌, length, flat_map, Option, Some, None, IsSome, option_to_list, Result, Ok, Err, IfOk, refl, sym, ap, ap₂, ◌∙◌, subst, inl, inr, arith, append_assoc, append-nil, add-one, add-zero}
 use mathlib.Core.Path.{fun_ext}
 use Rattle.std.proofs.lemmas.Bool.{cases_eq, false≢true}
 use Rattle.csdn_core.specs.declared.terms.Sort.{Sort}
@@ -10,10 +10,10 @@ use Rattle.clause_log.specs.Literals.{Literal}
 use Rattle.fol_forms.specs.Forms.{Form, Atom, And, Or, ForAll, ForSome}
 use Rattle.fol_forms.specs.Constants.{need, one_if}
 use Rattle.decision_laws.specs.Vocabulary.{places_from}
-use Rattle.decision_laws.specs.Copies.{Copy, Known, Both, Each, each, Scope, copies}
+use Rattle.decision_laws.specs.Copies.{Copy, Known, Each, each, Scope, copies}
 use Rattle.decision_laws.specs.Clauses.{yes, size, sum_from, top, node_clauses, member_clause, either_clauses}
 use Rattle.ground_inst.specs.declared.places.Binding.{Binding}
-use Rattle.ground_inst.specs.Walk.{Ways, State, tuple_fact, literal_of, entry, scope, numbered, bound, copies_at, each_at, AddsCopies, AddsMember, AddsBound, AddsEach}
+use Rattle.ground_inst.specs.Walk.{Ways, State, tuple_fact, literal_of, entry, scope, numbered, copies_at, each_at, AddsCopies, AddsMember, AddsBound, AddsEach}
 use Rattle.ground_inst.proofs.Scopes.{scope_more}
 
 -- the copies where an earlier part was added
@@ -126,7 +126,7 @@ sum-more g i (suc m) =
     let at : suc i + m ≡ i + suc m = omega arith in
     omega (arith, deep, ap g at)
 
-flat-more : {X : Type 0} (g : ℕ → List X) (i m : ℕ) → flat_map g (places_from i (suc m)) ≡ flat_map g (places_from i m) ++ g (i + m)
+pub flat-more : {X : Type 0} (g : ℕ → List X) (i m : ℕ) → flat_map g (places_from i (suc m)) ≡ flat_map g (places_from i m) ++ g (i + m)
 flat-more g i zero = append-nil (g i) ∙ ap g (sym (add-zero i))
 flat-more g i (suc m) =
     let at : suc i + m ≡ i + suc m = omega arith in

@@ -1,6 +1,6 @@
-use Rattle.std.proofs.Common.{◌≡◌, ◌++◌, [], ◌∷◌, ap, sym, subst, refl, not, arith, ◌∙◌}
+use Rattle.std.proofs.Common.{◌≡◌, ◌++◌, [], ◌∷◌, ap, sym, refl, not, arith, ◌∙◌}
 use Rattle.fol_forms.specs.Forms.{And, normal_form}
-use Rattle.decision_laws.specs.Clauses.{yes, member_clause}
+use Rattle.decision_laws.specs.Clauses.{member_clause}
 use Rattle.ground_inst.specs.Walk.{scope, state_of, ways_of}
 use Rattle.ground_inst.proofs.Steps.{told, leaf_added, both_from, either_from, exists_added, row_begun, row_more, row_from, if_ok}
 use Rattle.ground_inst.proofs.walk.+walk.Goals as goal
