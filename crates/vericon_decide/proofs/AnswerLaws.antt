@@ -93,7 +93,7 @@ all_proven P n k ps well met past before = record { met = met; proven = proven; 
     whole : AreProofsOf P (drop 1 (conditions P n)) ps
     whole = subst (λ z. AreProofsOf P (drop 1 z) ps) (take_all k (conditions P n) many) before.proofs_of
 
-first_is : (P : Parts) (n : ℕ) (c : Condition) → slice_get (conditions P n) 0 ≡ Some c → condition P n NetworkKind ≡ c
+pub first_is : (P : Parts) (n : ℕ) (c : Condition) → slice_get (conditions P n) 0 ≡ Some c → condition P n NetworkKind ≡ c
 first_is P n c there = same_Some (condition P n NetworkKind) c there
 
 -- the network condition

@@ -1,2 +1,3 @@
 mod VerdictLaws
 mod AnswerLaws
+mod Exact

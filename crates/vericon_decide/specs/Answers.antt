@@ -1,5 +1,5 @@
 -- What is answered of a program.
-use Rattle.std.specs.Prelude.{◌≡◌, ℕ, ◌<◌, List, [], ◌∷◌, drop, Some, slice_get, Result, Ok, Err}
+use Rattle.std.specs.Prelude.{◌≡◌, ℕ, ◌<◌, Bool, true, false, List, [], ◌∷◌, drop, Some, slice_get, Result, Ok, Err}
 use Rattle.csdn_core.specs.declared.program.Parts.{Parts}
 use Rattle.csdn_core.specs.Network.{Network}
 use Rattle.csdn_core.specs.Holds.{IsTopology, IsInductive}
@@ -69,12 +69,20 @@ module _ (P : Parts) (n : ℕ) where
     pub inductive : IsInductive n P
     pub proofs_of : AreProofsOf P (drop 1 (conditions P n)) proofs
 
-  -- the condition of this number is the first that is not proven, for this reason, where the network condition has to be open
+  -- the condition of this number is the first that is not proven, for this reason; the network condition is to be open, so
+  -- that it counts only where it can't be decided
   pub record IsFirstUnproven (index : ℕ) (why : Why) : Type 0 where
     pub met : 0 < index → IsMet
     pub proven : (i : ℕ) (c : Condition) → slice_get (conditions P n) i ≡ Some c → 0 < i → i < index → IsProven P c
     pub unproven : OfCondition P n index (λ c. IsWhy P c why)
     pub later : why ≡ Open → 0 < index
+
+  -- what yes comes to, without proofs: each condition can be decided, some network meets the topology invariants, and the
+  -- program is inductive
+  pub record IsProvable : Type 0 where
+    pub inside : (i : ℕ) (c : Condition) → slice_get (conditions P n) i ≡ Some c → IsInside P c
+    pub network : (N : Network) × IsTopology P N
+    pub inductive : IsInductive n P
 
 abbrev pub IsAnswer : Parts → Answer → Type 0
 IsAnswer P (Yes level proofs) = (level ≡ 0) × IsProvenBy P level proofs.items
@@ -92,3 +100,13 @@ AreOne (Unknown n i why) (NoNetwork q) = ⊥
 AreOne (NoNetwork p) (Yes m qs) = ⊥
 AreOne (NoNetwork p) (Unknown m j whz) = ⊥
 AreOne (NoNetwork p) (NoNetwork q) = Unit {0}
+
+abbrev pub is_yes : Answer → Bool
+is_yes (Yes n ps) = true
+is_yes (Unknown n i why) = false
+is_yes (NoNetwork p) = false
+
+abbrev pub is_no_network : Answer → Bool
+is_no_network (Yes n ps) = false
+is_no_network (Unknown n i why) = false
+is_no_network (NoNetwork p) = true
