@@ -1,0 +1,7 @@
+//! Networks and states of valuations that make the clauses of a sentence true.
+//!
+//! [`making::network_of`] makes them: their elements are the classes of equal constants. `specs/` says what they are, on the
+//! definitions of decision_laws.
+#![tactic(auto)]
+
+pub mod making;
