@@ -4,4 +4,8 @@
 //! definitions of decision_laws.
 #![tactic(auto)]
 
+mod classes;
+mod judgement;
 pub mod making;
+mod numbers;
+mod ports;
