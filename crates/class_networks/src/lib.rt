@@ -9,3 +9,6 @@ mod judgement;
 pub mod making;
 mod numbers;
 mod ports;
+mod sides;
+mod tuples;
+mod values;
