@@ -1,1 +1,4 @@
 mod Ranges
+mod OneOrder
+mod TupleNumbers
+mod JudgedRows

@@ -36,15 +36,15 @@ abbrev pub rows_by : Pred → Option (List ℕ) → List Row
 rows_by r None = []
 rows_by r (Some cells) = record { pred = r; cells = cells } ∷ []
 
-module _ (n : Sort → ℕ) (ρ : Meaning) where
-  -- what is left of a tuple's number behind its places: nothing where the tuple is one of these sorts
-  abbrev pub left_over : List Sort → ℕ → ℕ
-  left_over [] k = k
-  left_over (s ∷ ss) k = left_over ss (k / n s)
+-- what is left of a tuple's number behind its places: nothing where the tuple is one of these sorts
+abbrev pub left_over : (Sort → ℕ) → List Sort → ℕ → ℕ
+left_over n [] k = k
+left_over n (s ∷ ss) k = left_over n ss (k / n s)
 
+module _ (n : Sort → ℕ) (ρ : Meaning) where
   -- the elements of the tuple of a number
   abbrev pub cells_by : List Sort → ℕ → Option (List ℕ)
-  cells_by ss k = if left_over ss k == 0 then Some (values_of ρ ss (tuple_of n ss k)) else None
+  cells_by ss k = if left_over n ss k == 0 then Some (values_of ρ ss (tuple_of n ss k)) else None
 
   -- the tuple of an atom, where it is one of the relation's
   abbrev pub row_at : UsedRelation → ℕ → List Row

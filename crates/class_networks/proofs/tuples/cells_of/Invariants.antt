@@ -8,7 +8,7 @@ use Rattle.class_networks.proofs.tuples.cells_of.Given as goal
 
 abbrev pub invariant-sorts : goal.invariant-sorts
 invariant-sorts l = record {
-  left : left_over (constants_in l.judgement) (number_at l.numbers) l.rest l.left ≡ left_over (constants_in l.judgement) (number_at l.numbers) l.fn.sorts l.number;
+  left : left_over (constants_in l.judgement) l.rest l.left ≡ left_over (constants_in l.judgement) l.fn.sorts l.number;
   cells : l.cells ++ values_of (number_at l.numbers) l.rest (tuple_of (constants_in l.judgement) l.rest l.left)
       ≡ values_of (number_at l.numbers) l.fn.sorts (tuple_of (constants_in l.judgement) l.fn.sorts l.number);
 }
