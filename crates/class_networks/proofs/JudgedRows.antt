@@ -1,5 +1,5 @@
 -- The rows that are made of true atoms are those of the tuples of constants that are judged true.
-use Rattle.std.proofs.Common.{◌≡◌, ◌∙◌, ap, ap₂, sym, refl, subst, arith, inl, inr, cond, map, ℕ, zero, suc, ◌+◌, ◌-◌, ◌<◌, ◌==◌, Bool, true, false, List, [], ◌∷◌, ◌++◌, Option, Some, None, nat_eq, nat_lt, lt-ltb, eqb-true, eq-eqb, length}
+use Rattle.std.proofs.Common.{◌≡◌, ◌∙◌, ap, ap₂, sym, refl, subst, arith, inl, inr, cond, map, ℕ, suc, ◌+◌, ◌-◌, ◌<◌, ◌==◌, Bool, true, false, List, [], ◌∷◌, ◌++◌, Some, None, nat_lt, lt-ltb, eqb-true, eq-eqb, length}
 use Rattle.std.proofs.lemmas.Bool.{ltb-true}
 use Rattle.std.specs.Prelude.{flat_map}
 use Rattle.csdn_core.specs.Members.{AreDistinct, IsIn}
@@ -13,7 +13,7 @@ use Rattle.clause_log.specs.Literals.{truths}
 use Rattle.fol_forms.specs.Constants.{counts}
 use Rattle.fol_forms.specs.Forms.{form_of}
 use Rattle.decision_laws.specs.Classes.{Meaning, number, values_of}
-use Rattle.decision_laws.specs.Copies.{AreBelow, Fact, Tuple}
+use Rattle.decision_laws.specs.Copies.{AreBelow, Tuple}
 use Rattle.decision_laws.specs.Laws.{judged, naming, words}
 use Rattle.decision_laws.specs.Numbers.{fact_count, tuple_number, tuple_of}
 use Rattle.decision_laws.specs.Vocabulary.{all_relations, places_from, uses}
@@ -26,7 +26,7 @@ use Rattle.ground_inst.proofs.FactLaws.{tuple_number_of}
 use Rattle.net_structs.specs.declared.row.Row.{Row}
 use Rattle.net_structs.specs.Rows.{kind_of, number_of}
 use Rattle.class_networks.specs.Made.{cells_by, left_over, row_at, rows_by, rows_in}
-use Rattle.class_networks.proofs.TupleNumbers.{IsTupleOf, IsUsed, NumbersTuple, number_of_tuple, relation_used, tuple_of_number, used_is}
+use Rattle.class_networks.proofs.TupleNumbers.{IsUsed, number_of_tuple, relation_used, tuple_of_number, used_is}
 
 -- The relations of a program are different.
 

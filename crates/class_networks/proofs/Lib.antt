@@ -2,3 +2,6 @@ mod Ranges
 mod OneOrder
 mod TupleNumbers
 mod JudgedRows
+mod ClassNumbers
+mod TrueRows
+mod WholeNetworks

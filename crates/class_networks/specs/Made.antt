@@ -1,5 +1,5 @@
 -- What is made of a judgement with these numbers of its classes.
-use Rattle.std.specs.Prelude.{◌≡◌, ℕ, suc, ◌-◌, ◌/◌, ◌==◌, Bool, not, List, [], ◌∷◌, Option, Some, None, flat_map, filter, map, length, nat_lt, if◌then◌else◌}
+use Rattle.std.specs.Prelude.{◌≡◌, ℕ, ◌-◌, ◌/◌, ◌==◌, Bool, not, List, [], ◌∷◌, Option, Some, None, flat_map, filter, map, length, nat_lt, if◌then◌else◌}
 use Rattle.std.specs.Ordering.{nat_cmp}
 use Rattle.csdn_core.specs.declared.terms.Sort.{Sort}
 use Rattle.csdn_core.specs.declared.terms.Pred.{Pred}
@@ -16,7 +16,7 @@ use Rattle.decision_laws.specs.Classes.{Meaning, is_static, values_of}
 use Rattle.ground_inst.specs.declared.facts.UsedRelation.{UsedRelation}
 use Rattle.net_structs.specs.declared.row.Row.{Row}
 use Rattle.net_structs.specs.declared.case.Case.{Case}
-use Rattle.net_structs.specs.Networks.{bare_network, in_order, static_cmp}
+use Rattle.net_structs.specs.Networks.{in_order, static_cmp}
 use Rattle.net_structs.specs.Rows.{row_cmp}
 use Rattle.class_networks.specs.declared.judgement.Judgement.{Judgement}
 use Rattle.class_networks.specs.declared.numbers.Numbers.{Numbers}

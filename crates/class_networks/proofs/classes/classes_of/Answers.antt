@@ -1,4 +1,4 @@
-use Rattle.std.proofs.Common.{◌≡◌, ◌<◌, ◌∙◌, ◌++◌, ◌-◌, ◌+◌, ◌==◌, ap}
+use Rattle.std.proofs.Common.{◌<◌, ◌∙◌, ◌++◌, ◌-◌, ◌+◌, ◌==◌, ap}
 use Rattle.std.specs.Prelude.{filter}
 use Rattle.decision_laws.specs.Vocabulary.{places_from}
 use Rattle.class_networks.specs.Judgements.{constants_in, first_in}

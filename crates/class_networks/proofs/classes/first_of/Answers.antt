@@ -1,4 +1,4 @@
-use Rattle.std.proofs.Common.{◌≡◌, ◌<◌, ◌∙◌, sym, subst}
+use Rattle.std.proofs.Common.{◌<◌, ◌∙◌, sym}
 use Rattle.decision_laws.specs.Copies.{Equation}
 use Rattle.class_networks.specs.Judgements.{constants_in, says}
 use Rattle.class_networks.proofs.Ranges.{first_step}

@@ -1,4 +1,4 @@
-use Rattle.std.proofs.Common.{◌≡◌, ◌<◌, ◌∙◌, ◌++◌, ◌-◌, ◌+◌, ◌∷◌, [], ap, map}
+use Rattle.std.proofs.Common.{◌<◌, ◌∙◌, ◌++◌, ◌-◌, ◌+◌, ◌∷◌, [], ap, map}
 use Rattle.decision_laws.specs.Vocabulary.{places_from}
 use Rattle.class_networks.specs.Judgements.{constants_in, numbers_in}
 use Rattle.class_networks.proofs.Ranges.{mapped_step}

@@ -1,4 +1,4 @@
-use Rattle.std.proofs.Common.{◌≡◌, ◌<◌, ◌∙◌, ◌++◌, ◌-◌, ◌+◌, ◌∷◌, ◌==◌, ℕ, Bool, List, [], ap, not, cond}
+use Rattle.std.proofs.Common.{◌∙◌, ◌++◌, ◌-◌, ◌+◌, ◌∷◌, ◌==◌, ℕ, Bool, List, [], ap, not, cond}
 use Rattle.std.specs.Prelude.{filter}
 use Rattle.std.specs.List.{list_any}
 use Rattle.decision_laws.specs.Vocabulary.{places_from}

@@ -1,4 +1,4 @@
-use Rattle.std.proofs.Common.{◌≡◌, ◌<◌, ◌∙◌, ◌++◌, ◌-◌, ◌+◌, ◌∷◌, [], ap, map, length}
+use Rattle.std.proofs.Common.{◌<◌, ◌∙◌, ◌++◌, ◌-◌, ◌+◌, ◌∷◌, [], ap, map, length}
 use Rattle.decision_laws.specs.Vocabulary.{places_from}
 use Rattle.class_networks.specs.Made.{value_in}
 use Rattle.class_networks.proofs.Ranges.{mapped_step}
