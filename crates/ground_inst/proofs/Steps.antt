@@ -1,20 +1,17 @@
 -- What one step of the walk adds.
-use Rattle.std.proofs.Common.{◌≡◌, ◌↔◌, ◌⊎◌, ℕ, zero, suc, ◌+◌, ◌<◌, ◌≤◌, max, Bool, true, List, [], ◌∷◌, ◌++◌, length, map, reverse, flat_map, Option, Some, None, IsSome, option_to_list, Result, Ok, Err, IfOk, refl, sym, ap, ap₂, ◌∙◌, subst, inl, inr, arith, append_assoc, append-nil, add-one, add-zero}
+use Rattle.std.proofs.Common.{◌≡◌, ℕ, zero, suc, ◌+◌, max, Bool, List, [], ◌∷◌, ◌++◌, flat_map, Result, Ok, Err, IfOk, refl, sym, ap, ap₂, ◌∙◌, subst, arith, append_assoc, append-nil, add-one, add-zero}
 use mathlib.Core.Path.{fun_ext}
-use Rattle.std.proofs.lemmas.Bool.{cases_eq, false≢true}
 use Rattle.csdn_core.specs.declared.terms.Sort.{Sort}
 use Rattle.csdn_core.specs.declared.terms.VarId.{VarId}
 use Rattle.csdn_core.specs.declared.terms.Pred.{Pred}
 use Rattle.csdn_core.specs.declared.terms.Term.{Term}
 use Rattle.clause_log.specs.Literals.{Literal}
-use Rattle.fol_forms.specs.Forms.{Form, Atom, And, Or, ForAll, ForSome}
+use Rattle.fol_forms.specs.Forms.{Form, Atom, And, Or, ForSome}
 use Rattle.fol_forms.specs.Constants.{need, one_if}
 use Rattle.decision_laws.specs.Vocabulary.{places_from}
-use Rattle.decision_laws.specs.Copies.{Copy, Known, Both, Each, each, Scope, copies}
+use Rattle.decision_laws.specs.Copies.{Copy, Each, each, Scope, copies}
 use Rattle.decision_laws.specs.Clauses.{yes, size, sum_from, top, node_clauses, member_clause, either_clauses}
-use Rattle.ground_inst.specs.declared.places.Binding.{Binding}
-use Rattle.ground_inst.specs.Walk.{Ways, State, tuple_fact, literal_of, entry, scope, numbered, bound, copies_at, each_at, AddsCopies, AddsMember, AddsBound, AddsEach}
-use Rattle.ground_inst.proofs.Scopes.{scope_more}
+use Rattle.ground_inst.specs.Walk.{Ways, State, tuple_fact, literal_of, numbered, copies_at, each_at, AddsCopies, AddsMember, AddsBound, AddsEach}
 
 -- the copies where an earlier part was added
 moved : (m : Ways) (f g : Form) (old mid : State) → mid.env ≡ old.env → ((s : Sort) → mid.base s ≡ old.base s + need f s) → copies_at m g mid ≡ copies m.voc m.count g old.env (λ t. old.base t + need f t)
@@ -64,15 +61,6 @@ either_added m f g old mid new w a b h k we wb wn wo =
       env = we ∙ k.env ∙ h.env;
     }
 
-pub every_added : (m : Ways) (f : Form) (v : VarId) (s : Sort) (old mid w : State) (l : Literal) → AddsEach m f v s old mid l → w.env ≡ mid.env → ((t : Sort) → w.base t ≡ old.base t) → w.next ≡ mid.next → w.out ≡ mid.out → AddsCopies m (ForAll v s f) old w l
-every_added m f v s old mid w l h we wb wn wo = record {
-  lit = h.lit;
-  clauses = wo ∙ h.clauses;
-  next = wn ∙ h.next;
-  base = λ t. omega (arith, wb t);
-  env = we ∙ h.env;
-}
-
 pub exists_added : (m : Ways) (f : Form) (v : VarId) (s : Sort) (a : ℕ) (old mid new : State) (l : Literal) → a ≡ old.base s → mid.env ≡ old.env → ((t : Sort) → mid.base t ≡ old.base t + one_if s t) → mid.next ≡ old.next → mid.out ≡ old.out → AddsBound m f v s a mid new l → AddsCopies m (ForSome v s f) old new l
 exists_added m f v s a old mid new l ea ee eb en eo h =
     let e : copies m.voc m.count f ((v.0, (s, a)) ∷ mid.env) mid.base ≡ copies_at m (ForSome v s f) old =
@@ -83,32 +71,6 @@ exists_added m f v s a old mid new l ea ee eb en eo h =
       next = omega (arith, h.next, en, ap size e);
       base = λ t. omega (arith, h.base t, eb t);
       env = h.env ∙ ee;
-    }
-
--- A binding more, and one less.
-
-empty_scope : (items : List Binding) → length items ≡ 0 → (e : ℕ × (Sort × ℕ)) (env : Scope) → scope items ≡ e ∷ env → ⊥
-empty_scope [] z e env k = cc
-empty_scope (b ∷ bs) z e env k = omega arith
-
-popped : (items rest : List Binding) (o : Option Binding) (e : ℕ × (Sort × ℕ)) (env : Scope) → items ≡ rest ++ option_to_list o → (IsSome o ↔ (0 < length items)) → scope items ≡ e ∷ env → scope rest ≡ env
-popped items rest None e env h i k =
-    elim (cases_eq (length items) 0) [
-      | inl z ↦ absurd (empty_scope items z e env k)
-      | inr ne ↦ absurd (false≢true (i.1 (omega arith)))
-    ]
-popped items rest (Some b) e env h i k = (let q : entry b ∷ scope rest ≡ e ∷ env = sym (scope_more rest b) ∙ ap scope (sym h) ∙ k in cc)
-
-pub bound_added : (m : Ways) (f : Form) (b : Binding) (old pushed : State) (mid new : State) (olds items rest : List Binding) (o : Option Binding) (l : Literal) → old.env ≡ scope olds → pushed.env ≡ scope (olds ++ b ∷ []) → ((t : Sort) → pushed.base t ≡ old.base t) → pushed.next ≡ old.next → pushed.out ≡ old.out → AddsCopies m f pushed mid l → mid.env ≡ scope items → items ≡ rest ++ option_to_list o → (IsSome o ↔ (0 < length items)) → new.env ≡ scope rest → ((t : Sort) → new.base t ≡ mid.base t) → new.next ≡ mid.next → new.out ≡ mid.out → AddsBound m f b.var b.sort b.place old new l
-bound_added m f b old pushed mid new olds items rest o l e0 e1 eb en eo h m0 m1 m2 w0 w1 w2 w3 =
-    let env : pushed.env ≡ entry b ∷ old.env = e1 ∙ scope_more olds b ∙ ap (λ z. entry b ∷ z) (sym e0) in
-    let e : copies_at m f pushed ≡ copies m.voc m.count f (entry b ∷ old.env) old.base = ap₂ (λ x y. copies m.voc m.count f x y) env (fun_ext eb) in
-    record {
-      lit = h.lit ∙ ap₂ (λ k c. top m.num k c) en e;
-      clauses = w3 ∙ h.clauses ∙ ap₂ (λ u v. u ++ v) eo (ap₂ (λ k c. node_clauses m.num k c) en e);
-      next = omega (arith, w2, h.next, en, ap size e);
-      base = λ t. omega (arith, w1 t, h.base t, eb t);
-      env = w0 ∙ popped items rest o (entry b) old.env m1 m2 (sym m0 ∙ h.env ∙ env);
     }
 
 -- The row of copies.
@@ -126,7 +88,7 @@ sum-more g i (suc m) =
     let at : suc i + m ≡ i + suc m = omega arith in
     omega (arith, deep, ap g at)
 
-flat-more : {X : Type 0} (g : ℕ → List X) (i m : ℕ) → flat_map g (places_from i (suc m)) ≡ flat_map g (places_from i m) ++ g (i + m)
+pub flat-more : {X : Type 0} (g : ℕ → List X) (i m : ℕ) → flat_map g (places_from i (suc m)) ≡ flat_map g (places_from i m) ++ g (i + m)
 flat-more g i zero = append-nil (g i) ∙ ap g (sym (add-zero i))
 flat-more g i (suc m) =
     let at : suc i + m ≡ i + suc m = omega arith in
@@ -174,28 +136,6 @@ row_whole m f v s old now all q ne nz r =
       env = r.env;
     }
 
-pub row_of_one : (m : Ways) (f : Form) (v : VarId) (s : Sort) (old new : State) (l : Literal) → 1 ≡ m.count s → AddsBound m f v s 0 old new l → AddsEach m f v s old new l
-row_of_one m f v s old new l q h =
-    let c : ℕ → Copy = λ a. copies m.voc m.count f ((v.0, (s, a)) ∷ old.env) old.base in
-    let e : c 0 ≡ each_at m f v s old = ap (λ k. each k c) q in
-    record {
-      lit = h.lit ∙ ap (top m.num old.next) e;
-      clauses = h.clauses ∙ ap (λ d. old.out ++ node_clauses m.num old.next d) e;
-      next = h.next ∙ ap (λ d. old.next + size d) e;
-      env = h.env;
-    }
-
-pub row_of_none : (m : Ways) (f : Form) (v : VarId) (s : Sort) (old : State) (l : Literal) → 0 ≡ m.count s → l ≡ yes old.next → AddsEach m f v s old old l
-row_of_none m f v s old l q h =
-    let c : ℕ → Copy = λ a. copies m.voc m.count f ((v.0, (s, a)) ∷ old.env) old.base in
-    let e : Known true ≡ each_at m f v s old = ap (λ k. each k c) q in
-    record {
-      lit = h ∙ ap (top m.num old.next) e;
-      clauses = sym (append-nil old.out) ∙ ap (λ d. old.out ++ node_clauses m.num old.next d) e;
-      next = sym (add-zero old.next) ∙ ap (λ d. old.next + size d) e;
-      env = refl;
-    }
-
 -- The same, as the code comes to it.
 
 pub both_from : (m : Ways) (f g : Form) (old start mid new : State) (x : ℕ) → start ≡ numbered old → x ≡ old.next → AddsMember m f start mid x → AddsMember m g mid new x → AddsCopies m (And f g) old new (yes x)
@@ -225,7 +165,3 @@ leaf_added m sign r ts w env f e q = subst (λ z. AddsCopies m z w w (literal_of
   base = λ s. sym (add-zero (w.base s));
   env = refl;
 })
-
-pub if_ok : {T E : Type 0} (r : Result T E) (P Q : T → Type 0) → IfOk r P → ((x : T) → P x → Q x) → IfOk r Q
-if_ok (Ok x) P Q h f = f x h
-if_ok (Err e) P Q h f = h

@@ -1,8 +1,7 @@
 -- The rows that are made of a sentence are its clauses.
-use Rattle.std.proofs.Common.{◌≡◌, ℕ, suc, ◌+◌, ◌++◌, [], sym, ap, ap₂, ◌∙◌, subst, true, List}
+use Rattle.std.proofs.Common.{◌≡◌, ℕ, suc, ◌+◌, ◌++◌, [], ap, ap₂, ◌∙◌, true, List}
 use mathlib.Core.Path.{fun_ext}
 use Rattle.std.specs.List.{list_all}
-use Rattle.csdn_core.specs.declared.terms.Sort.{Sort}
 use Rattle.csdn_core.specs.declared.program.Parts.{Parts}
 use Rattle.csdn_core.specs.declared.syntax.Formula.{Formula}
 use Rattle.clause_log.specs.Literals.{Literal, is_clause}
@@ -10,12 +9,10 @@ use Rattle.fol_forms.specs.Forms.{Form, form_of}
 use Rattle.fol_forms.specs.Constants.{counts}
 use Rattle.fol_forms.specs.Counts.{count_of}
 use Rattle.decision_laws.specs.Clauses.{equality_clauses, whole_clauses}
-use Rattle.decision_laws.specs.Copies.{Fact, Copy, known}
+use Rattle.decision_laws.specs.Copies.{known}
 use Rattle.decision_laws.specs.Laws.{IsSentence, atoms, clauses, naming, sentence_copies, words}
-use Rattle.decision_laws.specs.Numbers.{fact_count}
 use Rattle.decision_laws.specs.Simplified.{simplified}
 use Rattle.decision_laws.specs.Weights.{weight}
-use Rattle.decision_laws.specs.Vocabulary.{vocabulary}
 use Rattle.decision_laws.proofs.Bridge.{clauses_bounded}
 use Rattle.ground_inst.specs.Copies.{copies_over}
 use Rattle.ground_inst.specs.Facts.{AreFactsOf, num_of, vocabulary_of}

@@ -3,12 +3,9 @@
 
 ghost use Rattle.std.specs.Prelude.{◌≡◌, ◌==◌, ◌||◌, ◌++◌, ◌∷◌, [], ℕ, false, map, IfOk, OnOk, slice_index_or};
 ghost use Rattle.std.specs.List.{list_any};
-ghost use Rattle.csdn_core.specs.declared.terms.Sort.TheVariants.{Pr as PortSort};
-ghost use Rattle.csdn_core.specs.declared.terms.Term.TheVariants.{Port as PortTerm};
 ghost use Rattle.decision_laws.specs.Clauses.{is_numeral as is_numeral_place, may_meet as may_be_one};
-ghost use Rattle.decision_laws.specs.Copies.{index_of};
-ghost use Rattle.fol_forms.specs.Constants.{names_of};
 ghost use Rattle.fol_forms.specs.Counts.{count_of};
+ghost use Rattle.ground_inst.specs.Equality.{numeral_of};
 ghost use Rattle.ground_inst.specs.Facts.{vocabulary_of};
 
 use crate::facts::Facts;
@@ -18,17 +15,24 @@ use decision_laws::names::numeral_place;
 use fol_forms::constants::known;
 use std::alloc::{AllocError, Global};
 
+/// A numeral, and its place among the constants of the ports.
+#[derive(Drop)]
+pub struct Numeral {
+    pub number: u16,
+    pub place: u64,
+}
+
 /// The constants of the facts of a sentence.
 #[derive(Drop)]
 pub struct Constants<'a> {
     pub facts: &'a Facts,
     pub parts: &'a Parts,
-    /// The places of the numerals, in the program's order.
-    pub places: Vec<u64>,
+    /// In the program's order.
+    pub numerals: Vec<Numeral>,
     /// Whether a numeral stands at a place among the ports.
     pub marks: Vec<bool>,
-    ghost placed: { places.items ≡ map (λ k. index_of (PortTerm k) (names_of parts.now PortSort)) parts.now.numerals },
-    ghost marked: { (a : ℕ) → slice_index_or marks.items a false ≡ list_any (λ p. p == a) places.items },
+    ghost placed: { numerals.items ≡ map (numeral_of parts.now) parts.now.numerals },
+    ghost marked: { (a : ℕ) → slice_index_or marks.items a false ≡ list_any (λ p. p.place == a) numerals.items },
 }
 
 impl<'a> Constants<'a> {
@@ -41,12 +45,12 @@ impl<'a> Constants<'a> {
         ensures parts { IfOk result (λ constants. constants.parts.now ≡ parts.now) }
         ensures facts { IfOk result (λ constants. constants.facts.now ≡ facts.now) }
     {
-        let places = places_of(alloc, parts)?;
-        let marks = marks_at(alloc, known(parts, Sort::Pr), places.as_slice())?;
+        let numerals = numerals_of(alloc, parts)?;
+        let marks = marks_at(alloc, known(parts, Sort::Pr), numerals.as_slice())?;
         Ok(Constants {
             facts,
             parts,
-            places,
+            numerals,
             marks,
         })
     }
@@ -73,23 +77,27 @@ impl<'a> Constants<'a> {
     }
 }
 
-// The places of the numerals.
-fn places_of(alloc: Global, parts: &Parts) -> Result<Vec<u64>, AllocError>
-    ensures { IfOk result (λ places. places.items ≡ map (λ k. index_of (PortTerm k) (names_of parts.now PortSort)) parts.now.numerals) }
+// The numerals and their places.
+fn numerals_of(alloc: Global, parts: &Parts) -> Result<Vec<Numeral>, AllocError>
+    ensures { IfOk result (λ numerals. numerals.items ≡ map (numeral_of parts.now) parts.now.numerals) }
 {
-    let mut places = Vec::new(alloc);
+    let mut numerals = Vec::new(alloc);
     let mut rest = parts.numerals.as_slice();
-    'numerals: while let [numeral, more @ ..] = rest {
-        append_place(&mut places, numeral_place(parts, *numeral) as u64)?;
+    'numerals: while let [number, more @ ..] = rest {
+        let numeral = Numeral {
+            number: *number,
+            place: numeral_place(parts, *number) as u64,
+        };
+        append_numeral(&mut numerals, numeral)?;
         rest = more;
     }
-    Ok(places)
+    Ok(numerals)
 }
 
-fn append_place(places: &mut Vec<u64>, place: u64) -> Result<(), AllocError>
-    ensures { OnOk result (places.new.items ≡ places.old.items ++ place ∷ []) }
+fn append_numeral(numerals: &mut Vec<Numeral>, numeral: Numeral) -> Result<(), AllocError>
+    ensures { OnOk result (numerals.new.items ≡ numerals.old.items ++ numeral ∷ []) }
 {
-    places.push(place).map_err(AllocError::from)
+    numerals.push(numeral).map_err(AllocError::from)
 }
 
 // Whether a place is marked.
@@ -102,14 +110,14 @@ fn mark_at(marks: &[bool], place: u64) -> bool
     }
 }
 
-// Marks at these places among so many.
-fn marks_at(alloc: Global, count: usize, places: &[u64]) -> Result<Vec<bool>, AllocError>
-    ensures { IfOk result (λ marks. (a : ℕ) → slice_index_or marks.items a false ≡ list_any (λ p. p == a) places.now) }
+// Marks at the places of numerals, among so many.
+fn marks_at(alloc: Global, count: usize, numerals: &[Numeral]) -> Result<Vec<bool>, AllocError>
+    ensures { IfOk result (λ marks. (a : ℕ) → slice_index_or marks.items a false ≡ list_any (λ p. p.place == a) numerals.now) }
 {
     let mut marks = vec![in alloc; false; count]?;
-    let mut rest = places;
-    'places: while let [place, more @ ..] = rest {
-        mark(&mut marks, *place)?;
+    let mut rest = numerals;
+    'numerals: while let [numeral, more @ ..] = rest {
+        mark(&mut marks, numeral.place)?;
         rest = more;
     }
     Ok(marks)

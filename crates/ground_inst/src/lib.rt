@@ -6,6 +6,7 @@
 mod bases;
 mod constants;
 pub mod equality;
+mod exchange;
 pub mod facts;
 pub mod making;
 mod places;

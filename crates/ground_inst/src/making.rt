@@ -5,7 +5,8 @@ ghost use Rattle.std.specs.Prelude.{◌≡◌, ◌+◌, ◌<◌, ◌^◌, ◌++�
 ghost use Rattle.fol_forms.specs.Counts.{count_of};
 ghost use Rattle.fol_forms.specs.Forms.{form_of};
 ghost use Rattle.decision_laws.specs.Clauses.{equality_clauses, whole_clauses};
-ghost use Rattle.decision_laws.specs.Laws.{IsSentence, HasNetwork, AreTied, HasModel, atoms as atoms_of, clauses as clauses_wanted};
+ghost use Rattle.csdn_core.specs.Satisfied.{HasNetwork};
+ghost use Rattle.decision_laws.specs.Laws.{IsSentence, AreTied, HasModel, atoms as atoms_of, clauses as clauses_wanted};
 ghost use Rattle.decision_laws.specs.Weights.{weight as weight_of};
 ghost use Rattle.ground_inst.specs.Copies.{copies_over};
 ghost use Rattle.ground_inst.specs.Facts.{AreFactsOf, num_of, vocabulary_of};
@@ -23,6 +24,9 @@ use clause_log::Clauses;
 use csdn_core::program::{Parts, Program};
 use csdn_core::syntax::Formula;
 use std::alloc::{AllocError, Global};
+
+#[cfg(test)]
+mod tests;
 
 /// The clauses of a sentence of the program: those of its copies, and those of equality. `AllocError` also where they have 2^62
 /// atoms or more. Literals and ends are kept flat, in room that is taken once.

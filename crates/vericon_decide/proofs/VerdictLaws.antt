@@ -5,7 +5,8 @@ use Rattle.csdn_core.specs.declared.syntax.Formula.{Formula}
 use Rattle.clause_log.specs.Literals.{ClauseList}
 use Rattle.clause_log.specs.Refutations.{Step}
 use Rattle.clause_search.specs.Outcomes.{IsRefutationOf}
-use Rattle.decision_laws.specs.Laws.{IsSentence, HasNetwork, AreTied}
+use Rattle.csdn_core.specs.Satisfied.{HasNetwork}
+use Rattle.decision_laws.specs.Laws.{IsSentence, AreTied}
 use Rattle.decision_laws.proofs.Bridge.{refuted_networks}
 use Rattle.decision_laws.proofs.Upward.{law_up}
 use Rattle.csdn_conditions.specs.declared.sentence.Condition.{Condition}

@@ -4,7 +4,8 @@ use Rattle.csdn_core.specs.declared.program.Parts.{Parts}
 use Rattle.csdn_core.specs.declared.syntax.Formula.{Formula}
 use Rattle.clause_search.specs.Outcomes.{IsRefutationOf}
 use Rattle.decision_laws.specs.Copies.{Fact}
-use Rattle.decision_laws.specs.Laws.{IsJudgement, AreTied, HasNetwork}
+use Rattle.csdn_core.specs.Satisfied.{HasNetwork}
+use Rattle.decision_laws.specs.Laws.{IsJudgement, AreTied}
 use Rattle.csdn_conditions.specs.declared.class.Class.TheVariants.{Inside, Nodes as NodesClass, Outside as OutsideClass, Instances as InstancesClass}
 use Rattle.csdn_conditions.specs.declared.sentence.Condition.{Condition}
 use Rattle.csdn_conditions.specs.Classes.{IsClass}

@@ -1,4 +1,4 @@
-use Rattle.std.proofs.Common.{◌≡◌, ap, ◌∙◌}
+use Rattle.std.proofs.Common.{ap, ◌∙◌}
 use Rattle.fol_forms.specs.Forms.{form_of}
 use Rattle.ground_inst.proofs.WholeClauses.{atoms_are, rows_are, rows_pass}
 use Rattle.ground_inst.proofs.making.clauses_of.Goals as goal

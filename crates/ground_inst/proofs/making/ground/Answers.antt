@@ -1,6 +1,7 @@
 use Rattle.std.proofs.Common.{◌≡◌, ◌∙◌, ◌↔◌, sym, ap, subst}
 use Rattle.csdn_core.specs.Members.{IsIn}
-use Rattle.decision_laws.specs.Laws.{HasModel, HasNetwork, clauses, name}
+use Rattle.csdn_core.specs.Satisfied.{HasNetwork}
+use Rattle.decision_laws.specs.Laws.{HasModel, clauses, name}
 use Rattle.decision_laws.proofs.Bridge.{clauses_tied, models_networks}
 use Rattle.ground_inst.proofs.making.ground.Goals as goal
 

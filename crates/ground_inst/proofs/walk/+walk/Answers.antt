@@ -1,8 +1,9 @@
-use Rattle.std.proofs.Common.{◌≡◌, ◌++◌, [], ◌∷◌, ap, sym, subst, refl, not, arith, ◌∙◌}
+use Rattle.std.proofs.Common.{◌≡◌, ◌++◌, [], ◌∷◌, ap, sym, refl, not, arith, ◌∙◌}
+use Rattle.std.proofs.lemmas.Result.{IfOk-weaker}
 use Rattle.fol_forms.specs.Forms.{And, normal_form}
-use Rattle.decision_laws.specs.Clauses.{yes, member_clause}
+use Rattle.decision_laws.specs.Clauses.{member_clause}
 use Rattle.ground_inst.specs.Walk.{scope, state_of, ways_of}
-use Rattle.ground_inst.proofs.Steps.{told, leaf_added, both_from, either_from, exists_added, row_begun, row_more, row_from, if_ok}
+use Rattle.ground_inst.proofs.Steps.{told, leaf_added, both_from, either_from, exists_added, row_begun, row_more, row_from}
 use Rattle.ground_inst.proofs.walk.+walk.Goals as goal
 
 pub walk-returns-in-Atom : goal.walk-returns-in-Atom
@@ -57,5 +58,5 @@ walk_either-returns t c =
 
 pub walk_free-returns : goal.walk_free-returns
 walk_free-returns t c =
-    if_ok c.walk_at.result _ _ c.walk_at.ensures (λ l h. exists_added (ways_of c.args.names.now) (normal_form c.args.sign c.args.formula.now) c.args.var c.args.sort c.of-place.result (state_of c.args.work.now)
-    (state_of (record { env = c.args.work.now.env; base = c.in_ok-work.field-0; next = c.args.work.now.next; rows = c.args.work.now.rows })) (state_of c.walk_at.new.work) l c.of-place.ensures refl c.in_ok-work.ensures refl refl h)
+    IfOk-weaker c.walk_at.result _ _ (λ l h. exists_added (ways_of c.args.names.now) (normal_form c.args.sign c.args.formula.now) c.args.var c.args.sort c.of-place.result (state_of c.args.work.now)
+    (state_of (record { env = c.args.work.now.env; base = c.in_ok-work.field-0; next = c.args.work.now.next; rows = c.args.work.now.rows })) (state_of c.walk_at.new.work) l c.of-place.ensures refl c.in_ok-work.ensures refl refl h) c.walk_at.ensures

@@ -1,4 +1,4 @@
-use Rattle.std.proofs.Common.{◌≡◌, ◌++◌, [], ◌∷◌, ap, ◌∙◌, sym, subst, length}
+use Rattle.std.proofs.Common.{◌++◌, [], ◌∷◌, ap, ◌∙◌, sym, subst, length}
 use Rattle.clause_log.specs.Rows.{IsSplit}
 use Rattle.clause_log.proofs.Flat.{pushed, pushed_split, on_ok, either_way}
 use Rattle.ground_inst.proofs.rows.Rows.push.Goals as goal
