@@ -8,6 +8,7 @@ use Rattle.std.proofs.lemmas.Map.Lookups.{exact_unsigned}
 use Rattle.csdn_core.specs.Members.{IsIn}
 use Rattle.csdn_core.proofs.Members.{contains_in, in_contains}
 use Rattle.csdn_core.specs.Network.{IsNetwork, Network, StaticRow, elements}
+use Rattle.csdn_core.specs.Satisfied.{IsTrueIn}
 use Rattle.csdn_core.specs.declared.program.Parts.{Parts}
 use Rattle.csdn_core.specs.declared.syntax.Formula.{Formula}
 use Rattle.csdn_core.specs.declared.terms.Sort.{Sort}
@@ -16,7 +17,7 @@ use Rattle.clause_log.specs.Literals.{IsModel, truths}
 use Rattle.fol_forms.specs.Constants.{counts}
 use Rattle.fol_forms.specs.Forms.{form_of}
 use Rattle.decision_laws.specs.Classes.{AreOfJudgement, ListTheSame, network_of, number, state_of}
-use Rattle.decision_laws.specs.Laws.{IsJudgement, IsSentence, IsTrueIn, clauses, judged, words}
+use Rattle.decision_laws.specs.Laws.{IsJudgement, IsSentence, clauses, judged, words}
 use Rattle.decision_laws.proofs.Bridge.{model_judged}
 use Rattle.decision_laws.proofs.Distinct.{member_at}
 use Rattle.decision_laws.proofs.Downward.{law_down}

@@ -5,8 +5,9 @@ use Rattle.csdn_core.specs.declared.event.Packet.TheVariants.{Nothing}
 use Rattle.csdn_core.specs.declared.program.Parts.{Parts}
 use Rattle.csdn_core.specs.declared.syntax.Formula.{Formula}
 use Rattle.csdn_core.specs.Network.{Network, IsNetwork}
+use Rattle.csdn_core.specs.Satisfied.{IsTrueIn}
 use Rattle.decision_laws.specs.Classes.{network_of, state_of}
-use Rattle.decision_laws.specs.Laws.{IsTrueIn, judged}
+use Rattle.decision_laws.specs.Laws.{judged}
 use Rattle.fol_forms.specs.Forms.{form_of}
 use Rattle.net_structs.specs.declared.case.Case.{Case}
 use Rattle.net_structs.specs.declared.row.Row.{Row}
