@@ -34,6 +34,14 @@ impl Valuation {
         Valuation { trues }
     }
 
+    /// The true atoms, rising; one may stand there more than once.
+    pub fn true_atoms(&self) -> &[u64]
+        ensures atoms { result.now ≡ self.now }
+        ensures rising { IsNonDecreasing result.now }
+    {
+        &self.trues
+    }
+
     /// The truth value of the atom.
     pub fn value(&self, atom: u64) -> bool
         ensures { result ≡ truths self.now atom }

@@ -3,7 +3,7 @@ use Rattle.std.specs.Prelude.{◌≡◌, List, refl}
 use Rattle.csdn_core.specs.declared.terms.Pred.{Pred}
 use Rattle.csdn_core.specs.declared.terms.Term.{Term}
 use Rattle.csdn_core.specs.declared.syntax.Formula.TheVariants as f
-use Rattle.net_structs.specs.Depth.{depth}
+use Rattle.csdn_core.specs.Depth.{depth}
 
 pub depth-True : depth f.True ≡ 0
 unfolding depth

@@ -1,8 +1,8 @@
 //! How many variables a formula binds at once.
-#![tactic(auto, using(net_structs::specs::Depth::depth_steps, crate::specs::Leaves::leaf_depths))]
+#![tactic(auto, using(csdn_core::proofs::DepthSteps::depth_steps, crate::specs::Leaves::leaf_depths))]
 
 ghost use Rattle.std.specs.Prelude.{◌≡◌, ◌≤◌, true};
-ghost use Rattle.net_structs.specs.Depth.{depth};
+ghost use Rattle.csdn_core.specs.Depth.{depth};
 
 use csdn_core::syntax::Formula;
 

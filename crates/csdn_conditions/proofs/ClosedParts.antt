@@ -1,7 +1,6 @@
 -- The hypotheses of conditions are sentences.
 use Rattle.std.proofs.Common.{◌≡◌, ◌∙◌, sym, ap, subst, refl, ℕ, suc, ◌+◌, ◌<◌, ◌==◌, Bool, true, false, List, [], ◌∷◌, ◌++◌, map, filter, Some, All, Contains, if◌then◌else◌, eqb-true, arith}
 use Rattle.std.specs.Prelude.{slice_get, option_map}
-use Rattle.std.specs.List.{flat_map}
 use Rattle.std.proofs.lemmas.List.Elements.{All-tail, All-contains}
 use Rattle.std.proofs.lemmas.Bool.{ne_eqb}
 use Rattle.general_facts.proofs.Numbers.{self_equal}
@@ -9,7 +8,7 @@ use Rattle.std.proofs.lemmas.Option.{same_Some}
 use Rattle.csdn_core.specs.declared.terms.Sort.{Sort}
 use Rattle.csdn_core.specs.declared.terms.Term.{Term}
 use Rattle.csdn_core.specs.declared.terms.Pred.{Pred}
-use Rattle.csdn_core.specs.declared.terms.Pred.TheVariants.{Stored, Ft, Sent, RcvThis}
+use Rattle.csdn_core.specs.declared.terms.Pred.TheVariants.{Stored, Ft, Sent}
 use Rattle.csdn_core.specs.declared.terms.Place.{Place}
 use Rattle.csdn_core.specs.declared.terms.Place.TheVariants.{Topology, Safety, Trans}
 use Rattle.csdn_core.specs.declared.program.Parts.{Parts}
@@ -19,21 +18,20 @@ use Rattle.csdn_core.specs.declared.program.StartRow.{StartRow}
 use Rattle.csdn_core.specs.declared.syntax.Formula.{Formula}
 use Rattle.csdn_core.specs.declared.syntax.Formula.TheVariants.{Atom}
 use Rattle.csdn_core.specs.Tree.{equivalence}
-use Rattle.csdn_core.specs.Sorted.{IsSorted, IsAllowed, HaveSorts, bound_in, flow_sorts, sorts_of}
-use Rattle.csdn_core.specs.WellSorted.{IsStartRow, IsWellSorted, invariant_bound_in, handler_bound_in, signature}
+use Rattle.csdn_core.specs.Sorted.{IsAllowed, flow_sorts, sorts_of}
+use Rattle.csdn_core.specs.WellSorted.{IsSorted, IsStartRow, IsWellSorted, signature}
 use Rattle.fol_forms.specs.Closed.{closed}
 use Rattle.fol_forms.specs.Replace.{same}
 use Rattle.csdn_wp.proofs.Sorted.{IsSortedIn-same}
+use Rattle.csdn_wp.proofs.Sorting.{Extends-none, HaveSortsIn-more, IsSortedIn-more}
+use Rattle.csdn_wp.proofs.Scopes.{names_no_packet}
 use Rattle.csdn_conditions.specs.declared.lists.Join.{Join}
 use Rattle.csdn_conditions.specs.declared.lists.Join.TheVariants.{And, Or}
 use Rattle.csdn_conditions.specs.Lists.{joined}
 use Rattle.csdn_conditions.specs.Conditions.{formulas}
 use Rattle.csdn_conditions.specs.Start.{binds_from, terms_of, rows_among, is_one_of, holds_rows, stored_at, stored_from, start}
 use Rattle.csdn_conditions.specs.Closed.{IsClosed}
-use Rattle.csdn_core.proofs.Members.{distinct_left, distinct_right, distinct_pairs}
 use Rattle.csdn_core.specs.SortedIn.{Scope, no_scope, with_sort, Relations, any_relation, no_rcv_this, HaveSortsIn, IsSortedIn}
-use Rattle.csdn_core.specs.Members.{AreDistinct}
-use Rattle.csdn_core.proofs.Scopes.{AreInScope-none, AreNew-none, all_in_scope, sorted_in}
 
 module _ (P : Parts) (R : Relations) where
   abbrev pub AreSortedIn : Scope → List Formula → Type 0
@@ -54,49 +52,23 @@ module _ (P : Parts) (R : Relations) where
 
   -- invariants
 
-  pub invariants_sorted : (place : Place) → ((r : Pred) → IsAllowed (signature P) place r → R r) → (vs : List Invariant) → AreDistinct (flat_map invariant_bound_in vs)
-      → All (λ v. IsSorted (signature P) place [] v.formula) vs → AreSortedIn no_scope (formulas vs)
-  invariants_sorted place names [] distinct all = tt
-  invariants_sorted place names (v ∷ vs) distinct all =
-      let Q : Invariant → Type 0 = λ z. IsSorted (signature P) place [] z.formula in (
-        sorted_in (signature P) place R names v.formula [] no_scope (AreInScope-none no_scope) (AreNew-none (bound_in v.formula) (distinct_left (bound_in v.formula) (flat_map invariant_bound_in vs) distinct))
-            (All-contains Q (v ∷ vs) v all (0, omega arith, refl)),
-        invariants_sorted place names vs (distinct_right (bound_in v.formula) (flat_map invariant_bound_in vs) distinct) (All-tail Q v vs all),
+  pub invariants_sorted : (place : Place) → ((r : Pred) → IsAllowed (signature P) place r → R r) → (vs : List Invariant) → All (λ v. IsSorted (signature P) place v.formula) vs → AreSortedIn no_scope (formulas vs)
+  invariants_sorted place names [] all = tt
+  invariants_sorted place names (v ∷ vs) all =
+      let Q : Invariant → Type 0 = λ z. IsSorted (signature P) place z.formula in (
+        IsSortedIn-more (signature P) (IsAllowed (signature P) place) R names no_scope no_scope (λ w s is. is) v.formula (All-contains Q (v ∷ vs) v all (0, omega arith, refl)).sorts,
+        invariants_sorted place names vs (All-tail Q v vs all),
       )
 
 module _ (P : Parts) (sorted : IsWellSorted P) where
-  all_distinct : AreDistinct (flat_map invariant_bound_in P.topology ++ (flat_map invariant_bound_in P.safety ++ (flat_map invariant_bound_in P.trans ++ flat_map handler_bound_in P.handlers)))
-  all_distinct = distinct_pairs _ sorted.apart
-
-  pub distinct_topology : AreDistinct (flat_map invariant_bound_in P.topology)
-  distinct_topology = distinct_left _ _ all_distinct
-
-  distinct_safety : AreDistinct (flat_map invariant_bound_in P.safety)
-  distinct_safety = distinct_left _ _ (distinct_right (flat_map invariant_bound_in P.topology) _ all_distinct)
-
-  distinct_trans : AreDistinct (flat_map invariant_bound_in P.trans)
-  distinct_trans = distinct_left _ _ (distinct_right (flat_map invariant_bound_in P.safety) _ (distinct_right (flat_map invariant_bound_in P.topology) _ all_distinct))
-
-  topology_names : (r : Pred) → IsAllowed (signature P) Topology r → no_rcv_this r
-  topology_names (Stored r) allowed = refl
-  topology_names Ft allowed = absurd allowed
-  topology_names Sent allowed = absurd allowed
-  topology_names RcvThis allowed = absurd allowed
-
-  safety_names : (r : Pred) → IsAllowed (signature P) Safety r → no_rcv_this r
-  safety_names (Stored r) allowed = refl
-  safety_names Ft allowed = refl
-  safety_names Sent allowed = refl
-  safety_names RcvThis allowed = absurd allowed
-
   pub topology_sorted : AreSortedIn P no_rcv_this no_scope (formulas P.topology)
-  topology_sorted = invariants_sorted P no_rcv_this Topology topology_names P.topology distinct_topology sorted.topology
+  topology_sorted = invariants_sorted P no_rcv_this Topology (names_no_packet (signature P) Topology (λ is. cc)) P.topology sorted.topology
 
   pub safety_sorted : AreSortedIn P no_rcv_this no_scope (formulas P.safety)
-  safety_sorted = invariants_sorted P no_rcv_this Safety safety_names P.safety distinct_safety sorted.safety
+  safety_sorted = invariants_sorted P no_rcv_this Safety (names_no_packet (signature P) Safety (λ is. cc)) P.safety sorted.safety
 
   pub trans_sorted : AreSortedIn P any_relation no_scope (formulas P.trans)
-  trans_sorted = invariants_sorted P any_relation Trans (λ r allowed. tt) P.trans distinct_trans sorted.trans
+  trans_sorted = invariants_sorted P any_relation Trans (λ r allowed. tt) P.trans sorted.trans
 
 -- the start
 
@@ -126,14 +98,14 @@ module _ (P : Parts) where
 
   -- the terms are one of these rows
   module _ (Γ : Scope) (ss : List Sort) (xs : List Term) (have : HaveSortsIn (signature P) Γ ss xs) where
-    rows_sorted : (rows : List StartRow) (test : StartRow → Bool) → ((row : StartRow) → Contains rows row → test row ≡ true → HaveSorts (signature P) [] ss row.terms)
+    rows_sorted : (rows : List StartRow) (test : StartRow → Bool) → ((row : StartRow) → Contains rows row → test row ≡ true → HaveSortsIn (signature P) no_scope ss row.terms)
         → AreSortedIn P no_rcv_this Γ (map (same xs) (map (λ row. row.terms) (filter test rows)))
     rows_sorted [] test each = tt
     rows_sorted (row ∷ rows) test each = by_test (test row) (each row (0, omega arith, refl)) (rows_sorted rows test (λ other there. each other (suc there.0, omega (arith, there.1), there.2)))
       where
-        by_test : (b : Bool) → (b ≡ true → HaveSorts (signature P) [] ss row.terms) → AreSortedIn P no_rcv_this Γ (map (same xs) (map (λ z. z.terms) (filter test rows)))
+        by_test : (b : Bool) → (b ≡ true → HaveSortsIn (signature P) no_scope ss row.terms) → AreSortedIn P no_rcv_this Γ (map (same xs) (map (λ z. z.terms) (filter test rows)))
             → AreSortedIn P no_rcv_this Γ (map (same xs) (map (λ z. z.terms) (if b then row ∷ filter test rows else filter test rows)))
-        by_test true own rest = (IsSortedIn-same (signature P) no_rcv_this Γ ss xs row.terms have (all_in_scope (signature P) [] Γ (AreInScope-none Γ) ss row.terms (own refl)), rest)
+        by_test true own rest = (IsSortedIn-same (signature P) no_rcv_this Γ ss xs row.terms have (HaveSortsIn-more (signature P) no_scope Γ (Extends-none Γ) ss row.terms (own refl)), rest)
         by_test false own rest = rest
 
   holds_sorted : (r : Pred) (ss : List Sort) (rows : List StartRow) → no_rcv_this r → sorts_of (signature P) r ≡ Some ss
@@ -157,7 +129,7 @@ module _ (P : Parts) where
         let is_row : IsStartRow P row = All-contains (IsStartRow P) P.start row sorted.start listed in
         let number : row.rel.0 ≡ k = eqb-true row.rel.0 k own in
         let its : is_row.relation ≡ relation = same_Some is_row.relation relation (sym is_row.declared ∙ ap (slice_get P.relations) number ∙ declared) in
-        subst (λ (z : Relation). HaveSorts (signature P) [] z.sorts row.terms) its is_row.terms))
+        subst (λ (z : Relation). HaveSortsIn (signature P) no_scope z.sorts row.terms) its is_row.terms))
 
     none_sorted : (Γ : Scope) (xs : List Term) (rows : List StartRow) → AreSortedIn P no_rcv_this Γ (map (same xs) (map (λ row. row.terms) (filter (λ row. false) rows)))
     none_sorted Γ xs [] = tt

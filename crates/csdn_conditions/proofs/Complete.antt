@@ -31,7 +31,7 @@ use Rattle.csdn_conditions.specs.Conditions.{formulas, formula_at, after_event, 
 use Rattle.csdn_conditions.specs.Closed.{IsClosed}
 use Rattle.csdn_conditions.specs.Initial.{is_of_states, IsInitial}
 use Rattle.csdn_conditions.specs.Valid.{IsValid}
-use Rattle.csdn_conditions.proofs.ClosedParts.{AreSortedIn, invariants_sorted, distinct_topology}
+use Rattle.csdn_conditions.proofs.ClosedParts.{AreSortedIn, invariants_sorted}
 use Rattle.csdn_conditions.proofs.ClosedConditions.{any_event, events_closed, safety_closed, trans_any, kind_of_member}
 use Rattle.csdn_conditions.proofs.KindLaws.{IsOneOf, some_where, init_at, init_within, step_at, step_within, trans_at, trans_within}
 use Rattle.csdn_core.proofs.Agreement.{structure_of, elements_there, truth_sees}
@@ -121,7 +121,7 @@ module _ (P : Parts) (well : IsWellSorted P) (N : Network) (network : IsNetwork 
 
   pub topology_holds : (x : State) → Sat x (topology P) → AllTrue P N empty_state Nothing P.topology
   topology_holds x h =
-      each P.topology (invariants_sorted P (IsStatic P) Topology (static_names P) P.topology (distinct_topology P well) well.topology)
+      each P.topology (invariants_sorted P (IsStatic P) Topology (static_names P) P.topology well.topology)
       (sym (truth-all (structure P N x Nothing) no_values (formulas P.topology)) ∙ h)
     where
       each : (vs : List Invariant) → AreSortedIn P (IsStatic P) no_scope (formulas vs) → list_all (T x) (formulas vs) ≡ true → AllTrue P N empty_state Nothing vs

@@ -18,7 +18,8 @@ use Rattle.csdn_conditions.specs.declared.kinds.CondKind.TheVariants.{Network as
 use Rattle.csdn_conditions.specs.declared.sentence.Condition.{Condition}
 use Rattle.csdn_conditions.specs.Closed.{IsClosed}
 use Rattle.csdn_conditions.specs.Conditions.{after_events, condition, sentence}
-use Rattle.csdn_conditions.specs.Valid.{IsValid, IsMadeTrue, HasCase}
+use Rattle.csdn_core.specs.Satisfied.{HasNetwork}
+use Rattle.csdn_conditions.specs.Valid.{IsValid, HasCase}
 use Rattle.csdn_conditions.proofs.Cases.{case_closed, case_network, case_sentence, case_valid}
 use Rattle.csdn_conditions.proofs.Inductive.{runs_break, runs_end}
 
@@ -56,7 +57,7 @@ a_case = (N, empty_state, N_is, refl, refl)
 not_valid : IsValid bare asks → ⊥
 not_valid valid = (case_valid bare asks).0 valid a_case
 
-sentence_true : IsMadeTrue bare (sentence asks)
+sentence_true : HasNetwork bare (sentence asks)
 sentence_true = (case_sentence bare asks).0 a_case
 
 sentence_closed : IsClosed bare (sentence asks)

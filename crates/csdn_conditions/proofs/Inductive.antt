@@ -38,7 +38,7 @@ use Rattle.csdn_conditions.specs.Kinds.{events_where, events, kinds}
 use Rattle.csdn_conditions.specs.Conditions.{formulas, formula_at, after_event, after_any, after_events, all_after, topology, safe_for, condition, conditions}
 use Rattle.csdn_conditions.specs.Closed.{IsClosed}
 use Rattle.csdn_conditions.specs.Valid.{IsValid}
-use Rattle.csdn_conditions.proofs.ClosedParts.{AreSortedIn, invariants_sorted, distinct_topology, safety_sorted}
+use Rattle.csdn_conditions.proofs.ClosedParts.{AreSortedIn, invariants_sorted, safety_sorted}
 use Rattle.csdn_conditions.proofs.ClosedConditions.{any_event, events_closed, safety_closed, trans_any}
 use Rattle.csdn_conditions.proofs.KindLaws.{IsOneOf, some_where, init_there, step_there, trans_there}
 use Rattle.csdn_conditions.proofs.StartTruth.{truth-all, start_true}
@@ -197,7 +197,7 @@ module _ (P : Parts) (well : IsWellSorted P) (N : Network) (network : IsNetwork 
   pub topology_true : AllTrue P N empty_state Nothing P.topology → (x : State) → Sat x (topology P)
   topology_true all x =
       truth-all (structure P N x Nothing) no_values (formulas P.topology)
-      ∙ each P.topology (invariants_sorted P (IsStatic P) Topology (static_names P) P.topology (distinct_topology P well) well.topology) all
+      ∙ each P.topology (invariants_sorted P (IsStatic P) Topology (static_names P) P.topology well.topology) all
     where
       each : (vs : List Invariant) → AreSortedIn P (IsStatic P) no_scope (formulas vs) → AllTrue P N empty_state Nothing vs → list_all (λ p. truth (structure P N x Nothing) p no_values) (formulas vs) ≡ true
       each [] sorted all = refl

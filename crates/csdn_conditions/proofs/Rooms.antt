@@ -58,9 +58,6 @@ module _ (f : ℕ → List Formula) where
       let fewer : n - k ≡ n + 1 - (k + 1) = omega arith in
       ap (λ m. flat_map f (range_with_len k m)) many ∙ ap (λ m. f k ++ flat_map f (range_with_len (k + 1) m)) fewer
 
-  pub from-end : (k n : ℕ) → n < k → from k n ≡ []
-  from-end k n past = let none : n + 1 - k ≡ 0 = omega (arith, past) in ap (λ m. flat_map f (range_with_len k m)) none
-
   pub nodes-next : (k n : ℕ) → k ≤ n → nodes_of_all (from k n) ≡ nodes_of_all (f k) + nodes_of_all (from (k + 1) n)
   nodes-next k n within = ap nodes_of_all (from-next k n within) ∙ sum_by-append (λ p. nodes p + 1) (f k) (from (k + 1) n)
 

@@ -7,7 +7,7 @@ use Rattle.std.proofs.lemmas.Bool.{and_from, and_parts, ne_eqb, not-true, not_fr
 use Rattle.std.proofs.Math.Bool.{and-true, or-false}
 use Rattle.general_facts.proofs.Numbers.{self_equal}
 use Rattle.general_facts.proofs.Lists.{list_any-map}
-use Rattle.std.proofs.lemmas.Option.{same_Some}
+use Rattle.std.proofs.lemmas.Option.{none-some, same_Some}
 use Rattle.std.proofs.lemmas.List.Folds.{list_all-append}
 use Rattle.fol_forms.proofs.NormalTruth.{same_truth-is}
 use Rattle.csdn_core.proofs.Same.{same_cells-turned}
@@ -28,7 +28,9 @@ use Rattle.csdn_core.specs.Tree.{equivalence}
 use Rattle.csdn_core.specs.Truth.{Structure, Assignment, with_var, truth, value, values, same_truth}
 use Rattle.csdn_core.specs.Network.{Network, State, elements, structure, same_cells, is_fixed, is_fixed_in, HaveElements}
 use Rattle.csdn_core.specs.Run.{empty_state, no_values, initial}
-use Rattle.csdn_core.specs.Sorted.{HasSort, HaveSorts, flow_sorts, sorts_of}
+use Rattle.csdn_core.specs.Sorted.{flow_sorts, sorts_of}
+use Rattle.csdn_core.specs.SortedIn.{no_scope, HasSortIn, HaveSortsIn}
+use Rattle.csdn_wp.proofs.Sorting.{HaveSortsIn-length}
 use Rattle.csdn_core.specs.WellSorted.{signature, IsStartRow, IsWellSorted}
 use Rattle.fol_forms.specs.Closed.{GivesBinds, IsTrueForAll}
 use Rattle.fol_forms.specs.Replace.{same}
@@ -111,27 +113,19 @@ module _ (N : Network) (M : Structure) (its : (s : Sort) → M.elements s ≡ el
 
 -- the equations of a tuple with a row
 
--- as many terms as sorts
-row-length : (P : Parts) (ss : List Sort) (ts : List Term) → HaveSorts (signature P) [] ss ts → length ts ≡ length ss
-unfolding HaveSorts
-row-length P [] [] sorted = refl
-row-length P [] (t ∷ ts) sorted = absurd sorted
-row-length P (s ∷ ss) [] sorted = absurd sorted
-row-length P (s ∷ ss) (t ∷ ts) sorted = ap suc (row-length P ss ts sorted.1)
-
 length-terms : (k : ℕ) (ss : List Sort) → length (terms_of (binds_from k ss)) ≡ length ss
 length-terms k [] = refl
 length-terms k (s ∷ ss) = ap suc (length-terms (k + 1) ss)
 
 -- a row of constants and numerals has the same values in all states and under all assignments
 module _ (P : Parts) (N : Network) (x : State) (packet : Packet) (e : Assignment) where
-  value-fixed : (s : Sort) (t : Term) → HasSort (signature P) [] s t → value (structure P N x packet) e t ≡ value (structure P N empty_state Nothing) no_values t
-  value-fixed s (Var v) (k, within, is) = absurd (omega arith)
+  value-fixed : (s : Sort) (t : Term) → HasSortIn (signature P) no_scope s t → value (structure P N x packet) e t ≡ value (structure P N empty_state Nothing) no_values t
+  value-fixed s (Var v) is = absurd (none-some s is)
   value-fixed s (Const k) sorted = refl
   value-fixed s (Port k) sorted = refl
 
-  values-fixed : (ss : List Sort) (ts : List Term) → HaveSorts (signature P) [] ss ts → values (structure P N x packet) e ts ≡ values (structure P N empty_state Nothing) no_values ts
-  unfolding HaveSorts
+  values-fixed : (ss : List Sort) (ts : List Term) → HaveSortsIn (signature P) no_scope ss ts → values (structure P N x packet) e ts ≡ values (structure P N empty_state Nothing) no_values ts
+  unfolding HaveSortsIn
   values-fixed [] [] sorted = refl
   values-fixed [] (t ∷ ts) sorted = absurd sorted
   values-fixed (s ∷ ss) [] sorted = absurd sorted
@@ -241,7 +235,7 @@ module _ (P : Parts) (N : Network) (x : State) (packet : Packet) where
         let its : is_row.relation ≡ relation = same_Some is_row.relation relation (sym is_row.declared ∙ ap (slice_get P.relations) number ∙ declared) in
         let d : Assignment = given 0 cells no_values in
         let xs : List Term = terms_of (binds_from 0 relation.sorts) in
-        let many : length row.terms ≡ length relation.sorts = row-length P is_row.relation.sorts row.terms is_row.terms ∙ ap (λ (z : Relation). length z.sorts) its in
+        let many : length row.terms ≡ length relation.sorts = HaveSortsIn-length (signature P) no_scope is_row.relation.sorts row.terms is_row.terms ∙ ap (λ (z : Relation). length z.sorts) its in
         let cells_are : values M d xs ≡ cells = values-given N M its_elements 0 relation.sorts cells no_values there in
         let xs_many : length xs ≡ length relation.sorts = length-terms 0 relation.sorts in
         truth-same M d xs row.terms (xs_many ∙ sym many)

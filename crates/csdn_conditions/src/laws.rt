@@ -15,7 +15,8 @@ ghost use Rattle.csdn_conditions.specs.declared.sentence.Condition.{Condition as
 ghost use Rattle.csdn_conditions.specs.Start.{start};
 ghost use Rattle.csdn_conditions.specs.Conditions.{condition, conditions, after_events, sentence};
 ghost use Rattle.csdn_conditions.specs.Closed.{IsClosed};
-ghost use Rattle.csdn_conditions.specs.Valid.{IsValid, IsMadeTrue, HasCase};
+ghost use Rattle.csdn_core.specs.Satisfied.{HasNetwork};
+ghost use Rattle.csdn_conditions.specs.Valid.{IsValid, HasCase};
 ghost use Rattle.csdn_conditions.specs.Initial.{IsInitial};
 
 /// `start` is true in a state exactly where the state is the initial one, as far as a network's elements go.
@@ -47,7 +48,7 @@ pub fn after_events_are_exact()
 /// The first condition of a level has one exactly where some network meets the topology invariants. The sentence is closed
 /// where the hypothesis and the goal are.
 pub fn cases_break_conditions()
-    ensures sentence { (P : AnyParts) (c : AnyCondition) → HasCase P c ↔ IsMadeTrue P (sentence c) }
+    ensures sentence { (P : AnyParts) (c : AnyCondition) → HasCase P c ↔ HasNetwork P (sentence c) }
     ensures closed { (P : AnyParts) (c : AnyCondition) → IsClosed P c.hypothesis → IsClosed P c.goal → IsClosed P (sentence c) }
     ensures valid { (P : AnyParts) (c : AnyCondition) → IsValid P c ↔ (HasCase P c → ⊥) }
     ensures network { (P : AnyParts) → IsWellSorted P → (n : ℕ) → HasCase P (condition P n NetworkKind) ↔ ((N : Network) × IsTopology P N) }

@@ -1,5 +1,5 @@
 //! Conjunctions and disjunctions of lists of formulas.
-#![tactic(auto, using(csdn_core::specs::Tree::shapes))]
+#![tactic(auto, using(csdn_core::proofs::Shapes::shapes))]
 
 ghost use Rattle.std.specs.Prelude.{◌≡◌, IfOk};
 ghost use Rattle.csdn_conditions.specs.Lists.{none_joined, two_joined, joined as joined_of};

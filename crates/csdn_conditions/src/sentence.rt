@@ -17,7 +17,7 @@ pub struct Condition {
 
 impl Condition {
     /// `hypothesis and not goal`, which is true exactly where the condition is broken.
-    #[tactic(auto, using(csdn_core::specs::Tree::shapes))]
+    #[tactic(auto, using(csdn_core::proofs::Shapes::shapes))]
     pub fn into_sentence(self, alloc: Global) -> Result<Formula, AllocError>
         ensures { IfOk result (λ p. p ≡ sentence_of self) }
     {

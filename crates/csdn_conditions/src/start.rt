@@ -89,7 +89,7 @@ fn holds_rows(
     holds_rows_under(alloc, rows, pred, binds.as_slice())
 }
 
-#[tactic(auto, using(csdn_core::specs::Tree::shapes))]
+#[tactic(auto, using(csdn_core::proofs::Shapes::shapes))]
 fn holds_rows_under(
     alloc: Global,
     rows: &[StartRow],

@@ -1,5 +1,5 @@
 -- Truth of a well-sorted formula looks at tuples of elements alone, and at the variables in scope.
-use Rattle.std.proofs.Common.{◌≡◌, ◌≢◌, ◌∙◌, sym, ap, ap₂, subst, refl, ℕ, ◌==◌, Bool, true, false, not, ◌&&◌, ◌||◌, cond, List, [], ◌∷◌, Option, Some, None, AllPairs, Contains, if◌then◌else◌}
+use Rattle.std.proofs.Common.{◌≡◌, ◌∙◌, sym, ap, ap₂, subst, refl, ℕ, ◌==◌, Bool, true, false, not, ◌&&◌, ◌||◌, cond, List, [], ◌∷◌, Option, Some, None, Contains, if◌then◌else◌}
 use Rattle.std.specs.Prelude.{option_map, slice_get, slice_index}
 use Rattle.std.specs.List.{list_all, list_any}
 use Rattle.std.proofs.lemmas.List.Elements.{All-contains}
@@ -11,7 +11,6 @@ use Rattle.csdn_core.specs.declared.terms.Term.TheVariants.{Var, Const, Port}
 use Rattle.csdn_core.specs.declared.terms.VarId.{VarId}
 use Rattle.csdn_core.specs.declared.terms.Pred.{Pred}
 use Rattle.csdn_core.specs.declared.terms.Pred.TheVariants.{Stored, Ft, Sent, RcvThis}
-use Rattle.csdn_core.specs.declared.terms.Place.{Place}
 use Rattle.csdn_core.specs.declared.event.Packet.{Packet}
 use Rattle.csdn_core.specs.declared.program.Constant.{Constant}
 use Rattle.csdn_core.specs.declared.program.Parts.{Parts}
@@ -21,12 +20,10 @@ use Rattle.csdn_core.specs.Tree.{negation, conjunction, disjunction, implication
 use Rattle.csdn_core.specs.Truth.{Structure, Assignment, with_var, truth, value, values, same_truth}
 use Rattle.csdn_core.specs.Network.{Network, State, elements, structure, holds_in, is_fixed, HaveElements, IsNetwork}
 use Rattle.csdn_core.specs.Run.{no_values}
-use Rattle.csdn_core.specs.Sorted.{Signature, IsSorted, sorts_of, bound_in}
-use Rattle.csdn_core.specs.SortedIn.{Scope, no_scope, with_sort, Relations, any_relation, HasSortIn, HaveSortsIn, IsSortedIn}
+use Rattle.csdn_core.specs.Sorted.{Signature, sorts_of}
+use Rattle.csdn_core.specs.SortedIn.{Scope, no_scope, with_sort, Relations, HasSortIn, HaveSortsIn, IsSortedIn}
 use Rattle.csdn_core.specs.WellSorted.{signature}
 use Rattle.csdn_core.specs.Agreement.{AreElements, IsStructureOf, AgreeOn, AgreeInScope, AgreeOnElements}
-use Rattle.csdn_core.proofs.Members.{distinct_pairs}
-use Rattle.csdn_core.proofs.Scopes.{AreInScope-none, AreNew-none, sorted_in}
 
 if_same : (b u x y : Bool) → x ≡ y → (if b then u else x) ≡ (if b then u else y)
 if_same true u x y same = refl
@@ -134,9 +131,7 @@ module _ (P : Parts) (N : Network) (network : IsNetwork P N) where
       tuples = λ r sorts cells named declared there. holds-same r sorts cells declared (elements_there x packet sorts cells there);
     }
 
-    pub sentence-same : (place : Place) (p : Formula) → IsSorted (signature P) place [] p → AllPairs (λ m n. m ≢ n) (bound_in p)
-        → truth (structure P N x packet) p no_values ≡ truth (structure P N y packet) p no_values
-    sentence-same place p sorted distinct =
-        truth_sees (signature P) any_relation (structure P N x packet) (structure P N y packet) (structure_of x packet) (structures_agree any_relation) no_scope p no_values no_values
-        (sorted_in (signature P) place any_relation (λ r allowed. tt) p [] no_scope (AreInScope-none no_scope) (AreNew-none (bound_in p) (distinct_pairs (bound_in p) distinct)) sorted)
+    pub sentence-same : (R : Relations) (p : Formula) → IsSortedIn (signature P) R no_scope p → truth (structure P N x packet) p no_values ≡ truth (structure P N y packet) p no_values
+    sentence-same R p sorted =
+        truth_sees (signature P) R (structure P N x packet) (structure P N y packet) (structure_of x packet) (structures_agree R) no_scope p no_values no_values sorted
         (record { there = λ v s is. absurd (none-some s is); same = λ v s is. absurd (none-some s is) })

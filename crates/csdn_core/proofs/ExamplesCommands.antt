@@ -3,7 +3,8 @@
 --   const h: HO;
 --   rel r(HO) = {(h)};
 --   rel up(PR) = {(prt(2))};
-use Rattle.std.proofs.Common.{◌≡◌, ℕ, ◌==◌, Bool, true, false, ◌&&◌, [], ◌∷◌, Some, None, Contains, inl, inr, refl, sym, ◌∙◌, ap, subst, arith, rules}
+use Rattle.std.proofs.Common.{◌≡◌, ℕ, ◌==◌, true, false, ◌&&◌, [], ◌∷◌, Some, None, Contains, inl, inr, refl, sym, ◌∙◌, ap, subst, arith, rules}
+use Rattle.std.proofs.Math.Bool.{and-true}
 use Rattle.csdn_core.specs.declared.terms.Sort.TheVariants.{Ho, Pr}
 use Rattle.csdn_core.specs.declared.terms.Term.TheVariants.{Const}
 use Rattle.csdn_core.specs.declared.terms.Pred.{Pred}
@@ -126,12 +127,8 @@ unfolding Executes truth
 takes_the_one = inl (2, search rules, refl, refl)
 
 fits_alone : (m : ℕ) → ((m == 2) && true) ≡ true → m ≡ 2
-fits_alone m is_true = equal m (sym (and_true (m == 2)) ∙ is_true)
+fits_alone m is_true = equal m (sym (and-true (m == 2)) ∙ is_true)
   where
-    and_true : (b : Bool) → (b && true) ≡ b
-    and_true true = refl
-    and_true false = refl
-
     equal : (m : ℕ) → (m == 2) ≡ true → m ≡ 2
     equal m h = grind arith
 

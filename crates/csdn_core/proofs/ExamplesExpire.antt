@@ -1,7 +1,8 @@
 -- The definitions at rules that end, over one switch 1, the hosts 1 and 2, and the ports 1 and 2.
 --
 --   timeout 30;
-use Rattle.std.proofs.Common.{◌≡◌, ℕ, Bool, true, false, ◌&&◌, [], ◌∷◌, Some, None, refl, sym, ◌∙◌, rules}
+use Rattle.std.proofs.Common.{◌≡◌, ℕ, true, false, [], ◌∷◌, Some, None, refl, sym, ◌∙◌, rules}
+use Rattle.std.proofs.Math.Bool.{and-false}
 use Rattle.csdn_core.specs.declared.terms.Pred.TheVariants.{Ft}
 use Rattle.csdn_core.specs.declared.event.Event.TheVariants.{Expire}
 use Rattle.csdn_core.specs.declared.event.Packet.TheVariants.{Nothing}
@@ -79,11 +80,7 @@ another_match_stays = refl
 
 -- No rule of the match is left, so it cannot expire again; and in a program without a timeout nothing expires.
 gone : (o : ℕ) → expired Ft (1 ∷ 1 ∷ 2 ∷ 1 ∷ o ∷ []) ≡ true → false ≡ true
-gone o is_there = sym (cut_off (three_rules Ft (1 ∷ 1 ∷ 2 ∷ 1 ∷ o ∷ []))) ∙ is_there
-  where
-    cut_off : (b : Bool) → (b && false) ≡ false
-    cut_off true = refl
-    cut_off false = refl
+gone o is_there = sym (and-false (three_rules Ft (1 ∷ 1 ∷ 2 ∷ 1 ∷ o ∷ []))) ∙ is_there
 
 not_again : (y : State) → Step P N expired (Expire 1 1 2 1) y → ⊥
 not_again y (s, a, b, i, ends, (o, port, is_there), is) = let h : false ≡ true = gone o is_there in cc

@@ -1,7 +1,7 @@
 -- Every state that a run reaches has finitely many tuples.
 use Rattle.std.proofs.Common.{◌≡◌, ◌∙◌, sym, subst, refl, ap₂, ℕ, ◌==◌, Bool, true, false, not, ◌&&◌, ◌||◌, List, [], ◌∷◌, inl, inr, if◌then◌else◌, Option, Some, None}
 use Rattle.std.specs.List.{list_any}
-use Rattle.std.proofs.Math.Bool.{or_comm, or_assoc}
+use Rattle.std.proofs.Math.Bool.{or_comm, or_assoc, and-false}
 use Rattle.std.proofs.lemmas.Bool.{and_parts}
 use Rattle.general_facts.proofs.Numbers.{eqb-turned}
 use Rattle.csdn_core.proofs.Same.{same_pred-is, same_cells-is, same_cells-turned}
@@ -101,11 +101,7 @@ spread false false rest left is c = is
 
 flood_tuples-among : (ports : List ℕ) (s a b i : ℕ) (q : Pred) (ds : List ℕ) → (same_pred q Sent && is_flood ports (s ∷ a ∷ b ∷ i ∷ []) ds) ≡ state_of_tuples (flood_tuples ports s a b i) q ds
 unfolding flood_tuples
-flood_tuples-among [] s a b i q ds = and_false (same_pred q Sent)
-  where
-    and_false : (a : Bool) → (a && false) ≡ false
-    and_false true = refl
-    and_false false = refl
+flood_tuples-among [] s a b i q ds = and-false (same_pred q Sent)
 flood_tuples-among (o ∷ ports) s a b i q ds =
     spread (same_pred q Sent) (o == i) (is_flood ports (s ∷ a ∷ b ∷ i ∷ []) ds) (state_of_tuples (flood_tuples ports s a b i) q ds) (flood_tuples-among ports s a b i q ds)
     (same_cells ds (s ∷ a ∷ b ∷ i ∷ o ∷ []))

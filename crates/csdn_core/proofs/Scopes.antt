@@ -6,15 +6,8 @@ use Rattle.std.proofs.lemmas.List.{append_assoc, append-nil}
 use Rattle.general_facts.proofs.Numbers.{self_equal}
 use Rattle.csdn_core.specs.declared.terms.VarId.{VarId}
 use Rattle.csdn_core.specs.declared.terms.Sort.{Sort}
-use Rattle.csdn_core.specs.declared.terms.Term.{Term}
-use Rattle.csdn_core.specs.declared.terms.Term.TheVariants.{Var, Const, Port}
-use Rattle.csdn_core.specs.declared.terms.Pred.{Pred}
-use Rattle.csdn_core.specs.declared.terms.Place.{Place}
-use Rattle.csdn_core.specs.declared.syntax.Formula.{Formula}
-use Rattle.csdn_core.specs.declared.syntax.Formula.TheVariants as f
-use Rattle.csdn_core.specs.Tree.{negation, conjunction, disjunction, implication, equivalence, universal, existential}
-use Rattle.csdn_core.specs.Sorted.{Signature, Bind, HasSort, HaveSorts, IsAllowed, IsSorted, bound_in}
-use Rattle.csdn_core.specs.SortedIn.{Scope, no_scope, with_sort, with_binds, Relations, HasSortIn, HaveSortsIn, IsSortedIn}
+use Rattle.csdn_core.specs.Sorted.{Bind}
+use Rattle.csdn_core.specs.SortedIn.{Scope, no_scope, with_sort, with_binds}
 use Rattle.csdn_core.specs.Members.{IsIn, AreDistinct}
 use Rattle.csdn_core.proofs.Members.{in_left, in_right, distinct_left, distinct_right, contains_in}
 
@@ -90,37 +83,3 @@ AreInScope-binds front [] Γ ns own all = subst (λ cs. AreInScope cs Γ) (sym (
 AreInScope-binds front (b ∷ bs) Γ ns own all =
     subst (λ cs. AreInScope cs (with_binds (with_sort Γ b.var b.sort) bs)) (append_assoc front (b ∷ []) bs)
     (AreInScope-binds (front ++ b ∷ []) bs (with_sort Γ b.var b.sort) ns (AreNew-under Γ b.var b.sort (numbers_of bs ++ ns) own) (AreInScope-more front Γ b.var b.sort (own.new b.var.0 (inl refl)) all))
-
--- well-sorted formulas
-
-module _ (S : Signature) where
-  in_scope : (bs : List Bind) (Γ : Scope) → AreInScope bs Γ → (s : Sort) (t : Term) → HasSort S bs s t → HasSortIn S Γ s t
-  in_scope bs Γ all s (Var v) has = all (bind v s) has
-  in_scope bs Γ all s (Const k) has = has
-  in_scope bs Γ all s (Port k) has = has
-
-  pub all_in_scope : (bs : List Bind) (Γ : Scope) → AreInScope bs Γ → (ss : List Sort) (ts : List Term) → HaveSorts S bs ss ts → HaveSortsIn S Γ ss ts
-  unfolding HaveSorts HaveSortsIn
-  all_in_scope bs Γ all [] [] have = tt
-  all_in_scope bs Γ all [] (t ∷ ts) have = have
-  all_in_scope bs Γ all (s ∷ ss) [] have = have
-  all_in_scope bs Γ all (s ∷ ss) (t ∷ ts) have = (in_scope bs Γ all s t have.0, all_in_scope bs Γ all ss ts have.1)
-
-  module _ (place : Place) (R : Relations) (names : (r : Pred) → IsAllowed S place r → R r) where
-    -- a well-sorted formula whose variables have numbers of their own is well-sorted in the scope
-    pub sorted_in : (p : Formula) (bs : List Bind) (Γ : Scope) → AreInScope bs Γ → AreNew Γ (bound_in p) → IsSorted S place bs p → IsSortedIn S R Γ p
-    unfolding IsSorted IsSortedIn bound_in
-    sorted_in f.True bs Γ all own sorted = tt
-    sorted_in f.False bs Γ all own sorted = tt
-    sorted_in (f.Atom r ts) bs Γ all own sorted =
-        (record { sorts = sorted.sorts; declared = sorted.declared; terms = all_in_scope bs Γ all sorted.sorts ts sorted.terms }, names r sorted.allowed)
-    sorted_in (f.Same t u) bs Γ all own sorted = (sorted.0, in_scope bs Γ all sorted.0 t sorted.1, in_scope bs Γ all sorted.0 u sorted.2)
-    sorted_in (negation p) bs Γ all own sorted = sorted_in p bs Γ all own sorted
-    sorted_in (conjunction p q) bs Γ all own sorted = (sorted_in p bs Γ all (AreNew-left Γ (bound_in p) (bound_in q) own) sorted.0, sorted_in q bs Γ all (AreNew-right Γ (bound_in p) (bound_in q) own) sorted.1)
-    sorted_in (disjunction p q) bs Γ all own sorted = (sorted_in p bs Γ all (AreNew-left Γ (bound_in p) (bound_in q) own) sorted.0, sorted_in q bs Γ all (AreNew-right Γ (bound_in p) (bound_in q) own) sorted.1)
-    sorted_in (implication p q) bs Γ all own sorted = (sorted_in p bs Γ all (AreNew-left Γ (bound_in p) (bound_in q) own) sorted.0, sorted_in q bs Γ all (AreNew-right Γ (bound_in p) (bound_in q) own) sorted.1)
-    sorted_in (equivalence p q) bs Γ all own sorted = (sorted_in p bs Γ all (AreNew-left Γ (bound_in p) (bound_in q) own) sorted.0, sorted_in q bs Γ all (AreNew-right Γ (bound_in p) (bound_in q) own) sorted.1)
-    sorted_in (universal v s p) bs Γ all own sorted =
-        sorted_in p (bs ++ bind v s ∷ []) (with_sort Γ v s) (AreInScope-more bs Γ v s (own.new v.0 (inl refl)) all) (AreNew-under Γ v s (bound_in p) own) sorted.1
-    sorted_in (existential v s p) bs Γ all own sorted =
-        sorted_in p (bs ++ bind v s ∷ []) (with_sort Γ v s) (AreInScope-more bs Γ v s (own.new v.0 (inl refl)) all) (AreNew-under Γ v s (bound_in p) own) sorted.1

@@ -1,6 +1,6 @@
 //! What holds of the runs of every program, each law as the contract of a function that does nothing: they say in other
 //! words what the definitions mean.
-ghost use Rattle.std.specs.Prelude.{◌≡◌, ◌≢◌, ℕ, ◌↔◌, List, [], AllPairs};
+ghost use Rattle.std.specs.Prelude.{◌≡◌, ◌↔◌, List};
 ghost use Rattle.csdn_core.specs.declared.event.Event.{Event as AnyEvent};
 ghost use Rattle.csdn_core.specs.declared.program.Parts.{Parts as AnyParts};
 ghost use Rattle.csdn_core.specs.declared.event.Packet.{Packet as AnyPacket};
@@ -9,8 +9,8 @@ ghost use Rattle.csdn_core.specs.declared.syntax.Formula.{Formula as AnyFormula}
 ghost use Rattle.csdn_core.specs.Truth.{Structure, Assignment, truth};
 ghost use Rattle.csdn_core.specs.Network.{Network, State, structure, IsNetwork};
 ghost use Rattle.csdn_core.specs.Run.{initial, no_values, Run};
-ghost use Rattle.csdn_core.specs.Sorted.{Signature, IsAllowed, IsSorted, bound_in};
-ghost use Rattle.csdn_core.specs.SortedIn.{Scope, IsSortedIn};
+ghost use Rattle.csdn_core.specs.Sorted.{Signature, IsAllowed};
+ghost use Rattle.csdn_core.specs.SortedIn.{Scope, any_relation, no_scope, IsSortedIn};
 ghost use Rattle.csdn_core.specs.WellSorted.{signature};
 ghost use Rattle.csdn_core.specs.Agreement.{IsStructureOf, AgreeOn, AgreeInScope, AgreeOnElements};
 ghost use Rattle.csdn_core.specs.Holds.{Holds};
@@ -36,8 +36,8 @@ pub fn truth_sees_what_is_named()
     ensures { (S : Signature) (place : AnyPlace) (M K : Structure) → IsStructureOf S M → AgreeOn S (IsAllowed S place) M K → (scope : Scope) (p : AnyFormula) (e d : Assignment) → IsSortedIn S (IsAllowed S place) scope p → AgreeInScope M scope e d → truth M p e ≡ truth K p d }
 {}
 
-/// Truth looks only at tuples of a network's elements: in two states that agree on them, a well-sorted sentence whose bound
-/// variables have numbers of their own has the same truth.
+/// Truth looks only at tuples of a network's elements: in two states that agree on them, a well-sorted sentence has the
+/// same truth.
 pub fn truth_looks_at_elements()
-    ensures { (P : AnyParts) (N : Network) → IsNetwork P N → (x y : State) → AgreeOnElements P N x y → (packet : AnyPacket) (place : AnyPlace) (p : AnyFormula) → IsSorted (signature P) place [] p → AllPairs (λ m n. m ≢ n) (bound_in p) → truth (structure P N x packet) p no_values ≡ truth (structure P N y packet) p no_values }
+    ensures { (P : AnyParts) (N : Network) → IsNetwork P N → (x y : State) → AgreeOnElements P N x y → (packet : AnyPacket) (p : AnyFormula) → IsSortedIn (signature P) any_relation no_scope p → truth (structure P N x packet) p no_values ≡ truth (structure P N y packet) p no_values }
 {}

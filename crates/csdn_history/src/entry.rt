@@ -18,4 +18,14 @@ pub enum Entry {
         b: u64,
         i: u64,
     },
+    /// A switch says that the flow rule of a match ended, with the cookie of the rule.
+    Expire {
+        seat: u32,
+        session: u32,
+        s: u64,
+        a: u64,
+        b: u64,
+        i: u64,
+        cookie: u64,
+    },
 }

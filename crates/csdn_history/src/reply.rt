@@ -6,11 +6,15 @@ pub type Elements = Items<u64>;
 
 pub type Rules = Items<Rule>;
 
-/// A flow rule: all output ports of a match, rising.
+/// A flow rule: all output ports of a match, rising; none where the match has no rule any more.
 #[derive(Drop)]
 pub struct Rule {
     pub key: Match,
     pub ports: Elements,
+    /// The number of the entry that gave the match its ports; 0 where rules don't end.
+    pub cookie: u64,
+    /// The seconds without packets after which the rule ends; 0 where rules don't end.
+    pub idle: u16,
 }
 
 /// What a controller answers to an entry.

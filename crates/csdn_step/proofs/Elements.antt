@@ -1,7 +1,6 @@
 -- A step keeps the state's tuples within the network's elements.
-use Rattle.std.proofs.Common.{◌≡◌, ◌∙◌, sym, ap, subst, refl, ℕ, ◌==◌, Bool, true, false, true≢false, not, ◌&&◌, ◌⊎◌, inl, inr, if◌then◌else◌, List, [], ◌∷◌, ◌++◌, Contains, Option, Some, None}
+use Rattle.std.proofs.Common.{◌≡◌, ◌∙◌, sym, ap, subst, refl, ℕ, ◌==◌, Bool, true, false, true≢false, not, ◌&&◌, ◌⊎◌, inl, inr, if◌then◌else◌, List, [], ◌∷◌, Contains, Option, Some, None}
 use Rattle.std.specs.Prelude.{option_map}
-use Rattle.std.specs.List.{flat_map}
 use Rattle.std.proofs.lemmas.Bool.{and_parts, or_cases, eqb-true}
 use Rattle.std.proofs.lemmas.Option.{none-some, same_Some}
 use Rattle.std.proofs.lemmas.List.Elements.{All-contains}
@@ -25,14 +24,11 @@ use Rattle.csdn_core.specs.Tree.{sequence, conditional, choice}
 use Rattle.csdn_core.specs.Truth.{Assignment, with_var}
 use Rattle.csdn_core.specs.Network.{Network, State, elements, structure, is_fixed_in, same_pred, same_cells, HaveElements, IsNetwork}
 use Rattle.csdn_core.specs.Execution.{put, take_out, take_out_match, flooded, is_flood, is_rule_of, tuple, Executes}
-use Rattle.csdn_core.specs.Run.{no_values, empty_state, initial, first_fit, fits, for_packet, Handles, Step}
-use Rattle.csdn_core.specs.Sorted.{Bind, HaveSorts, sorts_of, flow_sorts, packet_sorts, bound_in}
-use Rattle.csdn_core.specs.SortedIn.{Scope, no_scope, with_sort, scope_of}
-use Rattle.csdn_core.specs.WellSorted.{IsCommand, IsWellSorted, IsStartRow, IsWrite, OwnPacket, signature, own_packet, handler_binds, handler_bound_in, invariant_bound_in, command_bound_in, all_bound_in}
-use Rattle.csdn_core.specs.Members.{AreDistinct}
+use Rattle.csdn_core.specs.Run.{no_values, empty_state, initial, first_fit, for_packet, Handles, Step}
+use Rattle.csdn_core.specs.Sorted.{sorts_of, flow_sorts, packet_sorts}
+use Rattle.csdn_core.specs.SortedIn.{Scope, no_scope, with_sort, scope_of, HaveSortsIn}
+use Rattle.csdn_core.specs.WellSorted.{IsHandler, IsCommand, IsWellSorted, IsStartRow, IsWrite, OwnPacket, signature, own_packet, handler_binds}
 use Rattle.csdn_core.proofs.Same.{same_pred-is, same_cells-is}
-use Rattle.csdn_core.proofs.Members.{distinct_left, distinct_right, distinct_pairs}
-use Rattle.csdn_core.proofs.Scopes.{AreNew, AreNew-left, AreNew-right, AreNew-tail, AreNew-under, AreNew-none, AreNew-binds, AreInScope, AreInScope-none, AreInScope-more, AreInScope-binds, all_in_scope, bind}
 use Rattle.csdn_core.proofs.Agreement.{values_there, structure_of, elements_there}
 use Rattle.net_structs.specs.StateTuples.{IsKept, IsStateTuple, IsOfElements}
 use Rattle.csdn_step.proofs.Outputs.{found}
@@ -63,31 +59,8 @@ has_packet N h s a b i in_s in_a in_b in_i =
     (has_more N (with_sort no_scope h.s Sw) (with_var no_values h.s s) h.a Ho a in_a
     (has_more N no_scope no_values h.s Sw s in_s (has_none N))))
 
-distinct_by : (g h : Handler) (hs : List Handler) (rest : Option Handler) (b : Bool) → AreDistinct (flat_map handler_bound_in (g ∷ hs)) → (rest ≡ Some h → AreDistinct (handler_bound_in h)) → (if b then Some g else rest) ≡ Some h → AreDistinct (handler_bound_in h)
-distinct_by g h hs rest true distinct later is = subst (λ (k : Handler). AreDistinct (handler_bound_in k)) (same_Some g h is) (distinct_left (handler_bound_in g) (flat_map handler_bound_in hs) distinct)
-distinct_by g h hs rest false distinct later is = later is
-
-distinct_fit : (hs : List Handler) (i : ℕ) (h : Handler) → AreDistinct (flat_map handler_bound_in hs) → first_fit hs i ≡ Some h → AreDistinct (handler_bound_in h)
-distinct_fit [] i h distinct is = absurd (none-some h is)
-distinct_fit (g ∷ hs) i h distinct is =
-    distinct_by g h hs (first_fit hs i) (fits g.port i) distinct (distinct_fit hs i h (distinct_right (handler_bound_in g) (flat_map handler_bound_in hs) distinct)) is
-
-module _ (P : Parts) (sorted : IsWellSorted P) (i : ℕ) (h : Handler) (is : first_fit P.handlers i ≡ Some h) where
-  pub handler_is : IsCommand (signature P) (own_packet h) (handler_binds h) h.body
-  handler_is = of_fit (λ g. IsCommand (signature P) (own_packet g) (handler_binds g) g.body) P.handlers i h sorted.handlers is
-
-  distinct_handler : AreDistinct (handler_bound_in h)
-  distinct_handler =
-      distinct_fit P.handlers i h
-      (distinct_right (flat_map invariant_bound_in P.trans) (flat_map handler_bound_in P.handlers)
-      (distinct_right (flat_map invariant_bound_in P.safety) (flat_map invariant_bound_in P.trans ++ flat_map handler_bound_in P.handlers)
-      (distinct_right (flat_map invariant_bound_in P.topology) (flat_map invariant_bound_in P.safety ++ (flat_map invariant_bound_in P.trans ++ flat_map handler_bound_in P.handlers)) (distinct_pairs (all_bound_in P) sorted.apart)))) is
-
-  pub handler_new : AreNew (scope_of (handler_binds h)) (command_bound_in h.body)
-  handler_new = AreNew-binds (handler_binds h) no_scope (command_bound_in h.body) (AreNew-none (handler_bound_in h) distinct_handler)
-
-  pub handler_scope : AreInScope (handler_binds h) (scope_of (handler_binds h))
-  handler_scope = AreInScope-binds [] (handler_binds h) no_scope (command_bound_in h.body) (AreNew-none (handler_bound_in h) distinct_handler) (AreInScope-none no_scope)
+pub handler_is : (P : Parts) → IsWellSorted P → (i : ℕ) (h : Handler) → first_fit P.handlers i ≡ Some h → IsCommand (signature P) (own_packet h) (scope_of (handler_binds h)) h.body
+handler_is P sorted i h is = (of_fit (IsHandler (signature P)) P.handlers i h sorted.handlers is).command
 
 -- states of elements
 
@@ -148,59 +121,51 @@ module _ (P : Parts) (N : Network) where
 
   module _ (network : IsNetwork P N) where
     -- terms in scope stand for elements
-    pub terms_there : (bs : List Bind) (Γ : Scope) (e : Assignment) (x : State) → AreInScope bs Γ → HasElements N Γ e → (ss : List Sort) (ts : List Term) → HaveSorts (signature P) bs ss ts → HaveElements N ss (tuple P N ts e x)
-    terms_there bs Γ e x all has ss ts have =
+    pub terms_there : (Γ : Scope) (e : Assignment) (x : State) → HasElements N Γ e → (ss : List Sort) (ts : List Term) → HaveSortsIn (signature P) Γ ss ts → HaveElements N ss (tuple P N ts e x)
+    terms_there Γ e x has ss ts have =
         elements_there P N network x Nothing ss (tuple P N ts e x)
-        (values_there (signature P) (structure P N x Nothing) (structure_of P N network x Nothing) Γ e has ss ts (all_in_scope (signature P) bs Γ all ss ts have))
+        (values_there (signature P) (structure P N x Nothing) (structure_of P N network x Nothing) Γ e has ss ts have)
 
-    written : (bs : List Bind) (Γ : Scope) (e : Assignment) (x : State) → AreInScope bs Γ → HasElements N Γ e → (r : RelId) (ts : List Term) → IsWrite (signature P) bs r ts → IsOne (Stored r) (tuple P N ts e x)
-    written bs Γ e x all has r ts write = record {
+    written : (Γ : Scope) (e : Assignment) (x : State) → HasElements N Γ e → (r : RelId) (ts : List Term) → IsWrite (signature P) Γ r ts → IsOne (Stored r) (tuple P N ts e x)
+    written Γ e x has r ts write = record {
       kept = ap is_fixed_in write.declared ∙ write.stored;
       sorts = write.relation.sorts;
       declared = ap (option_map (λ (d : Relation). d.sorts)) write.declared;
-      cells = terms_there bs Γ e x all has write.relation.sorts ts write.terms;
+      cells = terms_there Γ e x has write.relation.sorts ts write.terms;
     }
 
-    pub executes_keeps : (k : Command) (own : OwnPacket) (bs : List Bind) (Γ : Scope) (e : Assignment) (x y : State) → AreInScope bs Γ → AreNew Γ (command_bound_in k) → HasElements N Γ e
-        → IsCommand (signature P) own bs k → Executes P N k e x y → IsOfElements P N x → IsOfElements P N y
-    unfolding Executes IsCommand command_bound_in
-    executes_keeps c.Skip own bs Γ e x y all new has sorted is of = subst (λ (z : State). IsOfElements P N z) (sym is) of
-    executes_keeps (sequence a b) own bs Γ e x y all new has sorted (z, first, second) of =
-        executes_keeps b own bs Γ e z y all (AreNew-right Γ (command_bound_in a) (command_bound_in b) new) has sorted.1 second
-        (executes_keeps a own bs Γ e x z all (AreNew-left Γ (command_bound_in a) (command_bound_in b) new) has sorted.0 first of)
-    executes_keeps (conditional p a b) own bs Γ e x y all new has sorted (inl done) of =
-        let parts = AreNew-right Γ (bound_in p) (command_bound_in a ++ command_bound_in b) new in
-        executes_keeps a own bs Γ e x y all (AreNew-left Γ (command_bound_in a) (command_bound_in b) parts) has sorted.1 done.1 of
-    executes_keeps (conditional p a b) own bs Γ e x y all new has sorted (inr done) of =
-        let parts = AreNew-right Γ (bound_in p) (command_bound_in a ++ command_bound_in b) new in
-        executes_keeps b own bs Γ e x y all (AreNew-right Γ (command_bound_in a) (command_bound_in b) parts) has sorted.2 done.1 of
-    executes_keeps (choice v s p a b) own bs Γ e x y all new has sorted (inl (m, there, holds, done)) of =
-        let inner = AreNew-under Γ v s (bound_in p ++ (command_bound_in a ++ command_bound_in b)) new in
-        let parts = AreNew-right (with_sort Γ v s) (bound_in p) (command_bound_in a ++ command_bound_in b) inner in
-        executes_keeps a own (bs ++ bind v s ∷ []) (with_sort Γ v s) (with_var e v m) x y (AreInScope-more bs Γ v s (new.new v.0 (inl refl)) all)
-        (AreNew-left (with_sort Γ v s) (command_bound_in a) (command_bound_in b) parts) (has_more N Γ e v s m there has) sorted.2 done of
-    executes_keeps (choice v s p a b) own bs Γ e x y all new has sorted (inr (none, done)) of =
-        let rest = AreNew-tail Γ v.0 (bound_in p ++ (command_bound_in a ++ command_bound_in b)) new in
-        let parts = AreNew-right Γ (bound_in p) (command_bound_in a ++ command_bound_in b) rest in
-        executes_keeps b own bs Γ e x y all (AreNew-right Γ (command_bound_in a) (command_bound_in b) parts) has sorted.3 done of
-    executes_keeps (c.Insert r ts) own bs Γ e x y all new has sorted is of =
-        subst (λ (z : State). IsOfElements P N z) (sym is) (put_keeps x (Stored r) (tuple P N ts e x) of (written bs Γ e x all has r ts sorted))
-    executes_keeps (c.Remove r ts) own bs Γ e x y all new has sorted is of =
+    pub executes_keeps : (k : Command) (own : OwnPacket) (Γ : Scope) (e : Assignment) (x y : State) → HasElements N Γ e → IsCommand (signature P) own Γ k → Executes P N k e x y → IsOfElements P N x → IsOfElements P N y
+    unfolding Executes IsCommand
+    executes_keeps c.Skip own Γ e x y has sorted is of = subst (λ (z : State). IsOfElements P N z) (sym is) of
+    executes_keeps (sequence a b) own Γ e x y has sorted (z, first, second) of =
+        executes_keeps b own Γ e z y has sorted.1 second
+        (executes_keeps a own Γ e x z has sorted.0 first of)
+    executes_keeps (conditional p a b) own Γ e x y has sorted (inl done) of =
+        executes_keeps a own Γ e x y has sorted.1 done.1 of
+    executes_keeps (conditional p a b) own Γ e x y has sorted (inr done) of =
+        executes_keeps b own Γ e x y has sorted.2 done.1 of
+    executes_keeps (choice v s p a b) own Γ e x y has sorted (inl (m, there, holds, done)) of =
+        executes_keeps a own (with_sort Γ v s) (with_var e v m) x y (has_more N Γ e v s m there has) sorted.1 done of
+    executes_keeps (choice v s p a b) own Γ e x y has sorted (inr (none, done)) of =
+        executes_keeps b own Γ e x y has sorted.2 done of
+    executes_keeps (c.Insert r ts) own Γ e x y has sorted is of =
+        subst (λ (z : State). IsOfElements P N z) (sym is) (put_keeps x (Stored r) (tuple P N ts e x) of (written Γ e x has r ts sorted))
+    executes_keeps (c.Remove r ts) own Γ e x y has sorted is of =
         subst (λ (z : State). IsOfElements P N z) (sym is) (take_keeps x (Stored r) (tuple P N ts e x) of)
-    executes_keeps (c.Install ts) own bs Γ e x y all new has sorted is of =
-        subst (λ (z : State). IsOfElements P N z) (sym is) (put_keeps x Ft (tuple P N ts e x) of (of_flow Ft tt refl (tuple P N ts e x) (terms_there bs Γ e x all has flow_sorts ts sorted.terms)))
-    executes_keeps (c.Uninstall ts) own bs Γ e x y all new has sorted is of =
+    executes_keeps (c.Install ts) own Γ e x y has sorted is of =
+        subst (λ (z : State). IsOfElements P N z) (sym is) (put_keeps x Ft (tuple P N ts e x) of (of_flow Ft tt refl (tuple P N ts e x) (terms_there Γ e x has flow_sorts ts sorted.terms)))
+    executes_keeps (c.Uninstall ts) own Γ e x y has sorted is of =
         subst (λ (z : State). IsOfElements P N z) (sym is) (take_keeps x Ft (tuple P N ts e x) of)
-    executes_keeps (c.Forward ts) own bs Γ e x y all new has sorted is of =
-        subst (λ (z : State). IsOfElements P N z) (sym is) (put_keeps x Sent (tuple P N ts e x) of (of_flow Sent tt refl (tuple P N ts e x) (terms_there bs Γ e x all has flow_sorts ts sorted.terms)))
-    executes_keeps (c.Flood ts) own bs Γ e x y all new has sorted is of =
-        subst (λ (z : State). IsOfElements P N z) (sym is) (flood_keeps x (tuple P N ts e x) of (terms_there bs Γ e x all has packet_sorts ts sorted.terms))
+    executes_keeps (c.Forward ts) own Γ e x y has sorted is of =
+        subst (λ (z : State). IsOfElements P N z) (sym is) (put_keeps x Sent (tuple P N ts e x) of (of_flow Sent tt refl (tuple P N ts e x) (terms_there Γ e x has flow_sorts ts sorted.terms)))
+    executes_keeps (c.Flood ts) own Γ e x y has sorted is of =
+        subst (λ (z : State). IsOfElements P N z) (sym is) (flood_keeps x (tuple P N ts e x) of (terms_there Γ e x has packet_sorts ts sorted.terms))
 
     module _ (sorted : IsWellSorted P) where
       handles_keeps : (s a b i : ℕ) → Contains N.switches s → Contains N.hosts a → Contains N.hosts b → Contains N.ports i → (x y : State) (o : Option Handler) → first_fit P.handlers i ≡ o → Handles P N o s a b i x y → IsOfElements P N x → IsOfElements P N y
       handles_keeps s a b i in_s in_a in_b in_i x y None fit is of = subst (λ (z : State). IsOfElements P N z) (sym is) of
       handles_keeps s a b i in_s in_a in_b in_i x y (Some h) fit done of =
-          executes_keeps h.body (own_packet h) (handler_binds h) (scope_of (handler_binds h)) (for_packet h s a b i) x y (handler_scope P sorted i h fit) (handler_new P sorted i h fit)
+          executes_keeps h.body (own_packet h) (scope_of (handler_binds h)) (for_packet h s a b i) x y
           (has_packet N h s a b i in_s in_a in_b in_i) (handler_is P sorted i h fit) done of
 
       pub step_keeps : (x y : State) (event : Event) → Step P N x event y → IsOfElements P N x → IsOfElements P N y
@@ -220,7 +185,7 @@ module _ (P : Parts) (N : Network) where
             kept = ap is_fixed_in start.declared ∙ start.stored;
             sorts = start.relation.sorts;
             declared = ap (option_map (λ (d : Relation). d.sorts)) start.declared;
-            cells = terms_there [] no_scope no_values empty_state (AreInScope-none no_scope) (has_none N) start.relation.sorts row.terms start.terms;
+            cells = terms_there no_scope no_values empty_state (has_none N) start.relation.sorts row.terms start.terms;
           }))
 
       pub start_keeps : IsOfElements P N (initial P N)

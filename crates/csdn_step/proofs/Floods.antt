@@ -31,9 +31,6 @@ module _ (x : State) (s a b i : ℕ) where
   pub flooded-none : flooded x [] (s ∷ a ∷ b ∷ i ∷ []) ≡ x
   flooded-none = fun_ext (λ q. fun_ext (λ ds. unchanged (x q ds) (same_pred q Sent)))
 
-  pub flooded-own : (o : ℕ) → (o == i) ≡ true → flooded x (o ∷ []) (s ∷ a ∷ b ∷ i ∷ []) ≡ x
-  flooded-own o is = fun_ext (λ q. fun_ext (λ ds. own (x q ds) (same_pred q Sent) (same_cells ds (s ∷ a ∷ b ∷ i ∷ o ∷ [])) (o == i) is))
-
   pub flooded-other : (o : ℕ) → (o == i) ≡ false → put x Sent (s ∷ a ∷ b ∷ i ∷ o ∷ []) ≡ flooded x (o ∷ []) (s ∷ a ∷ b ∷ i ∷ [])
   flooded-other o is = fun_ext (λ q. fun_ext (λ ds. other (x q ds) (same_pred q Sent) (same_cells ds (s ∷ a ∷ b ∷ i ∷ o ∷ [])) (o == i) is))
 

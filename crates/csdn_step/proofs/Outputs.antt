@@ -24,7 +24,7 @@ use Rattle.net_structs.specs.Networks.{has}
 use Rattle.net_structs.specs.Views.{but}
 use Rattle.net_structs.proofs.Tied.{row_is}
 use Rattle.net_structs.proofs.Rising.{taken, sorted_left}
-use Rattle.net_structs.proofs.Taken.{but-none}
+use Rattle.net_structs.proofs.Taken.{but-none, one_more}
 use Rattle.csdn_step.specs.Courses.{sends, either_alone, differs}
 use Rattle.csdn_step.specs.Drafts.{without, taken_each}
 
@@ -163,12 +163,7 @@ each_is : (m : Match) (ports : List ℕ) (x : State) (q : Pred) (ds : List ℕ) 
 each_is m [] x q ds = sym (and-true (x q ds))
 each_is m (o ∷ ports) x q ds =
     each_is m ports (take_out x Ft (flow m o)) q ds
-    ∙ one_out (x q ds) (same_pred q Ft && same_cells ds (flow m o)) (list_any (λ p. same_pred q Ft && same_cells ds (flow m p)) ports)
-  where
-    one_out : (x t h : Bool) → ((x && not t) && not h) ≡ (x && not (t || h))
-    one_out true true h = refl
-    one_out true false h = refl
-    one_out false t h = refl
+    ∙ one_more (x q ds) (same_pred q Ft && same_cells ds (flow m o)) (list_any (λ p. same_pred q Ft && same_cells ds (flow m p)) ports)
 
 pub found : {X : Type 0} (f : X → Bool) (xs : List X) → list_any f xs ≡ true → (x : X) × Contains xs x × (f x ≡ true)
 found {X = X} f [] is = absurd (true≢false (sym is))

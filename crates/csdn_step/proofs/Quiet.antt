@@ -1,5 +1,5 @@
 -- A well-sorted handler does the same, whether the packets that it sends are kept in the state or not.
-use Rattle.std.proofs.Common.{◌≡◌, ◌∙◌, sym, ap, ap₂, refl, ℕ, Bool, true, false, not, if◌then◌else◌, List, [], ◌∷◌, ◌++◌}
+use Rattle.std.proofs.Common.{◌≡◌, ◌∙◌, sym, ap, ap₂, refl, ℕ, Bool, true, false, not, if◌then◌else◌, List, [], ◌∷◌}
 use Rattle.std.specs.Prelude.{Option, Some, None}
 use Rattle.std.specs.List.{list_all, list_any}
 use Rattle.std.proofs.Math.Bool.{or-false, and-true}
@@ -24,8 +24,9 @@ use Rattle.csdn_core.specs.Truth.{Assignment, with_var, truth, value, values}
 use Rattle.csdn_core.specs.Network.{Network, State, elements, structure, holds_in}
 use Rattle.csdn_core.specs.Execution.{put, take_out, flooded, is_true, tuple}
 use Rattle.csdn_core.specs.Run.{first_fit, for_packet}
-use Rattle.csdn_core.specs.Sorted.{Bind, IsSorted, IsAllowed}
-use Rattle.csdn_core.specs.WellSorted.{OwnPacket, IsCommand, IsWellSorted, signature, own_packet, handler_binds}
+use Rattle.csdn_core.specs.Sorted.{IsAllowed}
+use Rattle.csdn_core.specs.SortedIn.{Scope, with_sort, scope_of, IsSortedIn}
+use Rattle.csdn_core.specs.WellSorted.{OwnPacket, IsCommand, IsHandler, IsWellSorted, signature, own_packet, handler_binds}
 use Rattle.csdn_step.specs.declared.setting.Sending.TheVariants.{Kept, Left}
 use Rattle.csdn_step.specs.Least.{least}
 use Rattle.csdn_step.specs.Courses.{Course, executed, chosen, handled, fired, from_state, quieted, with_sent_of, installed, uninstalled, forwarded, flooded_on, settled}
@@ -122,21 +123,21 @@ module _ (P : Parts) (N : Network) (x : State) where
   holds-left y Sent cells allowed = absurd allowed
   holds-left y RcvThis cells allowed = absurd allowed
 
-  truth-left : (y : State) (Γ : List Bind) (p : Formula) (e : Assignment) → IsSorted (signature P) InHandler Γ p → truth (structure P N (with_sent_of x y) Nothing) p e ≡ truth (structure P N y Nothing) p e
-  unfolding truth IsSorted
+  truth-left : (y : State) (Γ : Scope) (p : Formula) (e : Assignment) → IsSortedIn (signature P) (IsAllowed (signature P) InHandler) Γ p → truth (structure P N (with_sent_of x y) Nothing) p e ≡ truth (structure P N y Nothing) p e
+  unfolding truth IsSortedIn
   truth-left y Γ f.True e sorted = refl
   truth-left y Γ f.False e sorted = refl
-  truth-left y Γ (f.Atom r ts) e sorted = holds-left y r (values (structure P N (with_sent_of x y) Nothing) e ts) sorted.allowed ∙ ap (holds_in P N y Nothing r) (values-left y e ts)
+  truth-left y Γ (f.Atom r ts) e sorted = holds-left y r (values (structure P N (with_sent_of x y) Nothing) e ts) sorted.1 ∙ ap (holds_in P N y Nothing r) (values-left y e ts)
   truth-left y Γ (f.Same t u) e sorted = rw (value-left y e t, value-left y e u)
   truth-left y Γ (negation p) e sorted = ap not (truth-left y Γ p e sorted)
   truth-left y Γ (conjunction p q) e sorted = rw (truth-left y Γ p e sorted.0, truth-left y Γ q e sorted.1)
   truth-left y Γ (disjunction p q) e sorted = rw (truth-left y Γ p e sorted.0, truth-left y Γ q e sorted.1)
   truth-left y Γ (implication p q) e sorted = rw (truth-left y Γ p e sorted.0, truth-left y Γ q e sorted.1)
   truth-left y Γ (equivalence p q) e sorted = rw (truth-left y Γ p e sorted.0, truth-left y Γ q e sorted.1)
-  truth-left y Γ (universal v s p) e sorted = ap (λ t. list_all t (elements N s)) (fun_ext (λ m. truth-left y (Γ ++ record { var = v; sort = s } ∷ []) p (with_var e v m) sorted.1))
-  truth-left y Γ (existential v s p) e sorted = ap (λ t. list_any t (elements N s)) (fun_ext (λ m. truth-left y (Γ ++ record { var = v; sort = s } ∷ []) p (with_var e v m) sorted.1))
+  truth-left y Γ (universal v s p) e sorted = ap (λ t. list_all t (elements N s)) (fun_ext (λ m. truth-left y (with_sort Γ v s) p (with_var e v m) sorted))
+  truth-left y Γ (existential v s p) e sorted = ap (λ t. list_any t (elements N s)) (fun_ext (λ m. truth-left y (with_sort Γ v s) p (with_var e v m) sorted))
 
-  executed-left : (own : OwnPacket) (Γ : List Bind) (k : Command) (e : Assignment) (w : Course) → IsCommand (signature P) own Γ k → executed P N Left k e (quieted x w) ≡ quieted x (executed P N Kept k e w)
+  executed-left : (own : OwnPacket) (Γ : Scope) (k : Command) (e : Assignment) (w : Course) → IsCommand (signature P) own Γ k → executed P N Left k e (quieted x w) ≡ quieted x (executed P N Kept k e w)
   unfolding executed IsCommand
   executed-left own Γ c.Skip e w sorted = refl
   executed-left own Γ (sequence a b) e w sorted = ap (executed P N Left b e) (executed-left own Γ a e w sorted.0) ∙ executed-left own Γ b e (executed P N Kept a e w) sorted.1
@@ -146,8 +147,8 @@ module _ (P : Parts) (N : Network) (x : State) where
   executed-left own Γ (choice v s p a b) e w sorted =
       chosen_quiet x (least (λ m. is_true P N p (with_var e v m) (with_sent_of x w.state)) (elements N s)) (least (λ m. is_true P N p (with_var e v m) w.state) (elements N s))
       (λ m. executed P N Left a (with_var e v m) (quieted x w)) (executed P N Left b e (quieted x w)) (λ m. executed P N Kept a (with_var e v m) w) (executed P N Kept b e w)
-      (ap (λ t. least t (elements N s)) (fun_ext (λ m. truth-left w.state (Γ ++ record { var = v; sort = s } ∷ []) p (with_var e v m) sorted.1)))
-      (λ m. executed-left own (Γ ++ record { var = v; sort = s } ∷ []) a (with_var e v m) w sorted.2) (executed-left own Γ b e w sorted.3)
+      (ap (λ t. least t (elements N s)) (fun_ext (λ m. truth-left w.state (with_sort Γ v s) p (with_var e v m) sorted.0)))
+      (λ m. executed-left own (with_sort Γ v s) a (with_var e v m) w sorted.1) (executed-left own Γ b e w sorted.2)
   executed-left own Γ (c.Insert r ts) e w sorted =
       ap (λ y. made y w) (ap (put (with_sent_of x w.state) (Stored r)) (values-left w.state e ts) ∙ put-Stored x w.state r (tuple P N ts e w.state))
   executed-left own Γ (c.Remove r ts) e w sorted =
@@ -165,13 +166,13 @@ module _ (P : Parts) (N : Network) (x : State) where
       ap (flooded_on Left (elements N Pr) (quieted x w)) (values-left w.state e ts)
       ∙ ap (λ y. made y (flooded_on Kept (elements N Pr) w (tuple P N ts e w.state))) (flood-Sent x w.state (elements N Pr) (tuple P N ts e w.state))
 
-  handled-left : (h : Option Handler) → ((g : Handler) → h ≡ Some g → IsCommand (signature P) (own_packet g) (handler_binds g) g.body) → (s a b i : ℕ) (w : Course) → handled P N Left h s a b i (quieted x w) ≡ quieted x (handled P N Kept h s a b i w)
+  handled-left : (h : Option Handler) → ((g : Handler) → h ≡ Some g → IsHandler (signature P) g) → (s a b i : ℕ) (w : Course) → handled P N Left h s a b i (quieted x w) ≡ quieted x (handled P N Kept h s a b i w)
   handled-left None sorted s a b i w = refl
-  handled-left (Some g) sorted s a b i w = executed-left (own_packet g) (handler_binds g) g.body (for_packet g s a b i) w (sorted g refl)
+  handled-left (Some g) sorted s a b i w = executed-left (own_packet g) (scope_of (handler_binds g)) g.body (for_packet g s a b i) w (sorted g refl).command
 
   -- a packet leaves `sent` as it is, and all else as it would be
   pub quiet : IsWellSorted P → (s a b i : ℕ) → fired P N Left (PktIn s a b i) (from_state x) ≡ quieted x (fired P N Kept (PktIn s a b i) (from_state x))
   quiet sorted s a b i =
       ap (settled N.ports x)
       (ap (handled P N Left (first_fit P.handlers i) s a b i) (sym (ap from_state (itself x)))
-      ∙ handled-left (first_fit P.handlers i) (λ g is. of_fit (λ h. IsCommand (signature P) (own_packet h) (handler_binds h) h.body) P.handlers i g sorted.handlers is) s a b i (from_state x))
+      ∙ handled-left (first_fit P.handlers i) (λ g is. of_fit (IsHandler (signature P)) P.handlers i g sorted.handlers is) s a b i (from_state x))

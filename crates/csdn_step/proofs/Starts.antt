@@ -1,9 +1,8 @@
 -- Rows put in one after another make the initial state.
-use Rattle.std.proofs.Common.{◌≡◌, ◌∙◌, sym, ap, ap₂, refl, ℕ, ◌==◌, Bool, false, ◌&&◌, ◌||◌, List, [], ◌∷◌, ◌-◌, ◌≤◌, ◌<◌, length, take, drop, get_or, arith}
+use Rattle.std.proofs.Common.{◌≡◌, ◌∙◌, sym, ap, ap₂, refl, ℕ, ◌==◌, Bool, false, ◌&&◌, ◌||◌, List, [], ◌∷◌, ◌-◌, ◌<◌, length, arith}
 use Rattle.std.specs.List.{list_any}
 use Rattle.std.proofs.Math.Bool.{or-false, or_assoc}
 use Rattle.std.proofs.Math.Path.{fun_ext}
-use Rattle.general_facts.proofs.Lists.{rest_is}
 use Rattle.general_facts.proofs.Numbers.{eqb-turned}
 use Rattle.csdn_core.proofs.Same.{same_cells-turned}
 use Rattle.csdn_core.specs.declared.terms.Pred.{Pred}
@@ -13,7 +12,7 @@ use Rattle.csdn_core.specs.declared.program.Parts.{Parts}
 use Rattle.csdn_core.specs.declared.program.StartRow.{StartRow}
 use Rattle.csdn_core.specs.Truth.{Assignment, values}
 use Rattle.csdn_core.specs.Network.{Network, State, structure, same_cells}
-use Rattle.csdn_core.specs.Execution.{put, tuple}
+use Rattle.csdn_core.specs.Execution.{put}
 use Rattle.csdn_core.specs.Run.{empty_state, no_values, initial}
 use Rattle.net_structs.specs.declared.env.Pair.{Pair}
 use Rattle.net_structs.specs.Binds.{assignment}
@@ -57,14 +56,6 @@ started_initial P N = fun_ext (λ q. fun_ext (λ ds. started-is P N no_values P.
     at Ft ds = refl
     at Sent ds = refl
     at RcvThis ds = refl
-
--- one row more is put in
-pub rows_go : (P : Parts) (N : Network) (e : Assignment) (y z whole : State) (row d : StartRow) (rest : List StartRow) → 1 ≤ length rest → row ≡ get_or rest 0 d → z ≡ put y (Stored row.rel) (tuple P N row.terms e y) → started P N e rest y ≡ whole
-    → started P N e (take (length rest - 1) (drop 1 rest)) z ≡ whole
-rows_go P N e y z whole row d [] some first is goes = absurd (omega arith)
-rows_go P N e y z whole row d (r ∷ rows) some first is goes =
-    ap (λ more. started P N e more z) (rest_is r rows)
-    ∙ ap (started P N e rows) (is ∙ ap (λ (s : StartRow). put y (Stored s.rel) (tuple P N s.terms e y)) first) ∙ goes
 
 pub rows_end : (P : Parts) (N : Network) (e : Assignment) (y whole : State) (rest : List StartRow) → length rest < 1 → started P N e rest y ≡ whole → y ≡ whole
 rows_end P N e y whole [] none goes = goes

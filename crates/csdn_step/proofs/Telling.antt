@@ -1,5 +1,5 @@
 -- What an event is told to have done is of the network.
-use Rattle.std.proofs.Common.{◌≡◌, refl, ℕ, zero, suc, Bool, true, false, inl, if◌then◌else◌, List, [], ◌∷◌, ◌++◌, All, Contains, Option, Some, None, arith}
+use Rattle.std.proofs.Common.{◌≡◌, refl, ℕ, zero, suc, Bool, true, false, if◌then◌else◌, List, [], ◌∷◌, ◌++◌, All, Contains, Option, Some, None, arith}
 use Rattle.std.proofs.lemmas.Bool.{and_parts}
 use Rattle.std.proofs.lemmas.List.Elements.{All-append, All-filter, All-nil}
 use Rattle.std.specs.List.{list_any}
@@ -17,10 +17,9 @@ use Rattle.csdn_core.specs.Truth.{Assignment, with_var}
 use Rattle.csdn_core.specs.Network.{Network, State, elements, HaveElements, IsNetwork}
 use Rattle.csdn_core.specs.Execution.{is_true, tuple}
 use Rattle.csdn_core.specs.Run.{first_fit, for_packet}
-use Rattle.csdn_core.specs.Sorted.{Bind, flow_sorts, bound_in}
+use Rattle.csdn_core.specs.Sorted.{flow_sorts}
 use Rattle.csdn_core.specs.SortedIn.{Scope, with_sort, scope_of}
-use Rattle.csdn_core.specs.WellSorted.{IsCommand, IsWellSorted, OwnPacket, signature, own_packet, handler_binds, command_bound_in}
-use Rattle.csdn_core.proofs.Scopes.{AreNew, AreNew-left, AreNew-right, AreNew-tail, AreNew-under, AreInScope, AreInScope-more, bind}
+use Rattle.csdn_core.specs.WellSorted.{IsCommand, IsWellSorted, OwnPacket, signature, own_packet, handler_binds}
 use Rattle.net_structs.specs.Networks.{has}
 use Rattle.net_structs.proofs.Accepted.{there}
 use Rattle.csdn_step.specs.declared.setting.Sending.{Sending}
@@ -29,7 +28,7 @@ use Rattle.csdn_step.specs.Least.{least}
 use Rattle.csdn_step.specs.Courses.{Course, executed, chosen, handled, fired, from_state, with_one, same_match, same_out, with_match, with_port, differs}
 use Rattle.csdn_step.specs.OfNetwork.{IsMatchOf, IsOutOf, TellsElements}
 use Rattle.csdn_step.proofs.Steps.{IsFound, least_found}
-use Rattle.csdn_step.proofs.Elements.{HasElements, has_more, has_packet, handler_is, handler_new, handler_scope, terms_there}
+use Rattle.csdn_step.proofs.Elements.{HasElements, has_more, has_packet, handler_is, terms_there}
 
 one_all : {X : Type 0} (P : X → Type 0) (x : X) → P x → All P (x ∷ [])
 one_all P x holds zero d within = holds
@@ -81,47 +80,40 @@ module _ (N : Network) where
   nothing_told x = record { changed = All-nil (IsMatchOf N); outs = All-nil (IsOutOf N) }
 
 module _ (P : Parts) (N : Network) (network : IsNetwork P N) (sending : Sending) where
-  executed_tells : (k : Command) (own : OwnPacket) (bs : List Bind) (Γ : Scope) (e : Assignment) (w : Course) → AreInScope bs Γ → AreNew Γ (command_bound_in k) → HasElements N Γ e
-      → IsCommand (signature P) own bs k → TellsElements N w → TellsElements N (executed P N sending k e w)
-  unfolding executed IsCommand command_bound_in
-  executed_tells c.Skip own bs Γ e w all new has sorted told = told
-  executed_tells (sequence a b) own bs Γ e w all new has sorted told =
-      executed_tells b own bs Γ e (executed P N sending a e w) all (AreNew-right Γ (command_bound_in a) (command_bound_in b) new) has sorted.1
-      (executed_tells a own bs Γ e w all (AreNew-left Γ (command_bound_in a) (command_bound_in b) new) has sorted.0 told)
-  executed_tells (conditional p a b) own bs Γ e w all new has sorted told =
-      let parts = AreNew-right Γ (bound_in p) (command_bound_in a ++ command_bound_in b) new in
+  executed_tells : (k : Command) (own : OwnPacket) (Γ : Scope) (e : Assignment) (w : Course) → HasElements N Γ e → IsCommand (signature P) own Γ k → TellsElements N w → TellsElements N (executed P N sending k e w)
+  unfolding executed IsCommand
+  executed_tells c.Skip own Γ e w has sorted told = told
+  executed_tells (sequence a b) own Γ e w has sorted told =
+      executed_tells b own Γ e (executed P N sending a e w) has sorted.1
+      (executed_tells a own Γ e w has sorted.0 told)
+  executed_tells (conditional p a b) own Γ e w has sorted told =
       if_told N (is_true P N p e w.state) (executed P N sending a e w) (executed P N sending b e w)
-      (executed_tells a own bs Γ e w all (AreNew-left Γ (command_bound_in a) (command_bound_in b) parts) has sorted.1 told)
-      (executed_tells b own bs Γ e w all (AreNew-right Γ (command_bound_in a) (command_bound_in b) parts) has sorted.2 told)
-  executed_tells (choice v s p a b) own bs Γ e w all new has sorted told =
-      let inner = AreNew-under Γ v s (bound_in p ++ (command_bound_in a ++ command_bound_in b)) new in
-      let under = AreNew-right (with_sort Γ v s) (bound_in p) (command_bound_in a ++ command_bound_in b) inner in
-      let rest = AreNew-tail Γ v.0 (bound_in p ++ (command_bound_in a ++ command_bound_in b)) new in
-      let parts = AreNew-right Γ (bound_in p) (command_bound_in a ++ command_bound_in b) rest in
+      (executed_tells a own Γ e w has sorted.1 told)
+      (executed_tells b own Γ e w has sorted.2 told)
+  executed_tells (choice v s p a b) own Γ e w has sorted told =
       pick_told N (least (λ m. is_true P N p (with_var e v m) w.state) (elements N s)) (λ m. is_true P N p (with_var e v m) w.state) (elements N s) refl
       (λ m. executed P N sending a (with_var e v m) w) (executed P N sending b e w)
-      (λ m there. executed_tells a own (bs ++ bind v s ∷ []) (with_sort Γ v s) (with_var e v m) w (AreInScope-more bs Γ v s (new.new v.0 (inl refl)) all)
-      (AreNew-left (with_sort Γ v s) (command_bound_in a) (command_bound_in b) under) (has_more N Γ e v s m there has) sorted.2 told)
-      (executed_tells b own bs Γ e w all (AreNew-right Γ (command_bound_in a) (command_bound_in b) parts) has sorted.3 told)
-  executed_tells (c.Insert r ts) own bs Γ e w all new has sorted told = record { changed = told.changed; outs = told.outs }
-  executed_tells (c.Remove r ts) own bs Γ e w all new has sorted told = record { changed = told.changed; outs = told.outs }
-  executed_tells (c.Install ts) own bs Γ e w all new has sorted told = record {
+      (λ m there. executed_tells a own (with_sort Γ v s) (with_var e v m) w (has_more N Γ e v s m there has) sorted.1 told)
+      (executed_tells b own Γ e w has sorted.2 told)
+  executed_tells (c.Insert r ts) own Γ e w has sorted told = record { changed = told.changed; outs = told.outs }
+  executed_tells (c.Remove r ts) own Γ e w has sorted told = record { changed = told.changed; outs = told.outs }
+  executed_tells (c.Install ts) own Γ e w has sorted told = record {
     changed =
         let cells = tuple P N ts e w.state in
-        either_told N _ w.changed (with_match w.changed cells) told.changed (match_told N w.changed cells told.changed (terms_there P N network bs Γ e w.state all has flow_sorts ts sorted.terms));
+        either_told N _ w.changed (with_match w.changed cells) told.changed (match_told N w.changed cells told.changed (terms_there P N network Γ e w.state has flow_sorts ts sorted.terms));
     outs = told.outs;
   }
-  executed_tells (c.Uninstall ts) own bs Γ e w all new has sorted told = record {
+  executed_tells (c.Uninstall ts) own Γ e w has sorted told = record {
     changed =
         let cells = tuple P N ts e w.state in
-        either_told N _ (with_match w.changed cells) w.changed (match_told N w.changed cells told.changed (terms_there P N network bs Γ e w.state all has flow_sorts ts sorted.terms)) told.changed;
+        either_told N _ (with_match w.changed cells) w.changed (match_told N w.changed cells told.changed (terms_there P N network Γ e w.state has flow_sorts ts sorted.terms)) told.changed;
     outs = told.outs;
   }
-  executed_tells (c.Forward ts) own bs Γ e w all new has sorted told = record {
+  executed_tells (c.Forward ts) own Γ e w has sorted told = record {
     changed = told.changed;
-    outs = port_told N w.outs (tuple P N ts e w.state) told.outs (terms_there P N network bs Γ e w.state all has flow_sorts ts sorted.terms);
+    outs = port_told N w.outs (tuple P N ts e w.state) told.outs (terms_there P N network Γ e w.state has flow_sorts ts sorted.terms);
   }
-  executed_tells (c.Flood ts) own bs Γ e w all new has sorted told = record {
+  executed_tells (c.Flood ts) own Γ e w has sorted told = record {
     changed = told.changed;
     outs = one_more (IsOutOf N) same_out w.outs Flooding told.outs tt;
   }
@@ -130,7 +122,7 @@ module _ (P : Parts) (N : Network) (network : IsNetwork P N) (sending : Sending)
     handled_tells : (s a b i : ℕ) → Contains N.switches s → Contains N.hosts a → Contains N.hosts b → Contains N.ports i → (w : Course) (o : Option Handler) → first_fit P.handlers i ≡ o → TellsElements N w → TellsElements N (handled P N sending o s a b i w)
     handled_tells s a b i in_s in_a in_b in_i w None fit told = told
     handled_tells s a b i in_s in_a in_b in_i w (Some h) fit told =
-        executed_tells h.body (own_packet h) (handler_binds h) (scope_of (handler_binds h)) (for_packet h s a b i) w (handler_scope P sorted i h fit) (handler_new P sorted i h fit)
+        executed_tells h.body (own_packet h) (scope_of (handler_binds h)) (for_packet h s a b i) w
         (has_packet N h s a b i in_s in_a in_b in_i) (handler_is P sorted i h fit) told
 
     pub fired_tells : (event : Event) (x : State) → is_of_network N event ≡ true → TellsElements N (fired P N sending event (from_state x))

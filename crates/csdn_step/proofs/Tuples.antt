@@ -1,5 +1,5 @@
 -- A draft with a tuple put in or taken out, and what leads back from it.
-use Rattle.std.proofs.Common.{◌≡◌, ◌∙◌, sym, ap, ap₂, refl, ℕ, Bool, true, false, not, ◌&&◌, ◌||◌, List, [], ◌∷◌, ◌++◌, true≢false}
+use Rattle.std.proofs.Common.{◌≡◌, ◌∙◌, sym, ap, ap₂, refl, ℕ, Bool, true, false, not, ◌&&◌, ◌||◌, List, [], ◌∷◌, ◌++◌}
 use Rattle.std.proofs.Math.Path.{fun_ext}
 use Rattle.std.proofs.lemmas.Bool.{and_parts}
 use Rattle.csdn_core.proofs.Same.{same_pred-is, same_cells-is}
@@ -68,17 +68,6 @@ module _ (x g : State) (r : Pred) (cells : List ℕ) where
 
   pub stays_out : x r cells ≡ false → but x g ≡ take_out (but x g) r cells
   stays_out is = fun_ext (λ q. fun_ext (λ ds. kept_out (but x g q ds) (same_pred q r && same_cells ds cells) (there (but x g) r cells false (absent is) q ds)))
-
--- whether a tuple is new
-
-pub new_if_gone : (x g : Bool) → x ≡ true → g ≡ not (x && not g)
-new_if_gone true true is = refl
-new_if_gone true false is = refl
-new_if_gone false g is = absurd (true≢false (sym is))
-
-pub new_if_absent : (x g : Bool) → x ≡ false → not x ≡ not (x && not g)
-new_if_absent true g is = absurd (true≢false is)
-new_if_absent false g is = refl
 
 -- rows taken out again
 

@@ -10,7 +10,7 @@ use Rattle.csdn_core.specs.declared.program.Parts.{Parts}
 use Rattle.csdn_core.specs.declared.syntax.Formula.{Formula}
 use Rattle.csdn_core.specs.declared.syntax.Command.{Command}
 use Rattle.csdn_core.specs.declared.syntax.Command.TheVariants as c
-use Rattle.csdn_core.specs.Tree.{Seq-is, If-is, Pick-is}
+use Rattle.csdn_core.proofs.Shapes.{Seq-is, If-is, Pick-is}
 use Rattle.csdn_core.specs.Truth.{Assignment, with_var}
 use Rattle.csdn_core.specs.Network.{Network, elements}
 use Rattle.csdn_core.specs.Execution.{put, take_out, is_true, tuple}

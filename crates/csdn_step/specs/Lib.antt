@@ -1,7 +1,6 @@
 pub mod Least
 pub mod Courses
 pub mod CourseSteps
-pub mod CommandDepth
 pub mod Drafts
 pub mod Answers
 pub mod Starting

@@ -1,5 +1,5 @@
 //! Execution of commands.
-#![tactic(auto, using(csdn_core::specs::Nodes::command_node_steps, crate::specs::CourseSteps::course_steps, crate::specs::CommandDepth::command_steps))]
+#![tactic(auto, using(csdn_core::proofs::NodeSteps::command_node_steps, crate::specs::CourseSteps::course_steps, csdn_core::proofs::DepthSteps::command_depth_steps))]
 
 ghost use Rattle.std.specs.Prelude.{◌≡◌, ◌<◌, ◌≤◌, ◌+◌, ℕ, length, OnOk};
 ghost use Rattle.std.specs.List.Sorted.{IsStrictlyIncreasing};
@@ -9,8 +9,7 @@ ghost use Rattle.csdn_core.specs.Truth.{with_var};
 ghost use Rattle.csdn_core.specs.Network.{elements as elements_of};
 ghost use Rattle.csdn_core.specs.Execution.{is_true as is_true_in, put, flooded, tuple};
 ghost use Rattle.net_structs.specs.Binds.{assignment};
-ghost use Rattle.net_structs.specs.Depth.{depth};
-ghost use Rattle.csdn_step.specs.CommandDepth.{command_depth};
+ghost use Rattle.csdn_core.specs.Depth.{depth, command_depth};
 ghost use Rattle.csdn_step.specs.Courses.{drafted, executed, flooded_on, forwarded, installed, sent_to, uninstalled, with_state};
 ghost use Rattle.csdn_step.specs.Least.{first_of, least};
 ghost use Rattle.csdn_step.specs.Drafts.{standing, start_of};

@@ -6,7 +6,7 @@ ghost use Rattle.std.specs.List.{list_any};
 ghost use Rattle.net_structs.specs.Networks.{has as has_element};
 ghost use Rattle.net_structs.specs.Rows.{held};
 ghost use Rattle.csdn_step.specs.Answers.{IsAnswer, first_refusal, is_enabled as is_enabled_in, is_of_network as is_of};
-ghost use Rattle.csdn_step.specs.CommandDepth.{command_depth};
+ghost use Rattle.csdn_core.specs.Depth.{command_depth};
 ghost use Rattle.csdn_step.specs.Courses.{course, drafted, executed, expired, fired, from_state, handled, quieted, sends};
 ghost use Rattle.csdn_step.specs.Drafts.{standing, start_of};
 ghost use Rattle.csdn_step.specs.declared.setting.Sending.TheVariants.{Kept as KeptSending, Left as LeftSending};

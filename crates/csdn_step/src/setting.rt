@@ -3,7 +3,7 @@ ghost use Rattle.std.specs.Prelude.{◌≡◌, ◌<◌, ◌≤◌, ◌+◌, leng
 ghost use Rattle.csdn_core.specs.Truth.{with_var};
 ghost use Rattle.csdn_core.specs.Execution.{is_true as is_true_in, tuple};
 ghost use Rattle.net_structs.specs.Binds.{assignment};
-ghost use Rattle.net_structs.specs.Depth.{depth};
+ghost use Rattle.csdn_core.specs.Depth.{depth};
 ghost use Rattle.csdn_step.specs.Drafts.{standing};
 
 use crate::draft::Draft;

@@ -1,7 +1,6 @@
 -- Commands that break no rule are well-sorted.
-use Rattle.std.proofs.Common.{◌≡◌, ℕ, ◌+◌, not, ◌==◌, List, [], ◌∷◌, ◌++◌, length, Option, Some, None, slice_get, unwrap_or, refl, ap, subst, arith}
+use Rattle.std.proofs.Common.{◌≡◌, ℕ, ◌+◌, ◌≤◌, max, not, ◌==◌, List, [], ◌∷◌, ◌++◌, length, Option, Some, None, slice_get, unwrap_or, refl, ap, arith}
 use Rattle.std.proofs.lemmas.Bool.{eqb-true}
-use Rattle.std.proofs.lemmas.List.{map-append}
 use Rattle.csdn_core.specs.Same.{same_term}
 use Rattle.csdn_core.proofs.Same.{same_term-is}
 use Rattle.csdn_core.specs.declared.terms.Place.TheVariants.{Handler as InHandler}
@@ -10,11 +9,12 @@ use Rattle.csdn_core.specs.declared.terms.Sort.TheVariants.{Sw, Ho, Pr}
 use Rattle.csdn_core.specs.declared.terms.Term.{Term}
 use Rattle.csdn_core.specs.declared.program.Relation.{Relation}
 use Rattle.csdn_core.specs.declared.syntax.Command.{Command}
-use Rattle.csdn_core.specs.Tree.{Seq-is, If-is, Pick-is}
-use Rattle.csdn_core.specs.Sorted.{Signature}
+use Rattle.csdn_core.proofs.Shapes.{Seq-is, If-is, Pick-is}
+use Rattle.csdn_core.specs.Sorted.{Signature, most_variables}
+use Rattle.csdn_core.specs.SortedIn.{Scope as SortedScope, with_sort}
+use Rattle.csdn_core.specs.Depth.{depth, command_depth}
 use Rattle.csdn_core.specs.WellSorted.{IsWrite, IsInstall, IsForward, IsFlood, IsCommand, command_bound_in}
 use Rattle.csdn_tree.specs.declared.names.RawTerm.TheVariants.{Name}
-use Rattle.csdn_tree.specs.declared.names.RawName.{RawName}
 use Rattle.csdn_tree.specs.declared.names.RawTerm.{RawTerm}
 use Rattle.csdn_types.specs.declared.refusal.SortRefusal.TheVariants.{WrongArity, NotAllowed}
 use Rattle.csdn_tree.specs.declared.syntax.RawFlow.{RawFlow}
@@ -31,17 +31,17 @@ use Rattle.csdn_tree.specs.Binders.{binders}
 use Rattle.csdn_types.specs.Faults.{fault_if, is_forbidden, term_faults, terms_faults, use_faults, relation_faults, variable_faults, flow_faults, faults}
 use Rattle.csdn_types.specs.Commands.{own_faults, forward_faults, flood_faults, command_faults, command_typed, later}
 use Rattle.csdn_tree.specs.Binders.{command_binders}
-use Rattle.csdn_types.specs.Signed.{bind_of, binds_of, IsPart, HaveNumerals, CommandNumerals, counted, seen}
+use Rattle.csdn_types.specs.Signed.{IsPart, IsScopeOf, HaveNumerals, CommandNumerals, counted, seen}
 use Rattle.csdn_types.proofs.First.{free_both}
-use Rattle.csdn_types.proofs.Sorts.{terms_have, flow_have, packet_have, no_fault, fault_free, free_left, free_right, part_bound, room_left, in_body, typed_is_sorted, bound_in-typed, counted-add, counted-next}
+use Rattle.csdn_types.proofs.Sorts.{terms_have, flow_have, packet_have, no_fault, fault_free, free_left, free_right, part_bound, scope_later, scope_bound, room_left, greater, pushed, none_bound, typed_is_sorted, bound_in-typed, counted-add, counted-next}
 
 part_later : (s : Scope) (S : Signature) (n : ℕ) → IsPart s S → IsPart (later s n) S
 part_later s S n part = record { relations = part.relations; constants = part.constants }
 
 -- a relation that is written
-use_is_write : (s : Scope) (S : Signature) → IsPart s S → (at : ℕ) (ts : List RawTerm) (id : ℕ) (d : Option Relation) → slice_get s.relations id ≡ d → HaveNumerals S ts → use_faults Write s at ts d ≡ [] → IsWrite S (binds_of s) (record { 0 = id }) (terms_of s ts)
-use_is_write s S part at ts id None is numerals free = absurd cc
-use_is_write s S part at ts id (Some d) is numerals free =
+use_is_write : (s : Scope) (S : Signature) (Γ : SortedScope) → IsPart s S → IsScopeOf s Γ → (at : ℕ) (ts : List RawTerm) (id : ℕ) (d : Option Relation) → slice_get s.relations id ≡ d → HaveNumerals S ts → use_faults Write s at ts d ≡ [] → IsWrite S Γ (record { 0 = id }) (terms_of s ts)
+use_is_write s S Γ part scope at ts id None is numerals free = absurd cc
+use_is_write s S Γ part scope at ts id (Some d) is numerals free =
     let arity = fault_if (not (length ts == length d.sorts)) (WrongArity at) in
     let allowed = fault_if (is_forbidden Write d) (NotAllowed at) in
     let rest = free_right arity (allowed ++ terms_faults s d.sorts ts) free in
@@ -50,12 +50,12 @@ use_is_write s S part at ts id (Some d) is numerals free =
       relation = d;
       declared = part.relations id d is;
       stored = fault_free (is_forbidden Write d) (NotAllowed at) (free_left allowed (terms_faults s d.sorts ts) rest);
-      terms = terms_have s S part d.sorts ts many numerals (free_right allowed (terms_faults s d.sorts ts) rest);
+      terms = terms_have s S Γ part scope d.sorts ts many numerals (free_right allowed (terms_faults s d.sorts ts) rest);
     }
 
-relation_is_write : (s : Scope) (S : Signature) → IsPart s S → (at : ℕ) (ts : List RawTerm) (id : Option ℕ) → HaveNumerals S ts → relation_faults Write s at ts id ≡ [] → IsWrite S (binds_of s) (record { 0 = unwrap_or id 0 }) (terms_of s ts)
-relation_is_write s S part at ts None numerals free = absurd cc
-relation_is_write s S part at ts (Some id) numerals free = use_is_write s S part at ts id (slice_get s.relations id) refl numerals free
+relation_is_write : (s : Scope) (S : Signature) (Γ : SortedScope) → IsPart s S → IsScopeOf s Γ → (at : ℕ) (ts : List RawTerm) (id : Option ℕ) → HaveNumerals S ts → relation_faults Write s at ts id ≡ [] → IsWrite S Γ (record { 0 = unwrap_or id 0 }) (terms_of s ts)
+relation_is_write s S Γ part scope at ts None numerals free = absurd cc
+relation_is_write s S Γ part scope at ts (Some id) numerals free = use_is_write s S Γ part scope at ts id (slice_get s.relations id) refl numerals free
 
 -- an own term is the handler's
 own_is : (s : Scope) (sort : Sort) (own : Term) (t : RawTerm) → own_faults s sort own t ≡ [] → term_of s t ≡ own
@@ -64,14 +64,14 @@ own_is s sort own t free = same_term-is (term_of s t) own (no_fault (same_term (
 own_free : (s : Scope) (sort : Sort) (own : Term) (t : RawTerm) → own_faults s sort own t ≡ [] → term_faults s sort t ≡ []
 own_free s sort own t free = free_left (term_faults s sort t) _ free
 
-module _ (S : Signature) (own : OwnTerms) where
-  install_is : (s : Scope) → IsPart s S → (w : RawFlow) → HaveNumerals S (Name w.switch ∷ w.source ∷ w.target ∷ w.ingress ∷ w.egress ∷ []) → own_faults s Sw own.switch (Name w.switch) ++ flow_faults s w ≡ [] → IsInstall S (seen own) (binds_of s) (term_of s (Name w.switch) ∷ flow_of s w)
-  install_is s part w numerals free =
+module _ (S : Signature) (own : OwnTerms) (s : Scope) (Γ : SortedScope) (part : IsPart s S) (scope : IsScopeOf s Γ) where
+  install_is : (w : RawFlow) → HaveNumerals S (Name w.switch ∷ w.source ∷ w.target ∷ w.ingress ∷ w.egress ∷ []) → own_faults s Sw own.switch (Name w.switch) ++ flow_faults s w ≡ [] → IsInstall S (seen own) Γ (term_of s (Name w.switch) ∷ flow_of s w)
+  install_is w numerals free =
       let first = free_left (own_faults s Sw own.switch (Name w.switch)) _ free in
-      record { rest = flow_of s w; is = ap (λ t. t ∷ flow_of s w) (own_is s Sw own.switch (Name w.switch) first); terms = flow_have s S part w numerals (own_free s Sw own.switch (Name w.switch) first) (free_right (own_faults s Sw own.switch (Name w.switch)) _ free) }
+      record { rest = flow_of s w; is = ap (λ t. t ∷ flow_of s w) (own_is s Sw own.switch (Name w.switch) first); terms = flow_have s S Γ part scope w numerals (own_free s Sw own.switch (Name w.switch) first) (free_right (own_faults s Sw own.switch (Name w.switch)) _ free) }
 
-  forward_is : (s : Scope) → IsPart s S → (w : RawFlow) → HaveNumerals S (Name w.switch ∷ w.source ∷ w.target ∷ w.ingress ∷ w.egress ∷ []) → forward_faults own s w ≡ [] → IsForward S (seen own) (binds_of s) (term_of s (Name w.switch) ∷ flow_of s w)
-  forward_is s part w numerals free =
+  forward_is : (w : RawFlow) → HaveNumerals S (Name w.switch ∷ w.source ∷ w.target ∷ w.ingress ∷ w.egress ∷ []) → forward_faults own s w ≡ [] → IsForward S (seen own) Γ (term_of s (Name w.switch) ∷ flow_of s w)
+  forward_is w numerals free =
       let switch = free_left (own_faults s Sw own.switch (Name w.switch)) _ free in
       let after_switch = free_right (own_faults s Sw own.switch (Name w.switch)) _ free in
       let source = free_left (own_faults s Ho own.source w.source) _ after_switch in
@@ -83,7 +83,7 @@ module _ (S : Signature) (own : OwnTerms) where
       record {
         egress = term_of s w.egress;
         is = rw (own_is s Sw own.switch (Name w.switch) switch, own_is s Ho own.source w.source source, own_is s Ho own.target w.target target, own_is s Pr own.ingress w.ingress ingress);
-        terms = flow_have s S part w numerals (own_free s Sw own.switch (Name w.switch) switch)
+        terms = flow_have s S Γ part scope w numerals (own_free s Sw own.switch (Name w.switch) switch)
             (free_both (term_faults s Ho w.source) _ (own_free s Ho own.source w.source source)
             (free_both (term_faults s Ho w.target) _ (own_free s Ho own.target w.target target)
             (free_both (term_faults s Pr w.ingress) _ (own_free s Pr own.ingress w.ingress ingress) egress)));
@@ -115,8 +115,8 @@ command_bound_in-typed s (c.Uninstall w) = refl
 command_bound_in-typed s (c.Forward w) = refl
 command_bound_in-typed s (c.Flood w) = refl
 
-flood_parts : (S : Signature) (own : OwnTerms) (s : Scope) → IsPart s S → (w : RawPacket) → HaveNumerals S (Name w.switch ∷ w.source ∷ w.target ∷ w.ingress ∷ []) → flood_faults own s w ≡ [] → IsFlood S (seen own) (binds_of s) (term_of s (Name w.switch) ∷ packet_of s w)
-flood_parts S own s part w numerals free =
+flood_parts : (S : Signature) (own : OwnTerms) (s : Scope) (Γ : SortedScope) → IsPart s S → IsScopeOf s Γ → (w : RawPacket) → HaveNumerals S (Name w.switch ∷ w.source ∷ w.target ∷ w.ingress ∷ []) → flood_faults own s w ≡ [] → IsFlood S (seen own) Γ (term_of s (Name w.switch) ∷ packet_of s w)
+flood_parts S own s Γ part scope w numerals free =
     let switch = free_left (own_faults s Sw own.switch (Name w.switch)) _ free in
     let after_switch = free_right (own_faults s Sw own.switch (Name w.switch)) _ free in
     let source = free_left (own_faults s Ho own.source w.source) _ after_switch in
@@ -125,42 +125,51 @@ flood_parts S own s part w numerals free =
     let ingress = free_right (own_faults s Ho own.target w.target) _ after_source in
     record {
       is = rw (own_is s Sw own.switch (Name w.switch) switch, own_is s Ho own.source w.source source, own_is s Ho own.target w.target target, own_is s Pr own.ingress w.ingress ingress);
-      terms = packet_have s S part w numerals (own_free s Sw own.switch (Name w.switch) switch)
+      terms = packet_have s S Γ part scope w numerals (own_free s Sw own.switch (Name w.switch) switch)
           (free_both (term_faults s Ho w.source) _ (own_free s Ho own.source w.source source)
           (free_both (term_faults s Ho w.target) (term_faults s Pr w.ingress) (own_free s Ho own.target w.target target) (own_free s Pr own.ingress w.ingress ingress)));
     }
 
-in_block : (S : Signature) (own : OwnTerms) (s : Scope) (name : RawName) (sort : Sort) (n : ℕ) (x : Command) → IsCommand S (seen own) (binds_of (later (bound s name sort) n)) x → IsCommand S (seen own) (binds_of s ++ record { var = next_var s; sort = sort } ∷ []) x
-in_block S own s name sort n x sorted = subst (λ Γ. IsCommand S (seen own) Γ x) (map-append bind_of s.variables _) sorted
+-- well-sorted in the scope, with room for the variables that it binds
+abbrev pub CommandFits : Signature → OwnTerms → Scope → SortedScope → Command → Type 0
+CommandFits S own s Γ x = IsCommand S (seen own) Γ x × (length s.variables + command_depth x ≤ most_variables)
 
-pub command_is_sorted : (S : Signature) (own : OwnTerms) (s : Scope) (x : RawCommand) → IsPart s S → CommandNumerals S x → command_faults own s x ≡ [] → IsCommand S (seen own) (binds_of s) (command_typed s x)
-unfolding CommandNumerals command_faults command_typed IsCommand
-command_is_sorted S own s c.Skip part numerals free = tt
-command_is_sorted S own s (raw_seq a b) part numerals free =
-    rw Seq-is (
-      command_is_sorted S own s a part numerals.0 (free_left (command_faults own s a) _ free),
-      command_is_sorted S own (later s (command_binders a)) b (part_later s S (command_binders a) part) numerals.1 (free_right (command_faults own s a) _ free),
-    )
-command_is_sorted S own s (raw_if p a b) part numerals free =
+pub command_is_sorted : (S : Signature) (own : OwnTerms) (s : Scope) (Γ : SortedScope) (x : RawCommand) → IsPart s S → IsScopeOf s Γ → CommandNumerals S x → command_faults own s x ≡ [] → CommandFits S own s Γ (command_typed s x)
+unfolding CommandNumerals command_faults command_typed IsCommand command_depth
+command_is_sorted S own s Γ c.Skip part scope numerals free = (tt, none_bound s Γ scope)
+command_is_sorted S own s Γ (raw_seq a b) part scope numerals free =
+    let in_a = command_is_sorted S own s Γ a part scope numerals.0 (free_left (command_faults own s a) _ free) in
+    let in_b = command_is_sorted S own (later s (command_binders a)) Γ b (part_later s S (command_binders a) part) (scope_later s Γ (command_binders a) scope) numerals.1 (free_right (command_faults own s a) _ free) in
+    rw Seq-is ((in_a.0, in_b.0), greater (length s.variables) (command_depth (command_typed s a)) (command_depth (command_typed (later s (command_binders a)) b)) in_a.1 in_b.1)
+command_is_sorted S own s Γ (raw_if p a b) part scope numerals free =
     let rest = free_right (faults InHandler s p) _ free in
-    rw If-is (
-      typed_is_sorted S InHandler s p part numerals.0 (free_left (faults InHandler s p) _ free),
-      command_is_sorted S own (later s (binders p)) a (part_later s S (binders p) part) numerals.1 (free_left (command_faults own (later s (binders p)) a) _ rest),
-      command_is_sorted S own (later s (binders p + command_binders a)) b (part_later s S (binders p + command_binders a) part) numerals.2 (free_right (command_faults own (later s (binders p)) a) _ rest),
-    )
-command_is_sorted S own s (raw_pick name sort p a b) part numerals free =
+    let k = binders p in
+    let l = binders p + command_binders a in
+    let in_p = typed_is_sorted S InHandler s Γ p part scope numerals.0 (free_left (faults InHandler s p) _ free) in
+    let in_a = command_is_sorted S own (later s k) Γ a (part_later s S k part) (scope_later s Γ k scope) numerals.1 (free_left (command_faults own (later s k) a) _ rest) in
+    let in_b = command_is_sorted S own (later s l) Γ b (part_later s S l part) (scope_later s Γ l scope) numerals.2 (free_right (command_faults own (later s k) a) _ rest) in
+    let a_binds = command_depth (command_typed (later s k) a) in
+    let b_binds = command_depth (command_typed (later s l) b) in
+    rw If-is ((in_p.0, in_a.0, in_b.0), greater (length s.variables) (depth (typed s p)) (max a_binds b_binds) in_p.1 (greater (length s.variables) a_binds b_binds in_a.1 in_b.1))
+command_is_sorted S own s Γ (raw_pick name sort p a b) part scope numerals free =
     let inner = bound s name sort in
-    let first = free_left (variable_faults s name ++ (faults InHandler inner p ++ command_faults own (later inner (binders p)) a)) _ free in
+    let k = binders p in
+    let l = (1 + binders p) + command_binders a in
+    let first = free_left (variable_faults s name ++ (faults InHandler inner p ++ command_faults own (later inner k) a)) _ free in
     let rest = free_right (variable_faults s name) _ first in
-    rw Pick-is (
-      room_left s name (free_left (variable_faults s name) _ first),
-      in_body S InHandler s name sort (typed inner p) (typed_is_sorted S InHandler inner p (part_bound s S name sort part) numerals.0 (free_left (faults InHandler inner p) _ rest)),
-      in_block S own s name sort (binders p) (command_typed (later inner (binders p)) a) (command_is_sorted S own (later inner (binders p)) a (part_later inner S (binders p) (part_bound s S name sort part)) numerals.1 (free_right (faults InHandler inner p) _ rest)),
-      command_is_sorted S own (later s ((1 + binders p) + command_binders a)) b (part_later s S ((1 + binders p) + command_binders a) part) numerals.2 (free_right (variable_faults s name ++ (faults InHandler inner p ++ command_faults own (later inner (binders p)) a)) _ free),
-    )
-command_is_sorted S own s (c.Insert name us) part numerals free = relation_is_write s S part name.at us (relation_named s name.text) numerals free
-command_is_sorted S own s (c.Remove name us) part numerals free = relation_is_write s S part name.at us (relation_named s name.text) numerals free
-command_is_sorted S own s (c.Install w) part numerals free = install_is S own s part w numerals free
-command_is_sorted S own s (c.Uninstall w) part numerals free = install_is S own s part w numerals free
-command_is_sorted S own s (c.Forward w) part numerals free = forward_is S own s part w numerals free
-command_is_sorted S own s (c.Flood w) part numerals free = flood_parts S own s part w numerals free
+    let Δ = with_sort Γ (next_var s) sort in
+    let inner_part = part_bound s S name sort part in
+    let inner_scope = scope_bound s Γ name sort (room_left s name (free_left (variable_faults s name) _ first)) scope in
+    let in_p = typed_is_sorted S InHandler inner Δ p inner_part inner_scope numerals.0 (free_left (faults InHandler inner p) _ rest) in
+    let in_a = command_is_sorted S own (later inner k) Δ a (part_later inner S k inner_part) (scope_later inner Δ k inner_scope) numerals.1 (free_right (faults InHandler inner p) _ rest) in
+    let in_b = command_is_sorted S own (later s l) Γ b (part_later s S l part) (scope_later s Γ l scope) numerals.2 (free_right (variable_faults s name ++ (faults InHandler inner p ++ command_faults own (later inner k) a)) _ free) in
+    let p_binds = depth (typed inner p) in
+    let a_binds = command_depth (command_typed (later inner k) a) in
+    let b_binds = command_depth (command_typed (later s l) b) in
+    rw Pick-is ((in_p.0, in_a.0, in_b.0), greater (length s.variables) (max p_binds a_binds + 1) b_binds (pushed s name sort (max p_binds a_binds) (greater (length inner.variables) p_binds a_binds in_p.1 in_a.1)) in_b.1)
+command_is_sorted S own s Γ (c.Insert name us) part scope numerals free = (relation_is_write s S Γ part scope name.at us (relation_named s name.text) numerals free, none_bound s Γ scope)
+command_is_sorted S own s Γ (c.Remove name us) part scope numerals free = (relation_is_write s S Γ part scope name.at us (relation_named s name.text) numerals free, none_bound s Γ scope)
+command_is_sorted S own s Γ (c.Install w) part scope numerals free = (install_is S own s Γ part scope w numerals free, none_bound s Γ scope)
+command_is_sorted S own s Γ (c.Uninstall w) part scope numerals free = (install_is S own s Γ part scope w numerals free, none_bound s Γ scope)
+command_is_sorted S own s Γ (c.Forward w) part scope numerals free = (forward_is S own s Γ part scope w numerals free, none_bound s Γ scope)
+command_is_sorted S own s Γ (c.Flood w) part scope numerals free = (flood_parts S own s Γ part scope w numerals free, none_bound s Γ scope)

@@ -1,5 +1,5 @@
 -- What the items that break no rule declare is well-sorted.
-use Rattle.std.proofs.Common.{◌≡◌, ℕ, ◌+◌, ◌==◌, false, not, List, [], ◌∷◌, ◌++◌, length, map, All, Contains, Some, slice_get, nat_le, refl, ap, subst, inl, inr, arith}
+use Rattle.std.proofs.Common.{◌≡◌, ℕ, ◌+◌, ◌==◌, false, not, List, [], ◌∷◌, ◌++◌, length, map, All, Contains, Some, slice_get, nat_le, refl, inl, inr, arith}
 use Rattle.std.specs.List.{AllByRecursion as ByRecursion}
 use Rattle.std.proofs.lemmas.Bool.{cases_Bool, eqb-true}
 use Rattle.std.proofs.lemmas.List.Elements.{All-push, All-append, All-from_recursion}
@@ -9,10 +9,10 @@ use Rattle.csdn_core.specs.declared.terms.Place.TheVariants as place
 use Rattle.csdn_core.specs.declared.terms.RelId.{RelId}
 use Rattle.csdn_core.specs.declared.program.Relation.{Relation as AnyRelation}
 use Rattle.csdn_core.specs.declared.program.Invariant.{Invariant as NamedFormula}
-use Rattle.csdn_core.specs.declared.program.Handler.{Handler as TypedHandler}
 use Rattle.csdn_core.specs.declared.program.Parts.{Parts}
-use Rattle.csdn_core.specs.Sorted.{Signature, HaveSorts, IsSorted}
-use Rattle.csdn_core.specs.WellSorted.{signature, IsStartRow, IsCommand, IsTimeout, own_packet, handler_binds}
+use Rattle.csdn_core.specs.Sorted.{Signature}
+use Rattle.csdn_core.specs.SortedIn.{no_scope}
+use Rattle.csdn_core.specs.WellSorted.{IsSorted, IsHandler, signature, IsStartRow, IsTimeout}
 use Rattle.csdn_tree.specs.declared.names.RawName.{RawName}
 use Rattle.csdn_tree.specs.declared.syntax.InvariantKind.TheVariants.{Topology, Safety, Trans}
 use Rattle.csdn_tree.specs.declared.syntax.RawFormula.{RawFormula}
@@ -25,12 +25,11 @@ use Rattle.csdn_tree.specs.Numerals.{terms_numerals, formula_numerals, command_n
 use Rattle.csdn_types.specs.declared.refusal.SortRefusal.TheVariants.{WrongArity, TooMany}
 use Rattle.csdn_types.specs.Scope.{Scope}
 use Rattle.csdn_types.specs.Faults.{fault_if, faults, terms_faults}
-use Rattle.csdn_types.specs.Typed.{typed, terms_of}
 use Rattle.csdn_types.specs.Items.{row_faults, rows_faults, name_faults, row_of, rows_of, handler_of}
 use Rattle.csdn_types.specs.Programs.{Draft, named_formula, invariant_faults, item_faults, with_item, items_faults, with_items}
-use Rattle.csdn_types.specs.Signed.{bind_of, IsPart}
+use Rattle.csdn_types.specs.Signed.{IsPart}
 use Rattle.csdn_types.proofs.NumeralSorts.{Named, all_left, all_right, terms_named, formula_named, command_named}
-use Rattle.csdn_types.proofs.Sorts.{free_left, free_right, no_fault, terms_have, typed_is_sorted}
+use Rattle.csdn_types.proofs.Sorts.{free_left, free_right, no_fault, scope_none, terms_have, typed_is_sorted}
 use Rattle.csdn_types.proofs.HandlerSorts.{handler_is_sorted}
 
 -- ---- a declaration keeps its place
@@ -67,17 +66,14 @@ none-item d (Timeout t) none = none
 
 module _ (P : Parts) where
   abbrev pub SortedAt : Place → NamedFormula → Type 0
-  SortedAt place v = IsSorted (signature P) place [] v.formula
-
-  abbrev pub SortedHandler : TypedHandler → Type 0
-  SortedHandler h = IsCommand (signature P) (own_packet h) (handler_binds h) h.body
+  SortedAt place v = IsSorted (signature P) place v.formula
 
   pub record SortedDraft (d : Draft) : Type 0 where
     pub start : All (IsStartRow P) d.start
     pub topology : All (SortedAt place.Topology) d.topology
     pub safety : All (SortedAt place.Safety) d.safety
     pub trans : All (SortedAt place.Trans) d.trans
-    pub handlers : All SortedHandler d.handlers
+    pub handlers : All (IsHandler (signature P)) d.handlers
 
   rows_sorted : (s : Scope) → s.variables ≡ [] → IsPart s (signature P) → (id : RelId) (relation : AnyRelation) → slice_get P.relations id.0 ≡ Some relation → relation.fixed ≡ false
       → (count : ℕ) (rows : List RawRow) → Named (signature P) (rows_numerals rows) → rows_faults s relation.sorts count rows ≡ [] → ByRecursion (IsStartRow P) (map (row_of s id) rows)
@@ -87,8 +83,8 @@ module _ (P : Parts) where
       let here = free_left (row_faults s relation.sorts count row) _ free in
       let arity = eqb-true _ _ (no_fault (length row.terms == length relation.sorts) (WrongArity row.at) (free_left (fault_if (not (length row.terms == length relation.sorts)) (WrongArity row.at)) _ here)) in
       let terms = free_right (fault_if (nat_le 1024 count) (TooMany row.at)) (terms_faults s relation.sorts row.terms) (free_right (fault_if (not (length row.terms == length relation.sorts)) (WrongArity row.at)) _ here) in
-      let has = terms_have s (signature P) part relation.sorts row.terms arity (terms_named (signature P) row.terms (all_left (Contains P.numerals) (terms_numerals row.terms) (rows_numerals rows) numerals)) terms in (
-        record { relation = relation; declared = declared; stored = stored; terms = subst (λ Γ. HaveSorts (signature P) Γ relation.sorts (terms_of s row.terms)) (ap (λ vs. map bind_of vs) none) has },
+      let has = terms_have s (signature P) no_scope part (scope_none s none) relation.sorts row.terms arity (terms_named (signature P) row.terms (all_left (Contains P.numerals) (terms_numerals row.terms) (rows_numerals rows) numerals)) terms in (
+        record { relation = relation; declared = declared; stored = stored; terms = has },
         rows_sorted s none part id relation declared stored (count + 1) rows (all_right (Contains P.numerals) (terms_numerals row.terms) (rows_numerals rows) numerals) (free_right (row_faults s relation.sorts count row) _ free),
       )
 
@@ -102,7 +98,8 @@ module _ (P : Parts) where
 
   sorted-formula : (d : Draft) (at : Place) (name : RawName) (p : RawFormula) → d.scope.variables ≡ [] → IsPart d.scope (signature P) → Named (signature P) (formula_numerals p) → faults at d.scope p ≡ [] → SortedAt at (named_formula d.scope name p)
   sorted-formula d at name p none part numerals free =
-      subst (λ Γ. IsSorted (signature P) at Γ (typed d.scope p)) (ap (λ vs. map bind_of vs) none) (typed_is_sorted (signature P) at d.scope p part (formula_named (signature P) p numerals) free)
+      let fits = typed_is_sorted (signature P) at d.scope no_scope p part (scope_none d.scope none) (formula_named (signature P) p numerals) free in
+      record { sorts = fits.0; few = (let room = fits.1 in omega (arith, room)) }
 
   sorted-item : (d : Draft) (item : RawItem) → d.scope.variables ≡ [] → IsPart (with_item d item).scope (signature P) → Named (signature P) (item_numerals item) → KeepsStatics item → item_faults d item ≡ [] → SortedDraft d → SortedDraft (with_item d item)
   sorted-item d (Relation r) none part numerals statics free h = record {
@@ -139,7 +136,7 @@ module _ (P : Parts) where
     topology = h.topology;
     safety = h.safety;
     trans = h.trans;
-    handlers = All-push SortedHandler d.handlers (handler_of d.scope x) h.handlers
+    handlers = All-push (IsHandler (signature P)) d.handlers (handler_of d.scope x) h.handlers
         (handler_is_sorted (signature P) d.scope (length d.handlers) x none (part-item (signature P) d (Handler x) part) (command_named (signature P) x.body (all_right (Contains P.numerals) (port_numerals x.ingress) (command_numerals x.body) numerals)) free);
   }
   sorted-item d (Timeout t) none part numerals statics free h = record { start = h.start; topology = h.topology; safety = h.safety; trans = h.trans; handlers = h.handlers }

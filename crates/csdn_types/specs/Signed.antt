@@ -1,8 +1,9 @@
 -- How a tree and its scope fit a signature.
-use Rattle.std.specs.Prelude.{◌≡◌, ℕ, ◌+◌, zero, suc, List, [], ◌∷◌, map, Some, slice_get, Contains}
+use Rattle.std.specs.Prelude.{◌≡◌, ℕ, ◌+◌, ◌≤◌, zero, suc, List, [], ◌∷◌, length, map, Some, None, slice_get, Contains}
 use Rattle.csdn_core.specs.declared.program.Relation.{Relation}
 use Rattle.csdn_core.specs.declared.program.Constant.{Constant}
-use Rattle.csdn_core.specs.Sorted.{Signature, Bind}
+use Rattle.csdn_core.specs.Sorted.{Signature, Bind, most_variables}
+use Rattle.csdn_core.specs.SortedIn.{Scope as SortedScope}
 use Rattle.csdn_tree.specs.declared.names.RawTerm.{RawTerm}
 use Rattle.csdn_tree.specs.declared.names.RawTerm.TheVariants.{Name, Port}
 use Rattle.csdn_tree.specs.declared.syntax.RawFormula.{RawFormula}
@@ -21,6 +22,12 @@ bind_of v = record { var = v.var; sort = v.sort }
 -- the variables in scope, with their sorts
 abbrev pub binds_of : Scope → List Bind
 binds_of s = map bind_of s.variables
+
+-- the scope has the variables with their sorts, the numbers that come next are free in it, and there is no variable too many
+pub record IsScopeOf (s : Scope) (Γ : SortedScope) : Type 0 where
+  pub known : (b : Bind) → Contains (binds_of s) b → Γ b.var.0 ≡ Some b.sort
+  pub free : (n : ℕ) → s.next ≤ n → Γ n ≡ None
+  pub few : length s.variables ≤ most_variables
 
 -- the declarations so far stand in the whole signature
 pub record IsPart (s : Scope) (S : Signature) : Type 0 where

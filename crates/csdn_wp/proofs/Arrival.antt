@@ -5,6 +5,7 @@ use Rattle.std.proofs.Math.Path.{fun_ext}
 use Rattle.general_facts.proofs.Numbers.{self_equal}
 use Rattle.std.proofs.lemmas.Option.{none-some}
 use Rattle.fol_forms.proofs.ClosedTruth.{all_at}
+use Rattle.std.proofs.Math.Bool.{and-true}
 use Rattle.csdn_core.specs.declared.terms.VarId.{VarId}
 use Rattle.csdn_core.specs.declared.terms.Sort.TheVariants.{Sw, Ho, Pr}
 use Rattle.csdn_core.specs.declared.terms.Term.{Term}
@@ -51,11 +52,7 @@ not_among [] i = true
 not_among (k ∷ ks) i = not (i == k) && not_among ks i
 
 not_among-push : (ks : List ℕ) (k i : ℕ) → not_among (ks ++ k ∷ []) i ≡ (not_among ks i && not (i == k))
-not_among-push [] k i = and_true (not (i == k))
-  where
-    and_true : (b : Bool) → (b && true) ≡ b
-    and_true true = refl
-    and_true false = refl
+not_among-push [] k i = and-true (not (i == k))
 not_among-push (m ∷ ks) k i = step (not (i == m)) _ _ _ (not_among-push ks k i)
   where
     step : (a b c d : Bool) → b ≡ (c && d) → (a && b) ≡ ((a && c) && d)
@@ -73,11 +70,7 @@ module _ (M : Structure) (e : Assignment) where
 
   truth-and_also : (p : Formula) (q : Option Formula) → truth M (and_also p q) e ≡ (truth M p e && guard_true q)
   unfolding truth guard_true
-  truth-and_also p None = sym (and_true (truth M p e))
-    where
-      and_true : (b : Bool) → (b && true) ≡ b
-      and_true true = refl
-      and_true false = refl
+  truth-and_also p None = sym (and-true (truth M p e))
   truth-and_also p (Some q) = refl
 
   truth-guard : (ks : List ℕ) (port : Option ℕ) (i : VarId) → guard_true (guard ks port i) ≡ passes ks port (e i.0)

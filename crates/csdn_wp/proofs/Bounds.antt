@@ -2,7 +2,7 @@
 use Rattle.std.proofs.Common.{◌≡◌, ◌⊎◌, inl, inr, ℕ, ◌+◌, ◌≤◌, Bool, true, false, List, [], ◌∷◌, ◌++◌, refl, ap, ap₂, subst, arith, if◌then◌else◌}
 use Rattle.csdn_core.specs.declared.terms.Term.{Term}
 use Rattle.csdn_core.specs.declared.terms.Pred.{Pred}
-use Rattle.csdn_core.specs.declared.terms.Pred.TheVariants.{Ft, Sent, RcvThis}
+use Rattle.csdn_core.specs.declared.terms.Pred.TheVariants.{Sent, RcvThis}
 use Rattle.csdn_core.specs.declared.syntax.Formula.{Formula}
 use Rattle.csdn_core.specs.declared.syntax.Formula.TheVariants as f
 use Rattle.csdn_core.specs.declared.syntax.Command.{Command}
@@ -12,7 +12,7 @@ use Rattle.csdn_core.specs.Truth.{with_var}
 use Rattle.csdn_core.specs.Network.{same_pred}
 use Rattle.csdn_core.specs.Sorted.{bound_in}
 use Rattle.csdn_core.specs.WellSorted.{command_bound_in}
-use Rattle.fol_forms.specs.Replace.{replace, same, or_row, not_row, not_match, or_flood, is_row, no_row, floods, rule_of}
+use Rattle.fol_forms.specs.Replace.{replace, same, or_row, not_row, or_flood, is_row, no_row, floods}
 use Rattle.fol_forms.specs.Renumber.{binders, renumbered}
 use Rattle.csdn_wp.specs.Preconditions.{wp}
 use Rattle.csdn_core.specs.Members.{IsIn}
@@ -53,15 +53,6 @@ bound_in-floods _ _ = refl
 pub bound_in-or_flood : (ts : List Term) (q : Pred) (us : List Term) → bound_in (or_flood ts q us) ≡ []
 unfolding bound_in
 bound_in-or_flood ts q us = binds_none (same_pred q Sent) (disjunction (f.Atom q us) (floods ts us)) (f.Atom q us) (bound_in-floods ts us) refl
-
-bound_in-rule_of : (ts us : List Term) → bound_in (rule_of ts us) ≡ []
-unfolding bound_in
-bound_in-rule_of (s ∷ a ∷ b ∷ i ∷ []) (u ∷ v ∷ w ∷ j ∷ o ∷ []) = refl
-bound_in-rule_of _ _ = refl
-
-pub bound_in-not_match : (ts : List Term) (q : Pred) (us : List Term) → bound_in (not_match ts q us) ≡ []
-unfolding bound_in
-bound_in-not_match ts q us = binds_none (same_pred q Ft) (conjunction (f.Atom q us) (negation (rule_of ts us))) (f.Atom q us) (bound_in-rule_of ts us) refl
 
 pub bound_in-no_row : (q : Pred) (us : List Term) → bound_in (no_row q us) ≡ []
 unfolding bound_in

@@ -9,7 +9,7 @@ use Rattle.csdn_core.specs.declared.syntax.Formula.{Formula}
 use Rattle.csdn_core.specs.declared.syntax.Formula.TheVariants as f
 use Rattle.csdn_core.specs.declared.syntax.Command.{Command}
 use Rattle.csdn_core.specs.declared.syntax.Command.TheVariants as c
-use Rattle.csdn_core.specs.Tree.{Seq-is, If-is, Pick-is, Not-is, And-is, Implies-is, Forall-is, Exists-is}
+use Rattle.csdn_core.proofs.Shapes.{Seq-is, If-is, Pick-is, Not-is, And-is, Implies-is, Forall-is, Exists-is}
 use Rattle.fol_forms.specs.Replace.{add_row, drop_row, add_flood}
 use Rattle.csdn_wp.specs.Preconditions.{wp}
 

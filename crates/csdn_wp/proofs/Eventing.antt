@@ -6,7 +6,7 @@ use Rattle.csdn_core.specs.declared.program.Handler.{Handler}
 use Rattle.csdn_core.specs.declared.program.Parts.{Parts}
 use Rattle.csdn_core.specs.declared.syntax.Formula.{Formula}
 use Rattle.csdn_core.specs.declared.syntax.Formula.TheVariants as f
-use Rattle.csdn_core.specs.Tree.{Implies-is}
+use Rattle.csdn_core.proofs.Shapes.{Implies-is}
 use Rattle.csdn_core.specs.Nodes.{nodes}
 use Rattle.csdn_core.specs.Sorted.{most_numbers}
 use Rattle.fol_forms.specs.declared.close.Bind.{Bind}

@@ -16,7 +16,7 @@ use Rattle.csdn_core.specs.Truth.{truth}
 use Rattle.csdn_core.specs.Network.{Network, State, IsNetwork, elements, structure}
 use Rattle.csdn_core.specs.Execution.{put, Executes}
 use Rattle.csdn_core.specs.Run.{empty_state, no_values, Step}
-use Rattle.csdn_core.specs.Sorted.{HaveSorts, flow_sorts, bound_in}
+use Rattle.csdn_core.specs.Sorted.{flow_sorts, bound_in}
 use Rattle.csdn_core.specs.SortedIn.{any_relation, no_scope, HaveSortsIn, IsSortedIn}
 use Rattle.csdn_core.specs.WellSorted.{IsWellSorted, IsCommand, signature, command_bound_in}
 use Rattle.csdn_core.proofs.ExamplesSyntax.{var, rel, x, holds, relation}
@@ -189,7 +189,7 @@ abbrev unknown : Formula
 unknown = negation (holds 0 [])
 
 may_learn : MayPrecede with_known [] learns unknown
-unfolding IsCommand HaveSorts IsSortedIn HaveSortsIn command_bound_in bound_in stands_in
+unfolding IsCommand IsSortedIn HaveSortsIn command_bound_in bound_in stands_in
 may_learn = record {
   own = record { switch = x 0; source = x 1; target = x 2; ingress = x 3 };
   command = record { relation = relation []; declared = refl; stored = refl; terms = tt };

@@ -1,5 +1,6 @@
 -- A precondition has at least as many nodes as the formula after the command.
-use Rattle.std.proofs.Common.{◌≡◌, ℕ, ◌+◌, ◌≤◌, List, [], ◌∷◌, ◌++◌, Option, Some, None, arith, refl}
+use Rattle.std.proofs.Common.{ℕ, ◌+◌, ◌≤◌, List, [], ◌∷◌, ◌++◌, Option, Some, None, arith}
+use Rattle.fol_forms.proofs.WrittenNodes.{both_nodes}
 use Rattle.csdn_core.specs.declared.terms.Term.{Term}
 use Rattle.csdn_core.specs.declared.terms.Pred.{Pred}
 use Rattle.csdn_core.specs.declared.syntax.Formula.{Formula}
@@ -60,10 +61,6 @@ wp_grows (Uninstall ts) q = replace_grows _ q
 wp_grows (Forward ts) q = replace_grows _ q
 wp_grows (Flood ts) q = replace_grows _ q
 
-pub nodes-two : (p q : Formula) → nodes (conjunction p q) ≡ nodes p + nodes q + 1
-unfolding nodes
-nodes-two p q = refl
-
 -- a member, and all of them
 
 pub guarded_grows : (g : Option Formula) (p : Formula) → nodes p ≤ nodes (guarded g p)
@@ -87,7 +84,7 @@ first_grows h hs ks q = by_port h.port (member ks (handler_vars h) h.port h.body
   where
     by_port : (port : Option ℕ) (first : Formula) → nodes first ≤ nodes (and_later port ks first (λ more. members hs more q))
     by_port None first = omega arith
-    by_port (Some k) first = omega (arith, nodes-two first (members hs (ks ++ k ∷ []) q))
+    by_port (Some k) first = omega (arith, both_nodes first (members hs (ks ++ k ∷ []) q))
 
 pub members_grow : (hs : List Handler) (ks : List ℕ) (q : Formula) → nodes q ≤ nodes (members hs ks q)
 unfolding members

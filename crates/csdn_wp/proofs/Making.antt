@@ -5,7 +5,8 @@ use Rattle.csdn_core.specs.declared.terms.Sort.{Sort}
 use Rattle.csdn_core.specs.declared.syntax.Formula.{Formula}
 use Rattle.csdn_core.specs.declared.syntax.Formula.TheVariants as f
 use Rattle.csdn_core.specs.declared.syntax.Command.{Command}
-use Rattle.csdn_core.specs.Nodes.{nodes, nodes-And, nodes-Implies, nodes-Forall}
+use Rattle.csdn_core.specs.Nodes.{nodes}
+use Rattle.csdn_core.proofs.NodeSteps.{nodes-And, nodes-Implies, nodes-Forall}
 use Rattle.fol_forms.specs.declared.refusal.FormRefusal.{FormRefusal}
 use Rattle.fol_forms.specs.declared.refusal.FormRefusal.TheVariants.{Large, Memory}
 use Rattle.fol_forms.specs.Limits.{capped, most_nodes}

@@ -5,7 +5,7 @@ use Rattle.csdn_core.specs.declared.syntax.Formula.{Formula}
 use Rattle.csdn_core.specs.declared.syntax.Formula.TheVariants as f
 use Rattle.csdn_core.specs.declared.syntax.Command.{Command}
 use Rattle.csdn_core.specs.declared.syntax.Command.TheVariants.{Skip}
-use Rattle.csdn_core.specs.Tree.{And-is}
+use Rattle.csdn_core.proofs.Shapes.{And-is}
 use Rattle.fol_forms.specs.declared.refusal.FormRefusal.{FormRefusal}
 use Rattle.fol_forms.specs.Replace.{fix_packet}
 use Rattle.csdn_wp.specs.declared.vars.PacketVars.{PacketVars}

@@ -12,33 +12,29 @@ use Rattle.csdn_core.specs.Truth.{truth}
 use Rattle.csdn_core.specs.Network.{Network, State, IsNetwork, structure}
 use Rattle.csdn_core.specs.Run.{Step, no_values}
 use Rattle.csdn_core.specs.Sorted.{most_numbers}
-use Rattle.csdn_core.specs.WellSorted.{IsWellSorted, IsCommand, signature, own_packet, handler_binds, handler_bound_in, invariant_bound_in, all_bound_in}
+use Rattle.csdn_core.specs.WellSorted.{IsWellSorted, IsHandler, signature, own_packet, handler_bound_in, invariant_bound_in, all_bound_in}
 use Rattle.csdn_wp.specs.EventPreconditions.{handler_vars, wp_in}
 use Rattle.csdn_wp.proofs.Scopes.{command_in}
-use Rattle.csdn_wp.proofs.Arrival.{FalseOf, members_break, members_kept, AllFine, scope_binds, packet_scope, Fits, say, after}
+use Rattle.csdn_wp.proofs.Arrival.{FalseOf, members_break, members_kept, AllFine, packet_scope, Fits, say, after}
 use Rattle.csdn_core.proofs.Members.{distinct_left, distinct_right, distinct_pairs, in_left, in_right, in_contains}
 use Rattle.csdn_core.specs.Members.{IsIn, AreDistinct}
 use Rattle.csdn_core.specs.SortedIn.{no_scope, any_relation, IsSortedIn}
-use Rattle.csdn_core.proofs.Scopes.{AreNew, AreInScope-none, AreInScope-binds, AreNew-binds, AreNew-none}
 
 -- handlers whose commands are well-sorted and whose variables have numbers of their own below the bound
-pub all_fine : (P : Parts) (from : ℕ) (hs : List Handler) → ((h : Handler) → IsIn h hs → IsCommand (signature P) (own_packet h) (handler_binds h) h.body) →
+pub all_fine : (P : Parts) (from : ℕ) (hs : List Handler) → ((h : Handler) → IsIn h hs → IsHandler (signature P) h) →
     AreDistinct (flat_map handler_bound_in hs) → ((n : ℕ) → IsIn n (flat_map handler_bound_in hs) → n < from) → AllFine P from hs
 all_fine P from [] commands distinct below = tt
 all_fine P from (h ∷ hs) commands distinct below = (
   record {
     distinct = own;
     below = λ n i. below n (in_left (handler_bound_in h) (flat_map handler_bound_in hs) n i);
-    command = command_in P (own_packet h) h.body (handler_binds h) (packet_scope (handler_vars h)) (AreInScope-binds [] (scope_binds (handler_vars h)) no_scope _ new (AreInScope-none no_scope)) (AreNew-binds (scope_binds (handler_vars h)) no_scope _ new) (commands h (inl refl));
+    command = command_in P (own_packet h) h.body (packet_scope (handler_vars h)) (commands h (inl refl)).command;
   },
   all_fine P from hs (λ g i. commands g (inr i)) (distinct_right (handler_bound_in h) (flat_map handler_bound_in hs) distinct) (λ n i. below n (in_right (handler_bound_in h) (flat_map handler_bound_in hs) n i)),
 )
   where
     own : AreDistinct (handler_bound_in h)
     own = distinct_left (handler_bound_in h) (flat_map handler_bound_in hs) distinct
-
-    new : AreNew no_scope (handler_bound_in h)
-    new = AreNew-none (handler_bound_in h) own
 
 module _ (P : Parts) (well : IsWellSorted P) where
   in_topology : List ℕ
@@ -56,7 +52,7 @@ module _ (P : Parts) (well : IsWellSorted P) where
   pub handlers_fine : AllFine P most_numbers P.handlers
   unfolding in_topology in_safety in_trans in_handlers
   handlers_fine = all_fine P most_numbers P.handlers
-      (λ h i. All-contains (λ g. IsCommand (signature P) (own_packet g) (handler_binds g) g.body) P.handlers h well.handlers (in_contains P.handlers h i))
+      (λ h i. All-contains (IsHandler (signature P)) P.handlers h well.handlers (in_contains P.handlers h i))
       (distinct_right in_trans in_handlers (distinct_right in_safety (in_trans ++ in_handlers) (distinct_right in_topology (in_safety ++ (in_trans ++ in_handlers)) (distinct_pairs (all_bound_in P) well.apart))))
       (λ n i. All-contains (λ m. m < most_numbers) (all_bound_in P) n well.below
       (in_contains (all_bound_in P) n (in_right in_topology (in_safety ++ (in_trans ++ in_handlers)) n (in_right in_safety (in_trans ++ in_handlers) n (in_right in_trans in_handlers n i)))))

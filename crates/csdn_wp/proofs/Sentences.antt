@@ -1,12 +1,12 @@
 -- The preconditions of sentences are sentences.
-use Rattle.std.proofs.Common.{◌≡◌, ◌≢◌, inl, inr, ℕ, ◌≤◌, Bool, true, false, List, [], ◌∷◌, ◌++◌, Option, Some, None, refl, ap, sym, subst, Contains, AllPairs, arith, true≢false}
+use Rattle.std.proofs.Common.{◌≡◌, ◌≢◌, inl, inr, ℕ, ◌≤◌, Bool, true, false, List, [], ◌∷◌, ◌++◌, Option, Some, None, refl, ap, sym, subst, Contains, arith, true≢false}
 use Rattle.std.specs.List.{flat_map}
 use Rattle.csdn_core.specs.declared.terms.VarId.{VarId}
 use Rattle.csdn_core.specs.declared.terms.Sort.TheVariants.{Pr}
 use Rattle.csdn_core.specs.declared.terms.Pred.{Pred}
 use Rattle.csdn_core.specs.declared.terms.Pred.TheVariants.{Stored, Ft, Sent, RcvThis}
 use Rattle.csdn_core.specs.declared.terms.Place.{Place}
-use Rattle.csdn_core.specs.declared.terms.Place.TheVariants.{Topology, Safety, Trans, Handler as InHandler}
+use Rattle.csdn_core.specs.declared.terms.Place.TheVariants.{Trans}
 use Rattle.csdn_core.specs.declared.event.Packet.{Packet}
 use Rattle.csdn_core.specs.declared.event.Packet.TheVariants.{Nothing}
 use Rattle.csdn_core.specs.declared.program.Parts.{Parts}
@@ -18,18 +18,20 @@ use Rattle.csdn_core.specs.Tree.{negation}
 use Rattle.csdn_core.specs.Truth.{Assignment, truth}
 use Rattle.csdn_core.specs.Network.{Network, State, structure, holds_in}
 use Rattle.csdn_core.specs.Numerals.{numerals_in, row_numerals, invariant_numerals, handler_numerals, port_numerals, command_numerals}
-use Rattle.csdn_core.specs.Sorted.{IsAllowed, IsSorted, most_numbers, bound_in}
-use Rattle.csdn_core.specs.WellSorted.{IsWellSorted, signature}
+use Rattle.csdn_core.specs.Sorted.{IsAllowed, most_numbers}
+use Rattle.csdn_core.specs.WellSorted.{IsSorted, IsWellSorted, signature}
 use Rattle.fol_forms.specs.Renumber.{renumber}
 use Rattle.csdn_wp.specs.declared.vars.PacketVars.{PacketVars}
 use Rattle.csdn_wp.specs.EventPreconditions.{handler_vars, first_vars, is_port, and_also, guard, guarded, and_later, member, members, wp_in}
 use Rattle.csdn_wp.proofs.Arrival.{IsFine, AllFine, scope_binds, packet_scope, vars_in_scope, before_sorted, last_fine}
+use Rattle.csdn_wp.proofs.Sorting.{IsSortedIn-more}
+use Rattle.csdn_wp.proofs.Scopes.{no_packet_in}
 use Rattle.csdn_wp.proofs.Coincidence.{truth_alike}
 use Rattle.csdn_wp.proofs.Programs.{handlers_fine}
-use Rattle.csdn_core.proofs.Members.{distinct_pairs, in_left, in_right, in_both, in_flat, in_contains}
+use Rattle.csdn_core.proofs.Members.{in_left, in_right, in_both, in_flat, in_contains}
 use Rattle.csdn_core.specs.Members.{IsIn}
 use Rattle.csdn_core.specs.SortedIn.{Scope, no_scope, any_relation, no_rcv_this, IsSortedIn}
-use Rattle.csdn_core.proofs.Scopes.{AreInScope-none, AreNew-none, sorted_in, bind}
+use Rattle.csdn_core.proofs.Scopes.{bind}
 
 -- ---- what a guard says is well-sorted
 
@@ -112,24 +114,12 @@ module _ (P : Parts) (well : IsWellSorted P) where
 
 -- ---- sentences of programs
 
-module _ (P : Parts) (F : Formula) (place : Place) (sorted : IsSorted (signature P) place [] F) (apart : AllPairs (λ m n. m ≢ n) (bound_in F)) where
+module _ (P : Parts) (F : Formula) (place : Place) (sorted : IsSorted (signature P) place F) where
   pub sentence_in : IsSortedIn (signature P) any_relation no_scope F
-  sentence_in = sorted_in (signature P) place any_relation (λ r allowed. tt) F [] no_scope (AreInScope-none no_scope) (AreNew-none (bound_in F) (distinct_pairs (bound_in F) apart)) sorted
-
-  names : place ≢ Trans → (r : Pred) → IsAllowed (signature P) place r → no_rcv_this r
-  names other (Stored r) allowed = refl
-  names other Ft allowed = refl
-  names other Sent allowed = refl
-  names other RcvThis allowed = packet_not_there place other allowed
-    where
-      packet_not_there : (place : Place) → place ≢ Trans → IsAllowed (signature P) place RcvThis → no_rcv_this RcvThis
-      packet_not_there Topology other allowed = absurd allowed
-      packet_not_there Safety other allowed = absurd allowed
-      packet_not_there InHandler other allowed = absurd allowed
-      packet_not_there Trans other allowed = absurd (other refl)
+  sentence_in = IsSortedIn-more (signature P) (IsAllowed (signature P) place) any_relation (λ r allowed. tt) no_scope no_scope (λ v s is. is) F sorted.sorts
 
   pub quiet_in : place ≢ Trans → IsSortedIn (signature P) no_rcv_this no_scope F
-  quiet_in other = sorted_in (signature P) place no_rcv_this (names other) F [] no_scope (AreInScope-none no_scope) (AreNew-none (bound_in F) (distinct_pairs (bound_in F) apart)) sorted
+  quiet_in other = no_packet_in (signature P) place other no_scope F sorted.sorts
 
 -- ---- where no atom is of the packet, the packet isn't seen
 

@@ -31,7 +31,7 @@ stands_in (Flood ts) w = vars_of ts w
 -- a command of the program in a scope, and a formula that may stand after it
 pub record MayPrecede (P : Parts) (Γ : List Bind) (c : Command) (q : Formula) : Type 0 where
   pub own : OwnPacket
-  pub command : IsCommand (signature P) own Γ c
+  pub command : IsCommand (signature P) own (scope_of Γ) c
   -- each variable has a number of its own
   pub apart : AllPairs (λ m n. m ≢ n) (map (λ b. b.var.0) Γ ++ command_bound_in c)
   pub formula : IsSortedIn (signature P) any_relation (scope_of Γ) q

@@ -34,7 +34,7 @@ pub fn wp(
 
 /// The precondition, in a room.
 #[cycle(preconditions)]
-#[tactic(auto, using(crate::proofs::CommandSteps::wp_steps, csdn_core::specs::Nodes::command_node_steps))]
+#[tactic(auto, using(crate::proofs::CommandSteps::wp_steps, csdn_core::proofs::NodeSteps::command_node_steps))]
 pub fn precondition(
     alloc: Global,
     command: &Command,

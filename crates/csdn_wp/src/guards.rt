@@ -41,7 +41,7 @@ pub fn guard(
 }
 
 #[cycle(guards)]
-#[tactic(auto, using(csdn_core::specs::Tree::shapes))]
+#[tactic(auto, using(csdn_core::proofs::Shapes::shapes))]
 fn guard_from(
     alloc: Global,
     first: u16,
@@ -69,7 +69,7 @@ fn own_guard(
     }
 }
 
-#[tactic(auto, using(csdn_core::specs::Tree::shapes))]
+#[tactic(auto, using(csdn_core::proofs::Shapes::shapes))]
 fn and_also(
     alloc: Global,
     first: Boxed<Formula>,

@@ -1,5 +1,5 @@
 //! What weakest preconditions are true of.
-ghost use Rattle.std.specs.Prelude.{◌≡◌, ◌≢◌, ℕ, ◌↔◌, List, [], AllPairs, IsTrue, IsFalse, is_some};
+ghost use Rattle.std.specs.Prelude.{◌≡◌, ◌≢◌, ℕ, ◌↔◌, List, IsTrue, IsFalse, is_some};
 ghost use Rattle.csdn_core.specs.declared.terms.Place.{Place as AnyPlace};
 ghost use Rattle.csdn_core.specs.declared.terms.Place.TheVariants.{Trans};
 ghost use Rattle.csdn_core.specs.declared.event.Packet.{Packet as AnyPacket};
@@ -12,8 +12,8 @@ ghost use Rattle.csdn_core.specs.declared.syntax.Command.{Command as AnyCommand}
 ghost use Rattle.csdn_core.specs.Truth.{Assignment, truth};
 ghost use Rattle.csdn_core.specs.Network.{Network, State, IsNetwork, structure};
 ghost use Rattle.csdn_core.specs.Run.{Step, no_values};
-ghost use Rattle.csdn_core.specs.Sorted.{Bind, IsSorted, bound_in};
-ghost use Rattle.csdn_core.specs.WellSorted.{IsWellSorted, signature};
+ghost use Rattle.csdn_core.specs.Sorted.{Bind};
+ghost use Rattle.csdn_core.specs.WellSorted.{IsSorted, IsWellSorted, signature};
 ghost use Rattle.csdn_wp.specs.Preconditions.{wp};
 ghost use Rattle.csdn_wp.specs.EventPreconditions.{wp_in, wp_flow, wp_expire};
 ghost use Rattle.csdn_wp.specs.After.{MayPrecede, IsPrecondition, BreaksBefore};
@@ -55,11 +55,10 @@ pub fn wp_expire_is_exact()
     ensures sentence { (P : AnyParts) (q : AnyFormula) → IsSortedIn (signature P) any_relation no_scope q → IsSortedIn (signature P) no_rcv_this no_scope (wp_expire q) }
 {}
 
-/// A well-sorted formula of a program, whose bound variables have numbers of their own, is a well-sorted sentence; outside of
-/// transition invariants it doesn't speak of the packet.
+/// What may stand as an invariant is a well-sorted sentence; outside of transition invariants it doesn't speak of the packet.
 pub fn invariants_are_sentences()
-    ensures any { (P : AnyParts) (F : AnyFormula) (place : AnyPlace) → IsSorted (signature P) place [] F → AllPairs (λ m n. m ≢ n) (bound_in F) → IsSortedIn (signature P) any_relation no_scope F }
-    ensures quiet { (P : AnyParts) (F : AnyFormula) (place : AnyPlace) → IsSorted (signature P) place [] F → AllPairs (λ m n. m ≢ n) (bound_in F) → place ≢ Trans → IsSortedIn (signature P) no_rcv_this no_scope F }
+    ensures any { (P : AnyParts) (F : AnyFormula) (place : AnyPlace) → IsSorted (signature P) place F → IsSortedIn (signature P) any_relation no_scope F }
+    ensures quiet { (P : AnyParts) (F : AnyFormula) (place : AnyPlace) → IsSorted (signature P) place F → place ≢ Trans → IsSortedIn (signature P) no_rcv_this no_scope F }
 {}
 
 /// No variable is free in a well-sorted sentence. One that doesn't speak of the packet is one of any kind, so that its own

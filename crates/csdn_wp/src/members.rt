@@ -120,7 +120,7 @@ fn member(
     closed_in(alloc, inner, &binds, room)
 }
 
-#[tactic(auto, using(csdn_core::specs::Tree::shapes))]
+#[tactic(auto, using(csdn_core::proofs::Shapes::shapes))]
 fn guarded(
     alloc: Global,
     guard: Option<Boxed<Formula>>,

@@ -20,7 +20,8 @@ use Rattle.decision_laws.proofs.Within.{tied_within}
 use Rattle.decision_laws.specs.Classes.{network_of, state_of}
 use Rattle.decision_laws.specs.Clauses.{IsNaming, equality_clauses, size, whole_clauses}
 use Rattle.decision_laws.specs.Copies.{Fact, judge, known}
-use Rattle.decision_laws.specs.Laws.{AreTied, AreTiedBy, HasModel, HasNetwork, IsJudgement, IsSentence, atoms, clauses, judged, name, naming, sentence_copies, words}
+use Rattle.csdn_core.specs.Satisfied.{HasNetwork}
+use Rattle.decision_laws.specs.Laws.{AreTied, AreTiedBy, HasModel, IsJudgement, IsSentence, atoms, clauses, judged, name, naming, sentence_copies, words}
 use Rattle.decision_laws.specs.Sublists.{ArePart}
 use Rattle.fol_forms.specs.Forms.{form_of}
 use Rattle.fol_forms.specs.Constants.{counts, instances}

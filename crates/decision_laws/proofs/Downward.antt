@@ -16,7 +16,8 @@ use Rattle.decision_laws.proofs.Walks.{IsCovered, IsHome, copies_true}
 use Rattle.decision_laws.proofs.Words.{name_is}
 use Rattle.decision_laws.specs.Classes.{AreOfJudgement, Meaning, sizes}
 use Rattle.decision_laws.specs.Copies.{Fact, constants, copies_of, index_of, judge, known}
-use Rattle.decision_laws.specs.Laws.{AgreesOnNames, IsJudgement, IsSentence, IsTrueIn, words}
+use Rattle.csdn_core.specs.Satisfied.{IsTrueIn}
+use Rattle.decision_laws.specs.Laws.{AgreesOnNames, IsJudgement, IsSentence, words}
 use Rattle.decision_laws.specs.Vocabulary.{Vocabulary, vocabulary}
 use Rattle.fol_forms.specs.Forms.{Form, form_truth, form_of}
 use Rattle.fol_forms.specs.Constants.{counts}

@@ -28,7 +28,8 @@ use Rattle.decision_laws.proofs.Numbering.{IsReadable, class_below, class_first,
 use Rattle.decision_laws.proofs.Words.{is_vocabulary, constant_has}
 use Rattle.decision_laws.specs.Classes.{AreOfJudgement, IsNumbering, Meaning, all_tuples, class_elements, classes_of, constant_value, first_of, is_static, ListTheSame, network_of, number, sizes, state_of, static_rows, true_tuples, values_of, position_in}
 use Rattle.decision_laws.specs.Copies.{AreAlike, AreBelow, Equation, Fact, IsFair, Tuple, index_of, known, numeral_place}
-use Rattle.decision_laws.specs.Laws.{IsJudgement, IsSentence, IsTrueIn}
+use Rattle.csdn_core.specs.Satisfied.{IsTrueIn}
+use Rattle.decision_laws.specs.Laws.{IsJudgement, IsSentence}
 use Rattle.decision_laws.specs.Vocabulary.{all_relations, has_term, places_from, sort_or, sorts_or, uses, vocabulary}
 use Rattle.fol_forms.specs.Forms.{Form, form_of}
 use Rattle.fol_forms.specs.Constants.{constants_from, numerals_of}

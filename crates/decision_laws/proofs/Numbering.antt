@@ -54,12 +54,6 @@ first_of_joins voc n j fair s a b la lb e =
     let v = first_found (λ c. j (Equation s c b)) 0 (n s) b (omega arith) (omega arith) (fair.same s b lb) in
     joined voc n j fair s (first_of voc n j s a) a b (omega (arith, u.1)) la lb u.0 (subst (λ z. j (Equation s z b) ≡ true) (sym e) v.0)
 
-first_of-classes : (voc : Vocabulary) (n : Sort → ℕ) (j : Fact → Bool) → IsFair voc n j → (s : Sort) (a b : ℕ) → a < n s → b < n s → j (Equation s a b) ≡ nat_eq (first_of voc n j s a) (first_of voc n j s b)
-first_of-classes voc n j fair s a b la lb =
-    both_ways (j (Equation s a b)) (nat_eq (first_of voc n j s a) (first_of voc n j s b))
-    (λ e. eq-eqb (first_of voc n j s a) (first_of voc n j s b) (first_of-same voc n j fair s a b la lb e))
-    (λ e. first_of_joins voc n j fair s a b la lb (eqb-true (first_of voc n j s a) (first_of voc n j s b) e))
-
 abbrev some_or : Option ℕ → ℕ
 some_or None = 0
 some_or (Some k) = k

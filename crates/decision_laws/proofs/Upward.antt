@@ -17,7 +17,8 @@ use Rattle.fol_forms.specs.Forms.{Form, form_truth, form_of}
 use Rattle.decision_laws.specs.Simplified.{simplified}
 use Rattle.csdn_core.specs.declared.program.Parts.{Parts}
 use Rattle.csdn_core.specs.declared.syntax.Formula.{Formula}
-use Rattle.decision_laws.specs.Laws.{AgreesOnNames, IsJudgement, IsSentence, IsTrueIn, words}
+use Rattle.csdn_core.specs.Satisfied.{IsTrueIn}
+use Rattle.decision_laws.specs.Laws.{AgreesOnNames, IsJudgement, IsSentence, words}
 use Rattle.csdn_core.specs.Network.{IsNetwork, Network, State, structure}
 use Rattle.decision_laws.proofs.Words.{is_structure, form_is_true}
 use Rattle.decision_laws.proofs.Fitting.{is_closed}

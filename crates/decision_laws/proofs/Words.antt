@@ -17,7 +17,7 @@ use Rattle.csdn_core.specs.Same.{same_sort}
 use Rattle.csdn_core.proofs.Same.{same_sort-refl, same_sort-is}
 use Rattle.decision_laws.proofs.Basics.{IsStructure, IsVocabulary}
 use Rattle.decision_laws.proofs.Lists.{in_term, term_in, kept_first, kept_later}
-use Rattle.decision_laws.specs.Laws.{IsTrueIn}
+use Rattle.csdn_core.specs.Satisfied.{IsTrueIn}
 use Rattle.decision_laws.specs.Vocabulary.{has_term, sort_or, vocabulary}
 use Rattle.decision_laws.proofs.Fits.{term_fits}
 use Rattle.fol_forms.specs.Forms.{Form, form_truth, form_of}

@@ -3,7 +3,7 @@
 --   rel r(HO);
 --   safety one: forall X:HO, Y:HO. r(X) and r(Y) -> X = Y;
 --   pktIn(s, src->dst, i) { r.insert(src); }
-use Rattle.std.specs.Prelude.{ℕ, Bool, true, false, ◌==◌, if◌then◌else◌, List, [], ◌∷◌, None}
+use Rattle.std.specs.Prelude.{ℕ, Bool, true, false, ◌==◌, ◌||◌, if◌then◌else◌, List, [], ◌∷◌, None}
 use Rattle.csdn_core.specs.declared.terms.VarId.{VarId}
 use Rattle.csdn_core.specs.declared.terms.Sort.{Sort}
 use Rattle.csdn_core.specs.declared.terms.Sort.TheVariants.{Sw, Ho, Pr}
@@ -144,6 +144,10 @@ example_judgement (Equation s a b) = example_meaning s a == example_meaning s b
 abbrev pub example_network : Network
 example_network = record { switches = 1 ∷ []; hosts = 1 ∷ 2 ∷ []; ports = 1 ∷ []; constants = []; rows = [] }
 
+-- .. and with its hosts in another order
+abbrev pub reordered_network : Network
+reordered_network = record { switches = 1 ∷ []; hosts = 2 ∷ 1 ∷ []; ports = 1 ∷ []; constants = []; rows = [] }
+
 -- A smaller one, with the numerals 1 and 2: `q(prt(1)) and not q(prt(1))` has no network, which a log of one step shows.
 --
 --   rel q(PR);
@@ -173,3 +177,13 @@ contradiction_clauses =
 -- the third clause makes 9 true, the first then 7, and the second is broken
 abbrev pub contradiction_log : List Step
 contradiction_log = record { literals = []; hints = 3 ∷ 1 ∷ 2 ∷ [] } ∷ []
+
+-- The whole and its first side are asked for first; the atoms 7 and 9 make both true, and break the second side.
+abbrev pub first_clauses : List (List Literal)
+first_clauses = (no 9 ∷ yes 7 ∷ []) ∷ (yes 9 ∷ []) ∷ []
+
+abbrev pub seven_and_nine : ℕ → Bool
+seven_and_nine x = x == 7 || x == 9
+
+abbrev pub broken_clauses : List (List Literal)
+broken_clauses = (no 9 ∷ no 7 ∷ []) ∷ []

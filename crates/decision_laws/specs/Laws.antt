@@ -5,8 +5,8 @@ use Rattle.csdn_core.specs.declared.terms.Term.{Term}
 use Rattle.csdn_core.specs.declared.event.Packet.TheVariants.{Nothing}
 use Rattle.csdn_core.specs.declared.program.Parts.{Parts}
 use Rattle.csdn_core.specs.declared.syntax.Formula.{Formula}
-use Rattle.csdn_core.specs.Truth.{value, truth}
-use Rattle.csdn_core.specs.Network.{Network, State, structure, IsNetwork}
+use Rattle.csdn_core.specs.Truth.{value}
+use Rattle.csdn_core.specs.Network.{Network, State, structure}
 use Rattle.csdn_core.specs.Run.{no_values}
 use Rattle.csdn_core.specs.SortedIn.{IsSortedIn, no_rcv_this, no_scope}
 use Rattle.csdn_core.specs.WellSorted.{signature}
@@ -34,14 +34,6 @@ module _ (P : Parts) (F : Formula) where
   pub record IsSentence : Type 0 where
     pub closed : IsSortedIn (signature P) no_rcv_this no_scope F
     pub inside : IsTrue (in_fragment (form_of F))
-
-  -- the sentence is true in the network and state
-  abbrev pub IsTrueIn : Network → State → Type 0
-  IsTrueIn N x = IsTrue (truth (structure P N x Nothing) F no_values)
-
-  -- some network and state make it true
-  abbrev pub HasNetwork : Type 0
-  HasNetwork = (N : Network) × (x : State) × IsNetwork P N × IsTrueIn N x
 
   -- a fair judgement that makes its copies true
   pub record IsJudgement (j : Fact → Bool) : Type 0 where

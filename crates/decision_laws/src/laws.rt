@@ -18,8 +18,9 @@ ghost use Rattle.decision_laws.specs.Clauses.{size, IsNaming};
 ghost use Rattle.decision_laws.specs.Numbers.{tuple_count, tuple_of};
 ghost use Rattle.decision_laws.specs.Weights.{weight};
 ghost use Rattle.decision_laws.specs.Sublists.{ArePart, AreBroken, left_of};
-ghost use Rattle.decision_laws.specs.Example.{program, sentence, r, example_counts, example_copies, example_node_clauses, example_equality_clauses, example_judgement, example_network, small_program, contradiction, contradiction_clauses, contradiction_log};
-ghost use Rattle.decision_laws.specs.Laws.{words, sentence_copies, IsSentence, IsTrueIn, HasNetwork, IsJudgement, AgreesOnNames, naming, name, judged, atoms, clauses, AreTied, AreTiedBy, HasModel};
+ghost use Rattle.decision_laws.specs.Example.{program, sentence, r, example_counts, example_copies, example_node_clauses, example_equality_clauses, example_judgement, example_network, small_program, contradiction, contradiction_clauses, contradiction_log, first_clauses, seven_and_nine, broken_clauses, reordered_network};
+ghost use Rattle.csdn_core.specs.Satisfied.{IsTrueIn, HasNetwork};
+ghost use Rattle.decision_laws.specs.Laws.{words, sentence_copies, IsSentence, IsJudgement, AgreesOnNames, naming, name, judged, atoms, clauses, AreTied, AreTiedBy, HasModel};
 ghost use Rattle.decision_laws.specs.Simplified.{simplified};
 
 /// A sentence that is true in a network and state has a fair judgement of its copies.
@@ -99,4 +100,24 @@ pub fn contradiction_example()
     ensures clauses { clauses small_program contradiction ≡ contradiction_clauses }
     ensures refuted { IsTrue (is_refutation contradiction_clauses contradiction_log) }
     ensures network { HasNetwork small_program contradiction → ⊥ }
+{}
+
+/// Clauses of the contradiction as they are asked for, by hand: two of them are tied to it, and a model of the two breaks a
+/// third, which is new, so that five of eight are left.
+pub fn clauses_on_demand_example()
+    ensures part { ArePart contradiction_clauses first_clauses }
+    ensures tied { AreTiedBy small_program contradiction (name small_program contradiction) first_clauses }
+    ensures model { IsModel seven_and_nine first_clauses }
+    ensures broken { AreBroken contradiction_clauses seven_and_nine broken_clauses }
+    ensures before { left_of contradiction_clauses first_clauses ≡ 6 }
+    ensures after { left_of contradiction_clauses (first_clauses ++ broken_clauses) ≡ 5 }
+{}
+
+/// The network of the worked example with its hosts listed in another order, by hand: it is one of the program and of the
+/// judgement too, and the sentence is true in it.
+pub fn another_order_example()
+    ensures same { ListTheSame example_network reordered_network }
+    ensures network { IsNetwork program reordered_network }
+    ensures judgement { AreOfJudgement program (form_of sentence) example_judgement (number program (form_of sentence) example_judgement) reordered_network (state_of program (form_of sentence) example_judgement) }
+    ensures holds { IsTrueIn program sentence reordered_network (state_of program (form_of sentence) example_judgement) }
 {}

@@ -6,7 +6,7 @@ use Rattle.csdn_core.specs.declared.terms.Term.{Term}
 use Rattle.csdn_core.specs.declared.terms.Pred.{Pred}
 use Rattle.csdn_core.specs.declared.syntax.Formula.{Formula}
 use Rattle.csdn_core.specs.declared.syntax.Formula.TheVariants as f
-use Rattle.csdn_core.specs.Tree.{Not-is, And-is, Or-is, Implies-is, Iff-is, Forall-is, Exists-is}
+use Rattle.csdn_core.proofs.Shapes.{Not-is, And-is, Or-is, Implies-is, Iff-is, Forall-is, Exists-is}
 use Rattle.csdn_core.specs.Truth.{with_var}
 use Rattle.fol_forms.specs.Renumber.{binders, renamed, renumbered}
 

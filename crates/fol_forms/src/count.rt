@@ -33,7 +33,7 @@ pub fn and_one(a: u64) -> u64
 
 /// How many nodes a formula has: truth values, atoms, equations, negations, connectives and bound variables. 2^64 - 1 where
 /// it has more. It takes no memory.
-#[tactic(auto, using(csdn_core::specs::Nodes::node_steps, crate::proofs::Leaves::leaf_nodes, crate::proofs::Capped::capped_sums))]
+#[tactic(auto, using(csdn_core::proofs::NodeSteps::node_steps, crate::proofs::Leaves::leaf_nodes, crate::proofs::Capped::capped_sums))]
 pub fn node_count(formula: &Formula) -> u64
     ensures { result ≡ capped (nodes formula.now) }
 {

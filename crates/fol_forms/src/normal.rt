@@ -44,7 +44,7 @@ struct Sizes {
 }
 
 // Each formula in it is looked at once, also where the normal form has it twice.
-#[tactic(auto, using(csdn_core::specs::Nodes::node_steps, crate::proofs::WrittenNodes::written_nodes, crate::proofs::Capped::capped_sums))]
+#[tactic(auto, using(csdn_core::proofs::NodeSteps::node_steps, crate::proofs::WrittenNodes::written_nodes, crate::proofs::Capped::capped_sums))]
 fn count(formula: &Formula, sign: bool) -> Sizes
     ensures kept { result.kept ≡ capped (nodes (written (normal_form sign formula.now))) }
     ensures negated { result.negated ≡ capped (nodes (written (normal_form (not sign) formula.now))) }
@@ -111,7 +111,7 @@ fn truth_value(value: bool) -> Formula
 }
 
 // The formula or its negation.
-#[tactic(auto, using(csdn_core::specs::Tree::shapes))]
+#[tactic(auto, using(csdn_core::proofs::Shapes::shapes))]
 fn literal(alloc: Global, sign: bool, formula: Formula) -> Result<Formula, AllocError>
     ensures { IfOk result (λ p. p ≡ literal_of sign formula) }
 {
@@ -124,7 +124,7 @@ fn literal(alloc: Global, sign: bool, formula: Formula) -> Result<Formula, Alloc
 
 // The normal form of the formula, or for the sign `false` of its negation.
 #[cycle(made)]
-#[tactic(auto, using(csdn_core::specs::Tree::shapes))]
+#[tactic(auto, using(csdn_core::proofs::Shapes::shapes))]
 fn made(alloc: Global, formula: &Formula, sign: bool) -> Result<Formula, AllocError>
     ensures { IfOk result (λ p. p ≡ written (normal_form sign formula.now)) }
 {
@@ -169,7 +169,7 @@ fn boxed(alloc: Global, formula: &Formula, sign: bool) -> Result<Boxed<Formula>,
 
 // The conjunction of two normal forms.
 #[cycle(made)]
-#[tactic(auto, using(csdn_core::specs::Tree::shapes))]
+#[tactic(auto, using(csdn_core::proofs::Shapes::shapes))]
 fn both(
     alloc: Global,
     p: &Formula,

@@ -100,7 +100,7 @@ fn numbered(number: u64) -> u32
 }
 
 #[cycle(made)]
-#[tactic(auto, using(csdn_core::specs::Nodes::node_steps, crate::proofs::RenumberSteps::renumber_steps, crate::proofs::RenumberSteps::binder_steps))]
+#[tactic(auto, using(csdn_core::proofs::NodeSteps::node_steps, crate::proofs::RenumberSteps::renumber_steps, crate::proofs::RenumberSteps::binder_steps))]
 fn made(alloc: Global, formula: &Formula, numbers: &mut Numbers) -> Result<Formula, AllocError>
     requires { numbers.old.next + binders formula.now ≤ 2 ^ 32 }
     ensures form { IfOk result (λ p. p ≡ renumbered_of (new_numbers numbers.old.scope.items) numbers.old.next formula.now) }
@@ -152,7 +152,7 @@ fn made(alloc: Global, formula: &Formula, numbers: &mut Numbers) -> Result<Formu
 }
 
 #[cycle(made)]
-#[tactic(auto, using(csdn_core::specs::Nodes::node_steps))]
+#[tactic(auto, using(csdn_core::proofs::NodeSteps::node_steps))]
 fn boxed(
     alloc: Global,
     formula: &Formula,
@@ -174,7 +174,7 @@ struct Quantified {
 }
 
 #[cycle(made)]
-#[tactic(auto, using(csdn_core::specs::Nodes::node_steps))]
+#[tactic(auto, using(csdn_core::proofs::NodeSteps::node_steps))]
 fn under(
     alloc: Global,
     var: VarId,

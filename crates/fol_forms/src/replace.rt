@@ -97,7 +97,7 @@ fn changed(alloc: Global, formula: &Formula, change: &Change) -> Result<Formula,
 }
 
 // How many nodes the formula has once its atoms are replaced.
-#[tactic(auto, using(csdn_core::specs::Nodes::node_steps, crate::proofs::Leaves::leaf_nodes, crate::proofs::ReplaceSteps::replace_steps, crate::proofs::Capped::capped_sums))]
+#[tactic(auto, using(csdn_core::proofs::NodeSteps::node_steps, crate::proofs::Leaves::leaf_nodes, crate::proofs::ReplaceSteps::replace_steps, crate::proofs::Capped::capped_sums))]
 fn count_of(formula: &Formula, change: &Change) -> u64
     ensures { result ≡ capped (nodes (replace_of (replacement change.now) formula.now)) }
 {
@@ -204,7 +204,7 @@ fn count_of_floods(ts: &Terms, us: &Terms) -> u64
 }
 
 #[cycle(made)]
-#[tactic(auto, using(csdn_core::specs::Nodes::node_steps, crate::proofs::ReplaceSteps::replace_steps))]
+#[tactic(auto, using(csdn_core::proofs::NodeSteps::node_steps, crate::proofs::ReplaceSteps::replace_steps))]
 fn made(alloc: Global, formula: &Formula, change: &Change) -> Result<Formula, AllocError>
     ensures { IfOk result (λ f. f ≡ replace_of (replacement change.now) formula.now) }
 {
@@ -246,7 +246,7 @@ fn made(alloc: Global, formula: &Formula, change: &Change) -> Result<Formula, Al
 }
 
 #[cycle(made)]
-#[tactic(auto, using(csdn_core::specs::Nodes::node_steps))]
+#[tactic(auto, using(csdn_core::proofs::NodeSteps::node_steps))]
 fn boxed(alloc: Global, formula: &Formula, change: &Change) -> Result<Boxed<Formula>, AllocError>
     ensures { IfOk result (λ f. f ≡ replace_of (replacement change.now) formula.now) }
 {
@@ -266,7 +266,7 @@ fn at_atom(alloc: Global, change: &Change, pred: Pred, terms: &Terms) -> Result<
     }
 }
 
-#[tactic(auto, using(csdn_core::specs::Tree::shapes))]
+#[tactic(auto, using(csdn_core::proofs::Shapes::shapes))]
 fn or_row(alloc: Global, r: Pred, ts: &Terms, q: Pred, us: &Terms) -> Result<Formula, AllocError>
     ensures { IfOk result (λ f. f ≡ or_row_of r ts.now q us.now) }
 {
@@ -280,7 +280,7 @@ fn or_row(alloc: Global, r: Pred, ts: &Terms, q: Pred, us: &Terms) -> Result<For
     }
 }
 
-#[tactic(auto, using(csdn_core::specs::Tree::shapes))]
+#[tactic(auto, using(csdn_core::proofs::Shapes::shapes))]
 fn not_row(alloc: Global, r: Pred, ts: &Terms, q: Pred, us: &Terms) -> Result<Formula, AllocError>
     ensures { IfOk result (λ f. f ≡ not_row_of r ts.now q us.now) }
 {
@@ -295,7 +295,7 @@ fn not_row(alloc: Global, r: Pred, ts: &Terms, q: Pred, us: &Terms) -> Result<Fo
     }
 }
 
-#[tactic(auto, using(csdn_core::specs::Tree::shapes))]
+#[tactic(auto, using(csdn_core::proofs::Shapes::shapes))]
 fn not_match(alloc: Global, ts: &Terms, q: Pred, us: &Terms) -> Result<Formula, AllocError>
     ensures { IfOk result (λ f. f ≡ not_match_of ts.now q us.now) }
 {
@@ -323,7 +323,7 @@ fn rule_of(alloc: Global, ts: &[Term], us: &[Term]) -> Result<Formula, AllocErro
     }
 }
 
-#[tactic(auto, using(csdn_core::specs::Tree::shapes))]
+#[tactic(auto, using(csdn_core::proofs::Shapes::shapes))]
 fn or_flood(alloc: Global, ts: &Terms, q: Pred, us: &Terms) -> Result<Formula, AllocError>
     ensures { IfOk result (λ f. f ≡ or_flood_of ts.now q us.now) }
 {
@@ -358,7 +358,7 @@ fn no_row(q: Pred, us: &Terms) -> Formula
 }
 
 // The packet's own four terms, and another port.
-#[tactic(auto, using(csdn_core::specs::Tree::shapes))]
+#[tactic(auto, using(csdn_core::proofs::Shapes::shapes))]
 fn floods(alloc: Global, ts: &[Term], us: &[Term]) -> Result<Formula, AllocError>
     ensures { IfOk result (λ f. f ≡ floods_of ts.now us.now) }
 {

@@ -34,7 +34,7 @@ pub enum Signed<'a> {
 
 /// What the normal form of a formula begins with, or for the sign `false` that of its negation. It takes as many steps as
 /// negations stand one under another; it takes no memory.
-#[tactic(auto, using(csdn_core::specs::Nodes::node_steps, crate::proofs::NormalSteps::normal_steps, crate::proofs::Leaves::leaf_nodes))]
+#[tactic(auto, using(csdn_core::proofs::NodeSteps::node_steps, crate::proofs::NormalSteps::normal_steps, crate::proofs::Leaves::leaf_nodes))]
 pub fn view<'a>(formula: &'a Formula, sign: bool) -> Signed<'a>
     ensures form { normal_form sign formula.now ≡ form_seen result }
     ensures opposite { normal_form (not sign) formula.now ≡ opposite_seen result }

@@ -1,0 +1,7 @@
+pub mod FactSteps
+pub mod FactLaws
+mod Scopes
+mod Steps
+mod Turns
+mod Wholes
+mod WholeClauses

@@ -1,5 +1,5 @@
 //! Clauses while they are made.
-ghost use Rattle.std.specs.Prelude.{◌≡◌};
+ghost use Rattle.std.specs.Prelude.{◌≡◌, ◌+◌, ◌++◌, [], ◌∷◌, OnOk, OnErr, length};
 
 use clause_log::{Clauses, Lit};
 use std::alloc::{AllocError, Global};
@@ -29,18 +29,30 @@ impl Rows {
     ghost use Rattle.std.specs.List.{list_all};
     ghost use Rattle.clause_log.specs.Literals.{is_clause};
 
-    /// No clauses, and room for so many clauses and literals.
+    /// No clauses. It takes no memory.
+    pub fn new(alloc: Global) -> Rows
+        ensures { result ≡ [] }
+    {
+        Rows {
+            literals: Vec::new(alloc),
+            ends: Vec::new(alloc),
+        }
+    }
+
+    /// No clauses, and room for so many clauses and literals, which is taken once.
     pub fn with_room(alloc: Global, clauses: usize, literals: usize) -> Result<Rows, AllocError>
         ensures { IfOk result (λ rows. rows ≡ []) }
     {
-        Err(AllocError)
+        let literals = Vec::with_capacity(alloc, literals)?;
+        let ends = Vec::with_capacity(alloc, clauses)?;
+        Ok(Rows { literals, ends })
     }
 
     /// Appends the clause with these literals.
     pub fn push(&mut self, literals: &[Lit]) -> Result<(), AllocError>
         ensures { OnOk result (self.new ≡ self.old ++ literals.now ∷ []) }
     {
-        Err(AllocError)
+        append(&mut self.literals, &mut self.ends, literals)
     }
 
     /// The clauses, over the atoms from 1 to `atoms`. It takes no memory.
@@ -51,4 +63,22 @@ impl Rows {
     {
         Clauses::of_rows(atoms, self.literals, self.ends)
     }
+}
+
+// Appends the literals and the place of their end; both or neither.
+fn append(literals: &mut Vec<Lit>, ends: &mut Vec<usize>, clause: &[Lit]) -> Result<(), AllocError>
+    ensures literals { OnOk result (literals.new.items ≡ literals.old.items ++ clause.now) }
+    ensures ends { OnOk result (ends.new.items ≡ ends.old.items ++ (length literals.old.items + length clause.now) ∷ []) }
+    ensures err { OnErr result (literals.new.items ≡ literals.old.items) }
+    ensures err_ends { OnErr result (ends.new.items ≡ ends.old.items) }
+{
+    let start = literals.len();
+    if literals.extend_from_slice(clause).is_err() {
+        return Err(AllocError);
+    }
+    if ends.push(literals.len()).is_err() {
+        literals.truncate(start);
+        return Err(AllocError);
+    }
+    Ok(())
 }

@@ -7,13 +7,11 @@ use Rattle.text_lines.specs.Text.{lines_left}
 use Rattle.text_lines.specs.Machine.{run, after_step, reading}
 use Rattle.text_lines.specs.Printed.{is_word, is_line, are_lines, numbered}
 use Rattle.text_lines.proofs.PrintedLaws.{words_joined, lines_printed, word_decimal, number_again}
-use Rattle.csdn_history.specs.declared.entry.Entry.{Entry}
-use Rattle.csdn_history.specs.declared.entry.Entry.TheVariants.{Join, Packet}
 use Rattle.journal_text.specs.declared.note.Note.{Note}
-use Rattle.journal_text.specs.declared.note.Note.TheVariants.{Kept, Flow}
+use Rattle.journal_text.specs.declared.note.Note.TheVariants.{Join, Packet, Flow}
 use Rattle.journal_text.specs.declared.read.Place.TheVariants as place
 use Rattle.journal_text.specs.Notes.{most, most_seat, header_of, join_of, packet_of, flow_of, note_of}
-use Rattle.journal_text.specs.JournalText.{State, journal_format, step, goes_to, note_words, entry_words, header, end, journal_lines, journal_text, are_elements, is_entry, is_note, are_notes}
+use Rattle.journal_text.specs.JournalText.{State, journal_format, step, goes_to, note_words, header, end, journal_lines, journal_text, are_elements, is_note, are_notes}
 
 element : (n : ℕ) → leb n most ≡ true → n ≤ most
 element n h = leb-true n most h
@@ -51,18 +49,15 @@ seat_words seat session es h =
 alone : (s : ℕ) → leb s most ≡ true → are_elements (s ∷ []) ≡ true
 alone s h = and_from (leb s most) true h refl
 
-join_parts : (seat session s : ℕ) → is_entry (Join seat session s) ≡ true → (leb seat most_seat && (leb session most_seat && are_elements (s ∷ []))) ≡ true
+join_parts : (seat session s : ℕ) → is_note (Join seat session s) ≡ true → (leb seat most_seat && (leb session most_seat && are_elements (s ∷ []))) ≡ true
 join_parts seat session s h =
     let p = and_parts (leb seat most_seat) (leb session most_seat && leb s most) h in
     let q = and_parts (leb session most_seat) (leb s most) p.1 in
     and_from (leb seat most_seat) (leb session most_seat && are_elements (s ∷ [])) p.0 (and_from (leb session most_seat) (are_elements (s ∷ [])) q.0 (alone s q.1))
 
-entry_line : (entry : Entry) → is_entry entry ≡ true → is_line (entry_words entry) ≡ true
-entry_line (Join seat session s) h = seat_words seat session (s ∷ []) (join_parts seat session s h)
-entry_line (Packet seat session s a b i) h = seat_words seat session (s ∷ a ∷ b ∷ i ∷ []) h
-
 note_line : (note : Note) → is_note note ≡ true → is_line (note_words note) ≡ true
-note_line (Kept entry) h = entry_line entry h
+note_line (Join seat session s) h = seat_words seat session (s ∷ []) (join_parts seat session s h)
+note_line (Packet seat session s a b i) h = seat_words seat session (s ∷ a ∷ b ∷ i ∷ []) h
 note_line (Flow s a b i o) h = all_words (s ∷ a ∷ b ∷ i ∷ o ∷ []) h
 
 -- ---- each line is read again
@@ -105,7 +100,7 @@ flow_again s a b i o h =
       number_again most o [] wide h.o_is,
     ) refl
 
-packet_again : (seat session s a b i : ℕ) → seat ≤ most_seat → session ≤ most_seat → Four s a b i → packet_of (map decimal (seat ∷ session ∷ s ∷ a ∷ b ∷ i ∷ [])) ≡ Some (Kept (Packet seat session s a b i))
+packet_again : (seat session s a b i : ℕ) → seat ≤ most_seat → session ≤ most_seat → Four s a b i → packet_of (map decimal (seat ∷ session ∷ s ∷ a ∷ b ∷ i ∷ [])) ≡ Some (Packet seat session s a b i)
 unfolding packet_of
 packet_again seat session s a b i first second h =
     rw (
@@ -117,25 +112,21 @@ packet_again seat session s a b i first second h =
       number_again most i [] wide h.i_is,
     ) refl
 
-join_again : (seat session s : ℕ) → seat ≤ most_seat → session ≤ most_seat → s ≤ most → join_of (map decimal (seat ∷ session ∷ s ∷ [])) ≡ Some (Kept (Join seat session s))
+join_again : (seat session s : ℕ) → seat ≤ most_seat → session ≤ most_seat → s ≤ most → join_of (map decimal (seat ∷ session ∷ s ∷ [])) ≡ Some (Join seat session s)
 unfolding join_of
 join_again seat session s first second third =
     rw (number_again most_seat seat (map decimal (session ∷ s ∷ [])) narrow first, number_again most_seat session (map decimal (s ∷ [])) narrow second, number_again most s [] wide third) refl
 
-entry_again : (entry : Entry) → is_entry entry ≡ true → note_of (entry_words entry) ≡ Some (Kept entry)
+note_again : (note : Note) → is_note note ≡ true → note_of (note_words note) ≡ Some note
 unfolding note_of
-entry_again (Join seat session s) h =
+note_again (Join seat session s) h =
     let p = and_parts (leb seat most_seat) (leb session most_seat && leb s most) h in
     let q = and_parts (leb session most_seat) (leb s most) p.1 in
     join_again seat session s (seat_is seat p.0) (seat_is session q.0) (element s q.1)
-entry_again (Packet seat session s a b i) h =
+note_again (Packet seat session s a b i) h =
     let p = and_parts (leb seat most_seat) (leb session most_seat && are_elements (s ∷ a ∷ b ∷ i ∷ [])) h in
     let q = and_parts (leb session most_seat) (are_elements (s ∷ a ∷ b ∷ i ∷ [])) p.1 in
     packet_again seat session s a b i (seat_is seat p.0) (seat_is session q.0) (four_of s a b i q.1)
-
-note_again : (note : Note) → is_note note ≡ true → note_of (note_words note) ≡ Some note
-unfolding note_of
-note_again (Kept entry) h = entry_again entry h
 note_again (Flow s a b i o) h = flow_again s a b i o (five_of s a b i o h)
 
 header_again : header_of header ≡ Some tt
@@ -160,12 +151,9 @@ line_ends past v ws ls s t line e k at =
     ap (λ xs. after_step at (step s.place s.notes xs) (run journal_format past (numbered (at + 1) ls))) (words_joined ws line)
     ∙ ap (λ r. after_step at r (run journal_format past (numbered (at + 1) ls))) e ∙ k (at + 1)
 
-entry_step : (done : List Note) (entry : Entry) → step place.Inside done (entry_words entry) ≡ goes_to (note_of (entry_words entry)) (λ note. inside (done ++ note ∷ []))
-entry_step done (Join seat session s) = refl
-entry_step done (Packet seat session s a b i) = refl
-
 note_step : (done : List Note) (note : Note) → step place.Inside done (note_words note) ≡ goes_to (note_of (note_words note)) (λ x. inside (done ++ x ∷ []))
-note_step done (Kept entry) = entry_step done entry
+note_step done (Join seat session s) = refl
+note_step done (Packet seat session s a b i) = refl
 note_step done (Flow s a b i o) = refl
 
 notes_end : (past : ℕ) (done notes : List Note) → are_notes notes ≡ true → Ends past (done ++ notes) (map note_words notes ++ end ∷ []) (inside done)

@@ -4,10 +4,8 @@ use Rattle.std.specs.List.{flat_map, list_all}
 use Rattle.text_lines.specs.Text.{words}
 use Rattle.text_lines.specs.Machine.{Format}
 use Rattle.text_lines.specs.Printed.{line_text}
-use Rattle.csdn_history.specs.declared.entry.Entry.{Entry}
-use Rattle.csdn_history.specs.declared.entry.Entry.TheVariants.{Join, Packet}
 use Rattle.journal_text.specs.declared.note.Note.{Note}
-use Rattle.journal_text.specs.declared.note.Note.TheVariants.{Kept, Flow}
+use Rattle.journal_text.specs.declared.note.Note.TheVariants.{Join, Packet, Flow}
 use Rattle.journal_text.specs.declared.read.Place.{Place}
 use Rattle.journal_text.specs.declared.read.Place.TheVariants as place
 use Rattle.journal_text.specs.Notes.{most, most_seat, header_of, note_of, is_end}
@@ -45,12 +43,9 @@ journal_format = record {
 
 -- ---- spelling
 
-abbrev pub entry_words : Entry → List (List ℕ)
-entry_words (Join seat session s) = codes "join" ∷ map decimal (seat ∷ session ∷ s ∷ [])
-entry_words (Packet seat session s a b i) = codes "packet" ∷ map decimal (seat ∷ session ∷ s ∷ a ∷ b ∷ i ∷ [])
-
 abbrev pub note_words : Note → List (List ℕ)
-note_words (Kept entry) = entry_words entry
+note_words (Join seat session s) = codes "join" ∷ map decimal (seat ∷ session ∷ s ∷ [])
+note_words (Packet seat session s a b i) = codes "packet" ∷ map decimal (seat ∷ session ∷ s ∷ a ∷ b ∷ i ∷ [])
 note_words (Flow s a b i o) = codes "flow" ∷ map decimal (s ∷ a ∷ b ∷ i ∷ o ∷ [])
 
 abbrev pub header : List (List ℕ)
@@ -72,12 +67,9 @@ abbrev pub are_elements : List ℕ → Bool
 are_elements es = list_all (λ e. nat_le e most) es
 
 -- a seat and a session below 2 ^ 32, and elements below 2 ^ 64
-abbrev pub is_entry : Entry → Bool
-is_entry (Join seat session s) = nat_le seat most_seat && (nat_le session most_seat && nat_le s most)
-is_entry (Packet seat session s a b i) = nat_le seat most_seat && (nat_le session most_seat && are_elements (s ∷ a ∷ b ∷ i ∷ []))
-
 abbrev pub is_note : Note → Bool
-is_note (Kept entry) = is_entry entry
+is_note (Join seat session s) = nat_le seat most_seat && (nat_le session most_seat && nat_le s most)
+is_note (Packet seat session s a b i) = nat_le seat most_seat && (nat_le session most_seat && are_elements (s ∷ a ∷ b ∷ i ∷ []))
 is_note (Flow s a b i o) = are_elements (s ∷ a ∷ b ∷ i ∷ o ∷ [])
 
 abbrev pub are_notes : List Note → Bool

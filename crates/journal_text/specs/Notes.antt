@@ -3,9 +3,8 @@ use Rattle.std.specs.Prelude.{ℕ, Bool, false, ◌&&◌, if◌then◌else◌, L
 use Rattle.std.specs.Str.{bytes_eq}
 use Rattle.text_lines.specs.Text.{next, ended}
 use Rattle.text_lines.specs.Numbers.{◌>>=◌, number_at}
-use Rattle.csdn_history.specs.declared.entry.Entry.TheVariants.{Join, Packet}
 use Rattle.journal_text.specs.declared.note.Note.{Note}
-use Rattle.journal_text.specs.declared.note.Note.TheVariants.{Kept, Flow}
+use Rattle.journal_text.specs.declared.note.Note.TheVariants.{Join, Packet, Flow}
 
 -- 2 ^ 32 - 1
 abbrev pub most_seat : ℕ
@@ -29,7 +28,7 @@ join_of ws = do
   session ← number_at most_seat seat.1
   s ← number_at most session.1
   end ← ended s.1
-  Some (Kept (Join seat.0 session.0 s.0))
+  Some (Join seat.0 session.0 s.0)
 
 -- `packet SEAT SESSION S A B I`
 unfoldable pub packet_of : List (List ℕ) → Option Note
@@ -41,7 +40,7 @@ packet_of ws = do
   b ← number_at most a.1
   i ← number_at most b.1
   end ← ended i.1
-  Some (Kept (Packet seat.0 session.0 s.0 a.0 b.0 i.0))
+  Some (Packet seat.0 session.0 s.0 a.0 b.0 i.0)
 
 -- `flow S A B I O`
 unfoldable pub flow_of : List (List ℕ) → Option Note

@@ -4,7 +4,6 @@ ghost use Rattle.text_lines.specs.Numbers.{number_at};
 ghost use Rattle.journal_text.specs.Notes.{flow_of, header_of, is_end as is_end_line, join_of, most, most_seat, note_of, packet_of};
 
 use crate::note::Note;
-use csdn_history::entry::Entry;
 use text_lines::Words;
 
 const MOST: u64 = 0xffff_ffff_ffff_ffff;
@@ -58,7 +57,7 @@ fn join(words: Words) -> Option<Note>
     let (session, words) = seat_number(words)?;
     let (s, words) = words.number(MOST)?;
     words.end()?;
-    Some(Note::Kept(Entry::Join { seat, session, s }))
+    Some(Note::Join { seat, session, s })
 }
 
 // `packet SEAT SESSION S A B I`, from the words behind `packet`.
@@ -73,14 +72,14 @@ fn packet(words: Words) -> Option<Note>
     let (b, words) = words.number(MOST)?;
     let (i, words) = words.number(MOST)?;
     words.end()?;
-    Some(Note::Kept(Entry::Packet {
+    Some(Note::Packet {
         seat,
         session,
         s,
         a,
         b,
         i,
-    }))
+    })
 }
 
 // `flow S A B I O`, from the words behind `flow`.

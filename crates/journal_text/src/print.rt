@@ -3,11 +3,10 @@ ghost use Rattle.std.specs.Prelude.{◌≡◌, ◌++◌, ◌∷◌, [], IfOk, Ok
 ghost use Rattle.std.specs.List.{flat_map};
 ghost use Rattle.text_lines.specs.Machine.{reading};
 ghost use Rattle.text_lines.specs.Printed.{line_text};
-ghost use Rattle.journal_text.specs.JournalText.{are_notes, entry_words, header, is_entry, is_note, journal_format, journal_text, note_words};
+ghost use Rattle.journal_text.specs.JournalText.{are_notes, header, is_note, journal_format, journal_text, note_words};
 
 use crate::note::{Note, Notes};
 use csdn_core::program::Text;
-use csdn_history::entry::Entry;
 use sqlite_items::Items;
 use std::alloc::{AllocError, Global};
 use text_lines::{put_line, put_line_end, put_next_word, put_word};
@@ -57,20 +56,10 @@ fn put_note(out: &mut Vec<u8>, note: Note) -> Result<(), AllocError>
     ensures limits { is_note note ≡ true }
 {
     match note {
-        Note::Kept(entry) => put_entry(out, entry),
-        Note::Flow { s, a, b, i, o } => put_line(out, b"flow", &[s, a, b, i, o]),
-    }
-}
-
-fn put_entry(out: &mut Vec<u8>, entry: Entry) -> Result<(), AllocError>
-    ensures text { OnOk result (out.new.items ≡ out.old.items ++ line_text (entry_words entry)) }
-    ensures limits { is_entry entry ≡ true }
-{
-    match entry {
-        Entry::Join { seat, session, s } => {
+        Note::Join { seat, session, s } => {
             put_line(out, b"join", &[u64::from(seat), u64::from(session), s])
         }
-        Entry::Packet {
+        Note::Packet {
             seat,
             session,
             s,
@@ -82,5 +71,6 @@ fn put_entry(out: &mut Vec<u8>, entry: Entry) -> Result<(), AllocError>
             b"packet",
             &[u64::from(seat), u64::from(session), s, a, b, i],
         ),
+        Note::Flow { s, a, b, i, o } => put_line(out, b"flow", &[s, a, b, i, o]),
     }
 }

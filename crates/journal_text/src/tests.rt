@@ -1,6 +1,5 @@
 //! Worked texts: what is read, which line is refused, and what is printed.
 use super::*;
-use csdn_history::entry::Entry;
 use std::alloc::Global;
 use std::test::Fail;
 
@@ -102,19 +101,19 @@ fn each_line_is_one_note(rt: HostRuntime) -> Result<(), Fail> {
     let text = b"vericon-journal 1\njoin 3 4 5\npacket 3 4 5 6 7 8\nflow 5 6 7 8 9\nend\n";
     let notes = read_journal(rt.alloc(), text.as_slice())?;
     let wanted = [
-        Note::Kept(Entry::Join {
+        Note::Join {
             seat: 3,
             session: 4,
             s: 5,
-        }),
-        Note::Kept(Entry::Packet {
+        },
+        Note::Packet {
             seat: 3,
             session: 4,
             s: 5,
             a: 6,
             b: 7,
             i: 8,
-        }),
+        },
         Note::Flow {
             s: 5,
             a: 6,

@@ -30,7 +30,7 @@ module _ (P : Parts) (well : IsWellSorted P) (N : Network) (network : IsNetwork 
 
   -- a sentence has one truth in both
   same_truth : (p : Formula) → IsClosed P p → truth (structure P N x Nothing) p no_values ≡ truth (structure P N (held its.rows) Nothing) p no_values
-  same_truth p closed = its.same_in_scope Nothing no_scope p (any_event P well p closed) no_values (λ v s is. absurd (none-some s is))
+  same_truth p closed = its.same Nothing no_scope p (any_event P well p closed) no_values (λ v s is. absurd (none-some s is))
 
 -- where the program is inductive over finite states, each condition holds in every state
 from_finite : (P : Parts) → IsWellSorted P → (n : ℕ) → IsInductiveFinitely n P → IsInductive n P

@@ -41,7 +41,7 @@ use Rattle.net_text.specs.Lines.{most, or_why, wants, header_of, behind, has_som
 use Rattle.net_text.specs.NetText.{end_of, static_of_line, with_fact, stored_of_line, flow_of_line, item_by, fact_by, item_line, fact_line, step, finish, net_format, net_text}
 use Rattle.net_text.specs.Gives.{Gives}
 use Rattle.net_facts.specs.Cases.{IsKept, IsStateTuple, IsState, IsPacket, IsCase, IsRisingState, IsInOrder}
-use Rattle.net_facts.proofs.Rising.{rising-insert}
+use Rattle.net_structs.proofs.Ordered.{sorted-insert}
 use Rattle.net_facts.proofs.LinesAgain.{static_total}
 use Rattle.net_facts.proofs.ReadBack.{read_back}
 use Rattle.net_facts.proofs.GivenLines.{bound, wanted, found, given, IsSmall, IsSort, sort_given, same_cells_given, IsTold, tuple_given, flow_given, packet_given}
@@ -177,7 +177,7 @@ static_put P N t bare told =
       small = each_sort (All IsSmall) M (bare.small Sw) (bare.small Ho) (bare.small Pr);
       numerals = bare.numerals;
       rows = All-weaker (IsStaticTuple P N) (IsStaticTuple P M) moved M.rows (All-insert_key static_cmp row (IsStaticTuple P N) N.rows bare.rows new);
-      static_rise = rising-insert static_total N.rows row bare.static_rise;
+      static_rise = sorted-insert static_total N.rows row bare.static_rise;
     }
 
 static_given : (P : Parts) (draft new : Open) (ws : List (List ℕ)) → static_of_line P draft ws ≡ Ok new → IsOpen P draft → IsOpen P new
@@ -204,7 +204,7 @@ pub record IsStateSoFar (P : Parts) (N : Network) (rows : List Row) : Type 0 whe
 fact_put : (P : Parts) (N : Network) (rows : List Row) (pred : Pred) (cells : List ℕ) → IsStateSoFar P N rows → IsStateTuple P N (record { pred = pred; cells = cells }) → IsStateSoFar P N (with_fact rows pred cells)
 fact_put P N rows pred cells state new = record {
   tuples = All-insert_key row_cmp (record { pred = pred; cells = cells }) (IsStateTuple P N) rows state.tuples new;
-  rise = rising-insert row_total rows (record { pred = pred; cells = cells }) state.rise;
+  rise = sorted-insert row_total rows (record { pred = pred; cells = cells }) state.rise;
 }
 
 stored_given : (P : Parts) (draft : Open) (rows new : List Row) (ws : List (List ℕ)) → stored_of_line P draft rows ws ≡ Ok new → IsStateSoFar P draft.network rows → IsStateSoFar P draft.network new

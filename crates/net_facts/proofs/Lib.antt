@@ -7,3 +7,4 @@ pub mod GivenCases
 pub mod AcceptedOrder
 pub mod ListedStates
 pub mod FiniteInduction
+pub mod ExampleLemmas

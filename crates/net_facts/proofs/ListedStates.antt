@@ -9,6 +9,7 @@ use Rattle.std.proofs.lemmas.List.Elements.{All-nil, All-cons, All-append, All-m
 use Rattle.std.proofs.lemmas.List.Folds.{list_any-append}
 use Rattle.general_facts.proofs.Lists.{list_any-map}
 use Rattle.general_facts.proofs.Numbers.{self_equal}
+use Rattle.std.proofs.Math.Bool.{and-false}
 use Rattle.csdn_core.proofs.Same.{same_pred-refl, same_cells-is, same_pred-is}
 use Rattle.csdn_core.specs.declared.terms.Sort.{Sort}
 use Rattle.csdn_core.specs.declared.terms.Pred.{Pred}
@@ -18,11 +19,10 @@ use Rattle.csdn_core.specs.declared.program.Parts.{Parts}
 use Rattle.csdn_core.specs.declared.program.Relation.{Relation}
 use Rattle.csdn_core.specs.Truth.{truth}
 use Rattle.csdn_core.specs.Network.{Network, State, elements, structure, holds_in, same_pred, same_cells, is_fixed, is_fixed_in, is_static_row, HaveElements, IsNetwork}
-use Rattle.csdn_core.specs.Run.{no_values}
 use Rattle.csdn_core.specs.Sorted.{sorts_of, flow_sorts}
 use Rattle.csdn_core.specs.WellSorted.{signature}
 use Rattle.csdn_core.specs.SortedIn.{any_relation}
-use Rattle.csdn_core.proofs.Agreement.{sentence-same, truth_sees, structure_of, structures_agree}
+use Rattle.csdn_core.proofs.Agreement.{truth_sees, structure_of, structures_agree}
 use Rattle.net_structs.specs.declared.row.Row.{Row}
 use Rattle.net_structs.specs.Rows.{tuple_of, held}
 use Rattle.net_structs.specs.StateTuples.{IsKept, IsStateTuple}
@@ -194,11 +194,7 @@ one_held x r cells row true true same there rest left is = mine ∙ true_and (x 
 one_held x r cells row true false same there rest left is =
     let parts = and_parts (same_pred r row.pred) (same_cells cells row.cells) same in
     let absent : x r cells ≡ false = ap₂ x (same_pred-is r row.pred parts.0) (same_cells-is cells row.cells parts.1) ∙ there in
-    is ∙ ap (λ b. rest && b) absent ∙ and_false rest ∙ sym absent
-  where
-    and_false : (b : Bool) → (b && false) ≡ false
-    and_false true = refl
-    and_false false = refl
+    is ∙ ap (λ b. rest && b) absent ∙ and-false rest ∙ sym absent
 one_held x r cells row false true same there rest left is = is
 one_held x r cells row false false same there rest left is = is
 
@@ -264,9 +260,7 @@ module _ (P : Parts) (N : Network) (network : IsNetwork P N) (x : State) where
   listed = record {
     rows = rows;
     tuples = All-filter (is_in x) (IsStateTuple P N) (all_rows P N) (all_are_tuples P N);
-    same = λ packet place p sorted distinct.
-        sentence-same P N network x mixed agrees packet place p sorted distinct ∙ ap (λ M. truth M p no_values) (same_structure packet);
-    same_in_scope = λ packet Γ p sorted e keeps.
+    same = λ packet Γ p sorted e keeps.
         truth_sees (signature P) any_relation (structure P N x packet) (structure P N mixed packet) (structure_of P N network x packet) (structures_agree P N network x mixed agrees packet any_relation)
         Γ p e e sorted (record { there = keeps; same = λ v s is. refl }) ∙ ap (λ M. truth M p e) (same_structure packet);
   }

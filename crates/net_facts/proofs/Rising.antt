@@ -1,7 +1,7 @@
 -- Lists that rise, built up from their front.
 use Rattle.std.proofs.Common.{◌≡◌, ◌∙◌, ap, sym, subst, refl, ℕ, ◌==◌, true, false, List, [], ◌∷◌, ◌++◌, append_assoc, append-nil, if◌then◌else◌}
 use Rattle.std.specs.List.{AllByRecursion}
-use Rattle.std.specs.Ordering.{match_ordering, nat_cmp, is_eq, ordering_reverse}
+use Rattle.std.specs.Ordering.{nat_cmp, is_eq}
 use Rattle.std.specs.declared.cmp.Ordering.{Ordering}
 use Rattle.std.specs.declared.cmp.Ordering.TheVariants.{Less}
 use Rattle.std.specs.Cmp.{IsTotalOrder}
@@ -9,7 +9,7 @@ use Rattle.std.specs.BTreeSet.{insert_key}
 use Rattle.std.specs.List.Sorted.{IsStrictlySortedBy}
 use Rattle.text_lines.specs.Distinct.{has, are_distinct}
 use Rattle.net_structs.specs.Networks.{put_in_order, in_order}
-use Rattle.net_structs.proofs.Ordered.{sorted-in_order}
+use Rattle.net_structs.proofs.Ordered.{insert_last}
 use Rattle.net_structs.proofs.Tied.{is_eq-nat_cmp}
 
 at_middle : {X : Type 0} (P : X → Type 0) (xs : List X) (x : X) (ys : List X) → AllByRecursion P (xs ++ x ∷ ys) → P x
@@ -21,12 +21,6 @@ pub rises_on : {X : Type 0} (R : X → X → Ordering) (done : List X) (x : X) (
 rises_on R done x rest rising = subst (IsStrictlySortedBy R) (sym (append_assoc done (x ∷ []) rest)) rising
 
 module _ {X : Type 0} {R : X → X → Ordering} (o : IsTotalOrder R) where
-  insert_last : (xs : List X) (x : X) → AllByRecursion (λ y. R y x ≡ Less) xs → insert_key R xs x ≡ xs ++ x ∷ []
-  insert_last [] x below = refl
-  insert_last (y ∷ ys) x below =
-      ap (λ r. match_ordering r (x ∷ y ∷ ys) (y ∷ ys) (y ∷ insert_key R ys x)) (o.antisymm x y ∙ ap ordering_reverse below.0)
-      ∙ ap (λ zs. y ∷ zs) (insert_last ys x below.1)
-
   below_middle : (xs : List X) (x : X) (ys : List X) → IsStrictlySortedBy R (xs ++ x ∷ ys) → AllByRecursion (λ y. R y x ≡ Less) xs
   unfolding IsStrictlySortedBy
   below_middle [] x ys rising = tt
@@ -34,7 +28,7 @@ module _ {X : Type 0} {R : X → X → Ordering} (o : IsTotalOrder R) where
 
   -- the next member of a rising list stands behind those before it
   pub insert_next : (done : List X) (x : X) (rest : List X) → IsStrictlySortedBy R (done ++ x ∷ rest) → insert_key R done x ≡ done ++ x ∷ []
-  insert_next done x rest rising = insert_last done x (below_middle done x rest rising)
+  insert_next done x rest rising = insert_last o done x (below_middle done x rest rising)
 
   put_rising : (done rest : List X) → IsStrictlySortedBy R (done ++ rest) → put_in_order R done rest ≡ done ++ rest
   put_rising done [] rising = sym (append-nil done)
@@ -59,14 +53,3 @@ pub distinct_rising : (xs : List ℕ) → IsStrictlySortedBy nat_cmp xs → are_
 unfolding IsStrictlySortedBy
 distinct_rising [] rising = refl
 distinct_rising (x ∷ xs) rising = ap (λ b. if b then false else are_distinct xs) (not_among x xs rising.0) ∙ distinct_rising xs rising.1
-
-module _ {X : Type 0} {R : X → X → Ordering} (o : IsTotalOrder R) where
-  put-append : (done xs ys : List X) → put_in_order R done (xs ++ ys) ≡ put_in_order R (put_in_order R done xs) ys
-  put-append done [] ys = refl
-  put-append done (x ∷ xs) ys = put-append (insert_key R done x) xs ys
-
-  -- a member put into a rising list
-  pub rising-insert : (xs : List X) (x : X) → IsStrictlySortedBy R xs → IsStrictlySortedBy R (insert_key R xs x)
-  rising-insert xs x rising =
-      let as_put : in_order R (xs ++ x ∷ []) ≡ insert_key R xs x = put-append [] xs (x ∷ []) ∙ ap (λ ys. insert_key R ys x) (in_order_rising o xs rising) in
-      subst (IsStrictlySortedBy R) as_put (sorted-in_order o (xs ++ x ∷ []))

@@ -19,6 +19,7 @@ ghost use Rattle.net_text.specs.NetText.{net_format, net_text};
 ghost use Rattle.net_text.specs.Gives.{Gives};
 ghost use Rattle.net_facts.specs.Cases.{IsCase, IsInOrder};
 ghost use Rattle.net_facts.specs.Listed.{HasTruthOfList};
+ghost use Rattle.net_facts.specs.Example.{quiet_program};
 
 /// What is printed of a case reads as that case; so the reader answers it, or that there is no memory.
 pub fn cases_read_back()
@@ -48,4 +49,12 @@ pub fn states_have_truth_of_lists()
 /// A well-sorted program is n-inductive exactly where it is over the states of finitely many tuples.
 pub fn finite_states_suffice()
     ensures { (P : AnyParts) → IsWellSorted P → (n : ℕ) → IsInductive n P ↔ IsInductiveFinitely n P }
+{}
+
+/// A program of one relation and one invariant, by hand: it is well-sorted, and 0-inductive over finite states; so it is
+/// 0-inductive.
+pub fn finite_states_example()
+    ensures sorted { IsWellSorted quiet_program }
+    ensures finitely { IsInductiveFinitely 0 quiet_program }
+    ensures inductive { IsInductive 0 quiet_program }
 {}

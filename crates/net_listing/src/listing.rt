@@ -3,7 +3,7 @@ ghost use Rattle.std.specs.Prelude.{◌≡◌, ◌≤◌, ◌++◌, ◌∷◌, [
 ghost use Rattle.std.specs.List.{flat_map};
 ghost use Rattle.text_lines.specs.Printed.{line_text};
 ghost use Rattle.csdn_core.specs.Network.{structure};
-ghost use Rattle.net_structs.specs.Depth.{depth};
+ghost use Rattle.csdn_core.specs.Depth.{depth};
 ghost use Rattle.net_structs.specs.Rows.{held};
 ghost use Rattle.net_listing.specs.Listings.{listing, state_lines, transition_lines, truth_lines, truth_word, truth_words};
 ghost use Rattle.csdn_core.specs.declared.event.Packet.TheVariants.{Nothing};

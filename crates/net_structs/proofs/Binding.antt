@@ -18,10 +18,6 @@ chosen : (b : Bool) (m : ℕ) (found : Option ℕ) → or_zero (if b then Some m
 chosen true m found = refl
 chosen false m found = refl
 
-same_values : (e e' : Assignment) (pairs : List Pair) (v : VarId) → e v.0 ≡ e' v.0 → extended e pairs v.0 ≡ extended e' pairs v.0
-same_values e e' [] v same = same
-same_values e e' (p ∷ pairs) v same = same_values (with_var e p.var p.value) (with_var e' p.var p.value) pairs v (ap (λ m. if v.0 == p.var.0 then p.value else m) same)
-
 found_from : (e : Assignment) (found : Option ℕ) (pairs : List Pair) (v : VarId) → or_zero found ≡ e v.0 → or_zero (found_in found pairs v) ≡ extended e pairs v.0
 found_from e found [] v same = same
 found_from e found (p ∷ pairs) v same =

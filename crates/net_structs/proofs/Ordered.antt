@@ -27,7 +27,7 @@ module _ {X : Type 0} {R : X → X → Ordering} (o : IsTotalOrder R) where
   below_all x y [] less all = tt
   below_all x y (z ∷ zs) less all = (o.trans x y z less all.0, below_all x y zs less all.1)
 
-  sorted-insert : (xs : List X) (x : X) → IsStrictlySortedBy R xs → IsStrictlySortedBy R (insert_key R xs x)
+  pub sorted-insert : (xs : List X) (x : X) → IsStrictlySortedBy R xs → IsStrictlySortedBy R (insert_key R xs x)
   unfolding IsStrictlySortedBy
   sorted-insert [] x sorted = (tt, tt)
   sorted-insert (y ∷ ys) x sorted = elim (R x y) as (λ r. R x y ≡ r → IsStrictlySortedBy R (match_ordering r (x ∷ y ∷ ys) (y ∷ ys) (y ∷ insert_key R ys x))) [
@@ -45,7 +45,7 @@ module _ {X : Type 0} {R : X → X → Ordering} (o : IsTotalOrder R) where
   unfolding IsStrictlySortedBy
   sorted-in_order xs = sorted-put [] xs tt
 
-  insert_last : (xs : List X) (x : X) → AllByRecursion (λ y. R y x ≡ Less) xs → insert_key R xs x ≡ xs ++ x ∷ []
+  pub insert_last : (xs : List X) (x : X) → AllByRecursion (λ y. R y x ≡ Less) xs → insert_key R xs x ≡ xs ++ x ∷ []
   insert_last [] x below = refl
   insert_last (y ∷ ys) x below =
       ap (λ r. match_ordering r (x ∷ y ∷ ys) (y ∷ ys) (y ∷ insert_key R ys x)) (o.antisymm x y ∙ ap ordering_reverse below.0)

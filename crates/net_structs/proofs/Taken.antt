@@ -19,7 +19,7 @@ use Rattle.net_structs.proofs.Tied.{held_tied}
 
 -- without some rows
 
-one_more : (x t h : Bool) → ((x && not t) && not h) ≡ (x && not (t || h))
+pub one_more : (x t h : Bool) → ((x && not t) && not h) ≡ (x && not (t || h))
 one_more true true h = refl
 one_more true false h = refl
 one_more false true h = refl

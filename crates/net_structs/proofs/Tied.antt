@@ -1,8 +1,8 @@
 -- The queries of an ordered set of rows, and what the rows hold.
-use Rattle.std.proofs.Common.{◌≡◌, ◌∙◌, ap, ap₂, sym, refl, ℕ, ◌==◌, Bool, true, false, not, cond, ◌&&◌, ◌||◌, List, [], ◌∷◌, ◌++◌, map}
+use Rattle.std.proofs.Common.{◌≡◌, ◌∙◌, ap, ap₂, sym, refl, ℕ, ◌==◌, Bool, true, false, not, cond, ◌&&◌, ◌||◌, List, [], ◌∷◌, map}
 use Rattle.std.proofs.Math.Bool.{and_assoc}
 use Rattle.std.proofs.Math.Path.{fun_ext}
-use Rattle.std.specs.List.{list_any, filter}
+use Rattle.std.specs.List.{list_any}
 use Rattle.std.specs.Ordering.{is_eq, nat_cmp, ordering_then}
 use Rattle.std.specs.declared.cmp.Ordering.{Ordering}
 use Rattle.std.specs.declared.cmp.Ordering.TheVariants.{Less, Equal, Greater}
@@ -10,7 +10,6 @@ use Rattle.std.specs.Cmp.{unsigned_ties}
 use Rattle.std.specs.Cmp.Lexicographic.{slice_cmp}
 use Rattle.std.specs.BTreeMap.{is_at}
 use Rattle.std.proofs.lemmas.Cmp.{eq_by_cmp_equiv}
-use Rattle.std.proofs.lemmas.List.{append_assoc}
 use Rattle.csdn_core.specs.declared.terms.RelId.{RelId}
 use Rattle.csdn_core.specs.declared.terms.Pred.{Pred}
 use Rattle.csdn_core.specs.declared.terms.Pred.TheVariants.{Stored, Ft, Sent, RcvThis}
@@ -109,14 +108,6 @@ take_is old new seen r copied cells up view copy =
     ∙ ap₂ (λ a b. cond a false b) (it_is r q copied ds) (held_tied (as_row q ds) old)
     ∙ and_out (same_pred q r && same_cells ds copied) (held old q ds)))
     ∙ ap₂ (λ a c. take_out (held a) r c) view copy
-
--- an element of a list that is filtered
-
-pub filter_took : {X : Type 0} (test : X → Bool) (x : X) (done xs : List X) → test x ≡ true → (done ++ x ∷ []) ++ filter test xs ≡ done ++ filter test (x ∷ xs)
-filter_took test x done xs is = append_assoc done (x ∷ []) (filter test xs) ∙ ap (λ b. done ++ cond b (x ∷ filter test xs) (filter test xs)) (sym is)
-
-pub filter_left : {X : Type 0} (test : X → Bool) (x : X) (done xs : List X) → test x ≡ false → done ++ filter test xs ≡ done ++ filter test (x ∷ xs)
-filter_left test x done xs is = ap (λ b. done ++ cond b (x ∷ filter test xs) (filter test xs)) (sym is)
 
 -- static rows
 

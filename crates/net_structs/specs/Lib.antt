@@ -5,4 +5,3 @@ pub mod Networks
 pub mod Refusals
 pub mod Binds
 pub mod Views
-pub mod Depth

@@ -1,12 +1,12 @@
 //! Truth of formulas.
-#![tactic(auto, using(csdn_core::specs::TruthSteps::truth_steps, csdn_core::specs::Nodes::node_steps, crate::specs::Depth::depth_steps))]
+#![tactic(auto, using(csdn_core::proofs::TruthSteps::truth_steps, csdn_core::proofs::NodeSteps::node_steps, csdn_core::proofs::DepthSteps::depth_steps))]
 
 ghost use Rattle.std.specs.Prelude.{◌≡◌, ◌<◌, ◌≤◌, ◌+◌, length};
 ghost use Rattle.std.specs.List.{list_any, list_all};
 ghost use Rattle.csdn_core.specs.Truth.{truth as truth_of, with_var};
 ghost use Rattle.csdn_core.specs.Network.{elements as elements_of, structure};
 ghost use Rattle.net_structs.specs.Binds.{assignment};
-ghost use Rattle.net_structs.specs.Depth.{depth};
+ghost use Rattle.csdn_core.specs.Depth.{depth};
 ghost use Rattle.net_structs.specs.Rows.{held};
 ghost use Rattle.net_structs.specs.Views.{but, world};
 

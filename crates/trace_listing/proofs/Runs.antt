@@ -1,7 +1,6 @@
 -- Where all notes happen, their events are a run.
 use Rattle.std.proofs.Common.{◌≡◌, refl, sym, ℕ, ◌+◌, Bool, true, false, if◌then◌else◌, List, [], ◌∷◌, Some, None}
 use Rattle.std.proofs.lemmas.Option.{same_Some}
-use Rattle.csdn_history.specs.declared.entry.Entry.TheVariants.{Join, Packet as PacketEntry}
 use Rattle.csdn_core.specs.declared.event.Event.{Event}
 use Rattle.csdn_core.specs.declared.event.Event.TheVariants.{PktIn, PktFlow}
 use Rattle.csdn_core.specs.declared.program.Parts.{Parts}
@@ -11,7 +10,7 @@ use Rattle.net_structs.specs.Networks.{has}
 use Rattle.csdn_step.specs.Answers.{is_of_network, is_enabled}
 use Rattle.csdn_step.proofs.Steps.{steps}
 use Rattle.journal_text.specs.declared.note.Note.{Note}
-use Rattle.journal_text.specs.declared.note.Note.TheVariants.{Kept, Flow}
+use Rattle.journal_text.specs.declared.note.Note.TheVariants.{Join, Packet as PacketNote, Flow}
 use Rattle.trace_listing.specs.declared.notes.Refusal.TheVariants.{Stranger, NotEnabled}
 use Rattle.trace_listing.specs.Traces.{Traced, traced, unless_refused, with_note, refusal_of, after, after_event, first_broken, packet_of, events_of}
 
@@ -33,12 +32,12 @@ module _ (P : Parts) (N : Network) where
   pub runs : (j : ℕ) (x y : State) (notes : List Note) → (traced P N j x notes).last ≡ Some y → Run P N x (events_of notes) y
   unfolding refusal_of after
   runs j x y [] is = sym (same_Some x y is)
-  runs j x y (Kept (Join seat session s) ∷ notes) is =
-      join_run j x y (events_of notes) (with_note j (first_broken P N x (packet_of (Kept (Join seat session s)))) (traced P N (j + 1) x notes)) (has N.switches s) (λ e. runs (j + 1) x y notes e) is
-  runs j x y (Kept (PacketEntry seat session s a b i) ∷ notes) is =
+  runs j x y (Join seat session s ∷ notes) is =
+      join_run j x y (events_of notes) (with_note j (first_broken P N x (packet_of (Join seat session s))) (traced P N (j + 1) x notes)) (has N.switches s) (λ e. runs (j + 1) x y notes e) is
+  runs j x y (PacketNote seat session s a b i ∷ notes) is =
       let event = PktIn s a b i in
       let z = after_event P N x event in
-      event_run event j x y (events_of notes) (with_note j (first_broken P N z (packet_of (Kept (PacketEntry seat session s a b i)))) (traced P N (j + 1) z notes)) (is_of_network N event) (is_enabled P N x event) refl refl
+      event_run event j x y (events_of notes) (with_note j (first_broken P N z (packet_of (PacketNote seat session s a b i))) (traced P N (j + 1) z notes)) (is_of_network N event) (is_enabled P N x event) refl refl
       (λ e. runs (j + 1) z y notes e) is
   runs j x y (Flow s a b i o ∷ notes) is =
       let event = PktFlow s a b i o in

@@ -2,7 +2,6 @@
 use Rattle.std.specs.Prelude.{◌≡◌, ℕ, ◌+◌, Bool, true, false, ◌&&◌, if◌then◌else◌, List, [], ◌∷◌, ◌++◌, Option, Some, None, is_none, codes, decimal}
 use Rattle.std.specs.Option.{option_or}
 use Rattle.std.specs.List.Sorted.{IsStrictlySortedBy}
-use Rattle.csdn_history.specs.declared.entry.Entry.TheVariants.{Join, Packet as PacketEntry}
 use Rattle.csdn_core.specs.declared.event.Event.{Event}
 use Rattle.csdn_core.specs.declared.event.Event.TheVariants.{PktIn, PktFlow}
 use Rattle.csdn_core.specs.declared.event.Packet.{Packet}
@@ -21,7 +20,7 @@ use Rattle.csdn_step.specs.Answers.{is_of_network, is_enabled}
 use Rattle.csdn_step.specs.Courses.{fired, from_state}
 use Rattle.net_text.specs.NetText.{net_text}
 use Rattle.journal_text.specs.declared.note.Note.{Note}
-use Rattle.journal_text.specs.declared.note.Note.TheVariants.{Kept, Flow}
+use Rattle.journal_text.specs.declared.note.Note.TheVariants.{Join, Packet as PacketNote, Flow}
 use Rattle.trace_listing.specs.declared.notes.Refusal.{Refusal}
 use Rattle.trace_listing.specs.declared.notes.Refusal.TheVariants.{Stranger, NotEnabled}
 use Rattle.trace_listing.specs.declared.trace.Ending.{Ending}
@@ -31,8 +30,8 @@ use Rattle.trace_listing.specs.declared.trace.Ending.TheVariants.{Unbroken, Brok
 
 -- the packet of which transition invariants speak after a note
 abbrev pub packet_of : Note → Packet
-packet_of (Kept (Join seat session s)) = Nothing
-packet_of (Kept (PacketEntry seat session s a b i)) = At s a b i
+packet_of (Join seat session s) = Nothing
+packet_of (PacketNote seat session s a b i) = At s a b i
 packet_of (Flow s a b i o) = At s a b i
 
 -- why an event can't happen, where it can't
@@ -41,8 +40,8 @@ event_refusal P N x event = if is_of_network N event then (if is_enabled P N x e
 
 -- .. and a note; a join must name a switch
 unfoldable pub refusal_of : Parts → Network → State → Note → Option Refusal
-refusal_of P N x (Kept (Join seat session s)) = if has N.switches s then None else Some Stranger
-refusal_of P N x (Kept (PacketEntry seat session s a b i)) = event_refusal P N x (PktIn s a b i)
+refusal_of P N x (Join seat session s) = if has N.switches s then None else Some Stranger
+refusal_of P N x (PacketNote seat session s a b i) = event_refusal P N x (PktIn s a b i)
 refusal_of P N x (Flow s a b i o) = event_refusal P N x (PktFlow s a b i o)
 
 -- the state after an event, with the least element at each `pick`
@@ -51,8 +50,8 @@ after_event P N x event = (fired P N WithSent event (from_state x)).state
 
 -- .. and after a note; a join changes nothing
 unfoldable pub after : Parts → Network → State → Note → State
-after P N x (Kept (Join seat session s)) = x
-after P N x (Kept (PacketEntry seat session s a b i)) = after_event P N x (PktIn s a b i)
+after P N x (Join seat session s) = x
+after P N x (PacketNote seat session s a b i) = after_event P N x (PktIn s a b i)
 after P N x (Flow s a b i o) = after_event P N x (PktFlow s a b i o)
 
 -- the name of the first invariant that is false
@@ -126,8 +125,8 @@ IsEnding t Stopped y = t.last ≡ None
 -- the events of the notes; a join is none
 abbrev pub events_of : List Note → List Event
 events_of [] = []
-events_of (Kept (Join seat session s) ∷ notes) = events_of notes
-events_of (Kept (PacketEntry seat session s a b i) ∷ notes) = PktIn s a b i ∷ events_of notes
+events_of (Join seat session s ∷ notes) = events_of notes
+events_of (PacketNote seat session s a b i ∷ notes) = PktIn s a b i ∷ events_of notes
 events_of (Flow s a b i o ∷ notes) = PktFlow s a b i o ∷ events_of notes
 
 -- the state of a case, or the initial one

@@ -4,7 +4,7 @@ ghost use Rattle.csdn_core.specs.Network.{structure};
 ghost use Rattle.csdn_core.specs.Run.{no_values};
 ghost use Rattle.csdn_core.specs.Truth.{truth as truth_of};
 ghost use Rattle.csdn_core.specs.declared.event.Packet.TheVariants.{Nothing};
-ghost use Rattle.net_structs.specs.Depth.{depth};
+ghost use Rattle.csdn_core.specs.Depth.{depth};
 ghost use Rattle.net_structs.specs.Rows.{held};
 ghost use Rattle.trace_listing.specs.Traces.{first_broken as first_broken_of, first_false as first_false_of, first_false_transition as first_false_transition_of};
 

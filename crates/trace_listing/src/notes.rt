@@ -6,7 +6,6 @@ ghost use Rattle.trace_listing.specs.Traces.{after, after_event, event_refusal, 
 use crate::invariants::{Setting, first_broken};
 use csdn_core::event::{Event, Packet};
 use csdn_core::terms::Sort;
-use csdn_history::entry::Entry;
 use csdn_step::{StepRefusal, fire};
 use journal_text::Note;
 use net_structs::env::Env;
@@ -53,14 +52,14 @@ pub fn take(
     ensures after { IfOk result (λ refusal. refusal ≡ None → held state.new ≡ after setting.now.program.now setting.now.network.now (held state.old) note.now) }
 {
     match *note {
-        Note::Kept(Entry::Join { s, .. }) => {
+        Note::Join { s, .. } => {
             if setting.network.has(Sort::Sw, s) {
                 Ok(None)
             } else {
                 Ok(Some(Refusal::Stranger))
             }
         }
-        Note::Kept(Entry::Packet { s, a, b, i, .. }) => {
+        Note::Packet { s, a, b, i, .. } => {
             happen(alloc, setting, state, &Event::PktIn { s, a, b, i })
         }
         Note::Flow { s, a, b, i, o } => {
@@ -74,8 +73,8 @@ fn packet_of(note: &Note) -> Packet
     ensures { result ≡ packet_of_note note.now }
 {
     match *note {
-        Note::Kept(Entry::Join { .. }) => Packet::Nothing,
-        Note::Kept(Entry::Packet { s, a, b, i, .. }) | Note::Flow { s, a, b, i, .. } => {
+        Note::Join { .. } => Packet::Nothing,
+        Note::Packet { s, a, b, i, .. } | Note::Flow { s, a, b, i, .. } => {
             Packet::At { s, a, b, i }
         }
     }

@@ -9,7 +9,7 @@ use Rattle.csdn_core.specs.declared.syntax.Formula.{Formula}
 use Rattle.csdn_core.specs.declared.syntax.Formula.TheVariants as f
 use Rattle.csdn_core.specs.declared.syntax.Command.{Command}
 use Rattle.csdn_core.specs.declared.syntax.Command.TheVariants as c
-use Rattle.csdn_core.specs.Tree.{Not-is, And-is, Or-is, Implies-is, Iff-is, Forall-is, Exists-is, Seq-is, If-is, Pick-is}
+use Rattle.csdn_core.proofs.Shapes.{Not-is, And-is, Or-is, Implies-is, Iff-is, Forall-is, Exists-is, Seq-is, If-is, Pick-is}
 use Rattle.csdn_core.specs.Truth.{same_truth}
 use Rattle.truth_table.specs.Valuation.{atom_value, truth_at, values_after}
 

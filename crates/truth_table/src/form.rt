@@ -33,7 +33,7 @@ fn is_propositional_atom(count: usize, pred: Pred, terms: &Terms) -> bool
     }
 }
 
-#[tactic(auto, using(crate::specs::FirstFormSteps::is_propositional_steps, csdn_core::specs::Nodes::node_steps))]
+#[tactic(auto, using(crate::specs::FirstFormSteps::is_propositional_steps, csdn_core::proofs::NodeSteps::node_steps))]
 fn is_propositional(count: usize, formula: &Formula) -> bool
     ensures { result ≡ is_propositional_of count formula.now }
 {
@@ -53,7 +53,7 @@ fn is_propositional(count: usize, formula: &Formula) -> bool
     }
 }
 
-#[tactic(auto, using(crate::specs::FirstFormSteps::is_propositional_command_steps, csdn_core::specs::Nodes::command_node_steps))]
+#[tactic(auto, using(crate::specs::FirstFormSteps::is_propositional_command_steps, csdn_core::proofs::NodeSteps::command_node_steps))]
 fn is_propositional_command(count: usize, command: &Command) -> bool
     ensures { result ≡ is_propositional_command_of count command.now }
 {
@@ -78,7 +78,7 @@ fn is_propositional_command(count: usize, command: &Command) -> bool
 }
 
 /// What is left of so many times `if` after those of a command; `None` where the command has more.
-#[tactic(auto, using(crate::specs::FirstFormSteps::conditionals_steps, csdn_core::specs::Nodes::command_node_steps))]
+#[tactic(auto, using(crate::specs::FirstFormSteps::conditionals_steps, csdn_core::proofs::NodeSteps::command_node_steps))]
 fn conditionals_left(command: &Command, allowed: usize) -> Option<usize>
     ensures { MatchOption result (allowed < conditionals command.now) (λ left. left + conditionals command.now ≡ allowed) }
 {

@@ -25,7 +25,7 @@ fn atom_value(values: &[bool], pred: Pred) -> bool
 }
 
 /// Whether a formula is true.
-#[tactic(auto, using(crate::specs::ValuationSteps::truth_at_steps, csdn_core::specs::Nodes::node_steps))]
+#[tactic(auto, using(crate::specs::ValuationSteps::truth_at_steps, csdn_core::proofs::NodeSteps::node_steps))]
 pub fn truth(values: &[bool], formula: &Formula) -> bool
     ensures { result ≡ truth_at values.now formula.now }
 {
@@ -53,7 +53,7 @@ fn set(values: &mut [bool], rel: RelId, value: bool)
 }
 
 /// Executes a command.
-#[tactic(auto, using(crate::specs::ValuationSteps::values_after_steps, csdn_core::specs::Nodes::command_node_steps))]
+#[tactic(auto, using(crate::specs::ValuationSteps::values_after_steps, csdn_core::proofs::NodeSteps::command_node_steps))]
 fn execute(values: &mut [bool], command: &Command)
     ensures { values.new ≡ values_after values.old command.now }
 {

@@ -1,0 +1,3 @@
+mod VerdictLaws
+mod AnswerLaws
+mod Exact

@@ -1,5 +1,5 @@
 -- What is answered of a program.
-use Rattle.std.specs.Prelude.{◌≡◌, ℕ, ◌<◌, List, [], ◌∷◌, drop, Some, slice_get}
+use Rattle.std.specs.Prelude.{◌≡◌, ℕ, ◌<◌, Bool, true, false, List, [], ◌∷◌, drop, Some, slice_get, Result, Ok, Err}
 use Rattle.csdn_core.specs.declared.program.Parts.{Parts}
 use Rattle.csdn_core.specs.Network.{Network}
 use Rattle.csdn_core.specs.Holds.{IsTopology, IsInductive}
@@ -10,6 +10,8 @@ use Rattle.csdn_conditions.specs.Answers.{OfCondition}
 use Rattle.csdn_conditions.specs.Classes.{IsClass}
 use Rattle.csdn_conditions.specs.Conditions.{condition, conditions, sentence}
 use Rattle.vericon_decide.specs.declared.verdict.Proof.{Proof}
+use Rattle.vericon_decide.specs.declared.verdict.Verdict.{Verdict}
+use Rattle.vericon_decide.specs.declared.verdict.Verdict.TheVariants.{Valid, Open as OpenVerdict, Nodes as NodesVerdict, Outside as OutsideVerdict, Instances as InstancesVerdict}
 use Rattle.vericon_decide.specs.declared.answer.Why.{Why}
 use Rattle.vericon_decide.specs.declared.answer.Why.TheVariants.{Open, Nodes, Outside, Instances}
 use Rattle.vericon_decide.specs.declared.answer.Answer.{Answer}
@@ -23,12 +25,25 @@ AreProofsOf P [] (proof ∷ proofs) = ⊥
 AreProofsOf P (c ∷ cs) [] = ⊥
 AreProofsOf P (c ∷ cs) (proof ∷ proofs) = IsProofOf P (sentence c) proof × AreProofsOf P cs proofs
 
--- why the condition of number i isn't proven; the network condition is not open
-abbrev pub IsWhy : Parts → ℕ → Condition → Why → Type 0
-IsWhy P i c Open = (0 < i) × IsOpen P c
-IsWhy P i c Nodes = IsClass P (sentence c) NodesClass
-IsWhy P i c Outside = IsClass P (sentence c) OutsideClass
-IsWhy P i c (Instances n) = IsClass P (sentence c) (InstancesClass n)
+-- why a condition isn't proven
+abbrev pub IsWhy : Parts → Condition → Why → Type 0
+IsWhy P c Open = IsOpen P c
+IsWhy P c Nodes = IsClass P (sentence c) NodesClass
+IsWhy P c Outside = IsClass P (sentence c) OutsideClass
+IsWhy P c (Instances n) = IsClass P (sentence c) (InstancesClass n)
+
+-- the proof of a verdict, or why there is none
+abbrev pub told_by : Verdict → Result Proof Why
+told_by (Valid proof) = Ok proof
+told_by OpenVerdict = Err Open
+told_by NodesVerdict = Err Nodes
+told_by OutsideVerdict = Err Outside
+told_by (InstancesVerdict n) = Err (Instances n)
+
+-- the condition is proven by this proof, or isn't for this reason
+abbrev pub IsTold : Parts → Condition → Result Proof Why → Type 0
+IsTold P c (Ok proof) = IsProven P c × IsProofOf P (sentence c) proof
+IsTold P c (Err why) = IsWhy P c why
 
 -- at level n
 module _ (P : Parts) (n : ℕ) where
@@ -54,11 +69,20 @@ module _ (P : Parts) (n : ℕ) where
     pub inductive : IsInductive n P
     pub proofs_of : AreProofsOf P (drop 1 (conditions P n)) proofs
 
-  -- the condition of this number is the first that is not proven, for this reason
+  -- the condition of this number is the first that is not proven, for this reason; the network condition is to be open, so
+  -- that it counts only where it can't be decided
   pub record IsFirstUnproven (index : ℕ) (why : Why) : Type 0 where
     pub met : 0 < index → IsMet
     pub proven : (i : ℕ) (c : Condition) → slice_get (conditions P n) i ≡ Some c → 0 < i → i < index → IsProven P c
-    pub unproven : OfCondition P n index (λ c. IsWhy P index c why)
+    pub unproven : OfCondition P n index (λ c. IsWhy P c why)
+    pub later : why ≡ Open → 0 < index
+
+  -- what yes comes to, without proofs: each condition can be decided, some network meets the topology invariants, and the
+  -- program is inductive
+  pub record IsProvable : Type 0 where
+    pub inside : (i : ℕ) (c : Condition) → slice_get (conditions P n) i ≡ Some c → IsInside P c
+    pub network : (N : Network) × IsTopology P N
+    pub inductive : IsInductive n P
 
 abbrev pub IsAnswer : Parts → Answer → Type 0
 IsAnswer P (Yes level proofs) = (level ≡ 0) × IsProvenBy P level proofs.items
@@ -76,3 +100,13 @@ AreOne (Unknown n i why) (NoNetwork q) = ⊥
 AreOne (NoNetwork p) (Yes m qs) = ⊥
 AreOne (NoNetwork p) (Unknown m j whz) = ⊥
 AreOne (NoNetwork p) (NoNetwork q) = Unit {0}
+
+abbrev pub is_yes : Answer → Bool
+is_yes (Yes n ps) = true
+is_yes (Unknown n i why) = false
+is_yes (NoNetwork p) = false
+
+abbrev pub is_no_network : Answer → Bool
+is_no_network (Yes n ps) = false
+is_no_network (Unknown n i why) = false
+is_no_network (NoNetwork p) = true

@@ -1,9 +1,10 @@
 -- What is said of a condition.
-use Rattle.std.specs.Prelude.{Bool}
+use Rattle.std.specs.Prelude.{Bool, Option, Some, None}
 use Rattle.csdn_core.specs.declared.program.Parts.{Parts}
 use Rattle.csdn_core.specs.declared.syntax.Formula.{Formula}
 use Rattle.clause_search.specs.Outcomes.{IsRefutationOf}
 use Rattle.decision_laws.specs.Copies.{Fact}
+use Rattle.csdn_core.specs.Satisfied.{HasNetwork}
 use Rattle.decision_laws.specs.Laws.{IsJudgement, AreTied}
 use Rattle.csdn_conditions.specs.declared.class.Class.TheVariants.{Inside, Nodes as NodesClass, Outside as OutsideClass, Instances as InstancesClass}
 use Rattle.csdn_conditions.specs.declared.sentence.Condition.{Condition}
@@ -18,6 +19,11 @@ use Rattle.vericon_decide.specs.declared.verdict.Verdict.TheVariants.{Valid, Ope
 pub record IsProofOf (P : Parts) (F : Formula) (proof : Proof) : Type 0 where
   pub tied : AreTied P F proof.clauses.clauses
   pub refuted : IsRefutationOf proof.clauses proof.log
+
+-- a proof where no network and state make the sentence true, and none where some do
+abbrev pub IsSettled : Parts → Formula → Option Proof → Type 0
+IsSettled P F (Some proof) = (HasNetwork P F → ⊥) × IsProofOf P F proof
+IsSettled P F None = HasNetwork P F
 
 module _ (P : Parts) (c : Condition) where
   -- the condition can be decided

@@ -3,11 +3,16 @@
 
 ghost use Rattle.std.specs.Prelude.{IfOk};
 ghost use Rattle.csdn_conditions.specs.Closed.{IsClosed};
-ghost use Rattle.vericon_decide.specs.Verdicts.{IsVerdict};
+ghost use Rattle.decision_laws.specs.Laws.{IsSentence};
+ghost use Rattle.vericon_decide.specs.Verdicts.{IsVerdict, IsSettled};
 
 use clause_log::{Clauses, Log};
+use clause_search::{Outcome, solve};
+use csdn_conditions::class::{Class, class_of};
 use csdn_conditions::sentence::Condition;
 use csdn_core::program::Program;
+use csdn_core::syntax::Formula;
+use ground_inst::making::ground;
 use std::alloc::{AllocError, Global};
 
 /// Why a sentence has no network and state: clauses that are tied to it, and a log that refutes them.
@@ -42,5 +47,33 @@ pub fn decide_condition(
     requires goal { IsClosed program.now condition.goal }
     ensures { IfOk result (IsVerdict program.now condition) }
 {
-    Err(AllocError)
+    let sentence = condition.into_sentence(alloc)?;
+    match class_of(program, &sentence) {
+        Class::Nodes => Ok(Verdict::Nodes),
+        Class::Outside => Ok(Verdict::Outside),
+        Class::Instances(count) => Ok(Verdict::Instances(count)),
+        Class::Inside => match proof_of(alloc, program, &sentence)? {
+            Some(proof) => Ok(Verdict::Valid(proof)),
+            None => Ok(Verdict::Open),
+        },
+    }
+}
+
+// A proof that no network and state make the sentence true; none where some do.
+fn proof_of(
+    alloc: Global,
+    program: &Program,
+    sentence: &Formula,
+) -> Result<Option<Proof>, AllocError>
+    requires { IsSentence program.now sentence.now }
+    ensures { IfOk result (IsSettled program.now sentence.now) }
+{
+    let made = ground(alloc, program, sentence)?;
+    match solve(alloc, &made.clauses)? {
+        Outcome::Model(_) => Ok(None),
+        Outcome::Refuted(log) => Ok(Some(Proof {
+            clauses: made.clauses,
+            log,
+        })),
+    }
 }

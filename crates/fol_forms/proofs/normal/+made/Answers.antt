@@ -1,5 +1,6 @@
 use Rattle.std.proofs.Common.{◌∙◌, ap, sym}
-use Rattle.csdn_core.specs.Tree.{universal, existential, Forall-is, Exists-is}
+use Rattle.csdn_core.specs.Tree.{universal, existential}
+use Rattle.csdn_core.proofs.Shapes.{Forall-is, Exists-is}
 use Rattle.fol_forms.specs.Written.{written}
 use Rattle.fol_forms.proofs.normal.+made.Goals as goal
 

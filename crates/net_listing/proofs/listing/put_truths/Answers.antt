@@ -1,6 +1,6 @@
 use Rattle.std.proofs.Common.{◌∙◌, ◌≤◌}
 use Rattle.csdn_core.specs.Network.{structure}
-use Rattle.net_structs.specs.Depth.{depth}
+use Rattle.csdn_core.specs.Depth.{depth}
 use Rattle.net_structs.specs.Rows.{held}
 use Rattle.net_listing.proofs.Turns.{one_more, all_left}
 use Rattle.net_listing.proofs.listing.put_truths.Goals as goal

@@ -2,7 +2,7 @@ use Rattle.std.proofs.Common.{◌≡◌, ◌≤◌, ◌++◌, All, length}
 use Rattle.std.specs.List.{flat_map}
 use Rattle.text_lines.specs.Printed.{line_text}
 use Rattle.csdn_core.specs.Network.{structure}
-use Rattle.net_structs.specs.Depth.{depth}
+use Rattle.csdn_core.specs.Depth.{depth}
 use Rattle.net_structs.specs.Rows.{held}
 use Rattle.net_listing.specs.Listings.{truth_lines}
 use Rattle.net_listing.proofs.listing.put_truths.Given as goal

@@ -1,4 +1,4 @@
-use Rattle.csdn_core.specs.TruthSteps.{truth-Forall, truth-Exists}
+use Rattle.csdn_core.proofs.TruthSteps.{truth-Forall, truth-Exists}
 use Rattle.net_structs.proofs.Binding.{extended-push}
 use Rattle.net_structs.proofs.truth.+truth.Goals as goal
 

@@ -1,6 +1,6 @@
 use Rattle.std.proofs.Common.{◌≤◌, ◌∙◌, sym, ap, Some, List, ℕ}
 use Rattle.csdn_core.specs.Network.{structure}
-use Rattle.net_structs.specs.Depth.{depth}
+use Rattle.csdn_core.specs.Depth.{depth}
 use Rattle.net_structs.specs.Rows.{held}
 use Rattle.net_listing.proofs.Turns.{all_left}
 use Rattle.trace_listing.proofs.Falses.{found, passed}

@@ -1,6 +1,6 @@
 use Rattle.std.proofs.Common.{◌≡◌, ◌≤◌, All, length}
 use Rattle.csdn_core.specs.Network.{structure}
-use Rattle.net_structs.specs.Depth.{depth}
+use Rattle.csdn_core.specs.Depth.{depth}
 use Rattle.net_structs.specs.Rows.{held}
 use Rattle.trace_listing.specs.Traces.{first_false}
 use Rattle.trace_listing.proofs.invariants.first_false.Given as goal

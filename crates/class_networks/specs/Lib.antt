@@ -1,0 +1,4 @@
+pub mod Cases
+pub mod Judgements
+pub mod Numberings
+pub mod Made

@@ -1,0 +1,10 @@
+use Rattle.std.proofs.Common.{◌≡◌, ◌++◌, [], ◌∷◌}
+use Rattle.std.specs.Prelude.{flat_map}
+use Rattle.decision_laws.specs.Clauses.{yes}
+use Rattle.decision_laws.specs.Copies.{Equation}
+use Rattle.decision_laws.specs.Vocabulary.{places_from}
+use Rattle.ground_inst.specs.Facts.{num_of}
+use Rattle.ground_inst.proofs.equality.write_same.Given as goal
+
+abbrev pub invariant-constants : goal.invariant-constants
+invariant-constants l = l.rows ≡ l.fn.rows ++ flat_map (λ a. (yes (num_of l.constants.facts.now (Equation l.sort a a)) ∷ []) ∷ []) (places_from 0 l.a)

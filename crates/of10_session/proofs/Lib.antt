@@ -1,0 +1,4 @@
+pub mod Sendable
+pub mod Drafts
+pub mod Turns
+pub mod Sent

@@ -1,0 +1,3 @@
+pub mod Progresses
+pub mod Sessions
+pub mod Replies

@@ -1,0 +1,112 @@
+-- What the steps of a loop do that hears a stream piece by piece.
+use Rattle.std.specs.Prelude.{ℕ, ◌≡◌, ◌⊎◌, ◌+◌, ◌≤◌, ◌<◌, List, [], ◌++◌, length, take}
+use Rattle.of10_wire.specs.declared.refusal.WireRefusal.{WireRefusal}
+use Rattle.of10_msgs.specs.declared.message.Message.{Message}
+use Rattle.of10_msgs.specs.Messages.{spells}
+use Rattle.of10_msgs.specs.Refused.{Refuses}
+use Rattle.of10_stream.specs.declared.tail.Tail.TheVariants.{Broken}
+use Rattle.of10_stream.specs.Framings.{Framing, framing, IsFrame, IsOpen}
+use Rattle.of10_stream.specs.Streams.{IsRead, IsTail}
+use Rattle.of10_session.specs.Progresses.{Progress, IsListening}
+use Rattle.of10_session.specs.Sessions.{spelled}
+use Rattle.of10_speech.specs.declared.hearing.Hearing.{Hearing}
+use Rattle.of10_speech.specs.declared.speaking.Spoken.{Spoken}
+use Rattle.of10_speech.specs.declared.stops.Stop.{Stop}
+use Rattle.of10_speech.specs.declared.stops.Stop.TheVariants.{Goes, Ends}
+use Rattle.of10_speech.specs.declared.stops.SpokenEnd.TheVariants.{Wire}
+use Rattle.of10_speech.specs.Speeches.{Told, Said, said_to, Speech, speech, IsSpoken}
+
+-- the end by bytes that are no message, which begin at this place
+abbrev pub is_ended : ℕ → WireRefusal → Stop
+is_ended start e = Ends (Wire (start + e.at) e.why)
+
+-- a call said this, and appended what is sent
+pub record Says (y : Said) (stop : Stop) (session : Progress) (before after : List ℕ) : Type 0 where
+  pub stops : stop ≡ y.stop
+  pub goes_on : session ≡ y.session
+  pub bytes : after ≡ before ++ spelled y.sent
+
+-- ---- one step
+
+-- the frame that was ready is a message, and was heard
+pub record HeardFrame (t : Told) (k : ℕ) (f : Framing) (s : Progress) (g : Framing) (s' : Progress) (stop : Stop) (before after : List ℕ) : Type 0 where
+  pub message : Message
+  pub spelled_as : spells message f.held
+  pub says : Says (said_to t f.start k s message) stop s' before after
+  pub held : g ≡ framing (f.start + length f.held) []
+  pub counts : stop ≡ Goes → length t.replies ≡ k + length (said_to t f.start k s message).asks
+
+-- .. or it is none
+pub record RefusedFrame (f : Framing) (s s' : Progress) (stop : Stop) (before after : List ℕ) : Type 0 where
+  pub refusal : WireRefusal
+  pub refused : Refuses f.held refusal
+  pub stops : stop ≡ is_ended f.start refusal
+  pub session : s' ≡ s
+  pub bytes : after ≡ before
+
+abbrev pub HearsFrame : Told → ℕ → Framing → Progress → Framing → Progress → Stop → (before after : List ℕ) → Type 0
+HearsFrame t k f s g s' stop before after = HeardFrame t k f s g s' stop before after ⊎ RefusedFrame f s s' stop before after
+
+-- all of the piece was taken, and no frame is whole
+pub record TookAll (t : Told) (k : ℕ) (f : Framing) (s : Progress) (piece : List ℕ) (g : Framing) (s' : Progress) (r : Hearing) (before after : List ℕ) : Type 0 where
+  pub used : r.used ≡ length piece
+  pub counts : length t.replies ≡ k
+  pub held : g ≡ framing f.start (f.held ++ piece)
+  pub framer : IsOpen g
+  pub session : s' ≡ s
+  pub goes : r.stop ≡ Goes
+  pub bytes : after ≡ before
+
+-- a message became whole, and was heard
+pub record TookMessage (t : Told) (k : ℕ) (f : Framing) (s : Progress) (piece : List ℕ) (g : Framing) (s' : Progress) (r : Hearing) (before after : List ℕ) : Type 0 where
+  pub used : r.used ≤ length piece
+  pub some : 0 < r.used
+  pub message : Message
+  pub frame : IsFrame (f.held ++ take r.used piece)
+  pub spelled_as : spells message (f.held ++ take r.used piece)
+  pub says : Says (said_to t f.start k s message) r.stop s' before after
+  pub held : g ≡ framing (f.start + length (f.held ++ take r.used piece)) []
+  pub counts : r.stop ≡ Goes → length t.replies ≡ k + length (said_to t f.start k s message).asks
+
+-- what comes next is refused
+pub record TookRefusal (f : Framing) (s : Progress) (piece : List ℕ) (s' : Progress) (r : Hearing) (before after : List ℕ) : Type 0 where
+  pub used : r.used ≤ length piece
+  pub e : WireRefusal
+  pub next : IsTail (f.held ++ piece) (Broken e)
+  pub stop : r.stop ≡ is_ended f.start e
+  pub session : s' ≡ s
+  pub bytes : after ≡ before
+
+abbrev pub Hears : Told → ℕ → Framing → Progress → List ℕ → Framing → Progress → Hearing → (before after : List ℕ) → Type 0
+Hears t k f s piece g s' r before after = TookAll t k f s piece g s' r before after ⊎ (TookMessage t k f s piece g s' r before after ⊎ TookRefusal f s piece s' r before after)
+
+-- ---- many steps
+
+-- after these bytes the framer and the session stand where the speech is, and each ask so far has its reply
+pub record Follows (t : Told) (number : ℕ) (taken : List ℕ) (f : Framing) (s : Progress) (x : Speech) : Type 0 where
+  pub messages : List Message
+  pub begins : IsRead taken messages f.held
+  pub said : x ≡ speech t number messages
+  pub session : s ≡ x.session
+  pub place : f.start ≡ x.place
+  pub goes : x.stop ≡ Goes
+  pub asks : length x.asks ≡ length t.replies
+  pub framer : IsOpen f
+
+-- what a loop over these bytes keeps, after as many as `at`
+pub record Following (t : Told) (number : ℕ) (bytes : List ℕ) (at : ℕ) (f : Framing) (s : Progress) (before now : List ℕ) : Type 0 where
+  pub inside : at ≤ length bytes
+  pub speech_is : Speech
+  pub follows : Follows t number (take at bytes) f s speech_is
+  pub written : now ≡ before ++ spelled speech_is.sent
+  pub listens : IsListening s
+  pub few : s.ignored ≤ at
+  pub taken : f.start + length f.held ≡ at
+
+-- what a call answered and wrote is the session's answer to the bytes
+pub record IsAnswer (t : Told) (number : ℕ) (bytes before after : List ℕ) (r : Spoken) : Type 0 where
+  pub speech_is : Speech
+  pub spoken : IsSpoken t number bytes speech_is
+  pub stop : r.stop ≡ speech_is.stop
+  pub ignored : r.ignored ≡ speech_is.session.ignored
+  pub written : after ≡ before ++ spelled speech_is.sent

@@ -1,0 +1,37 @@
+//! What answers a session's asks.
+
+ghost use Rattle.std.specs.Prelude.{◌≡◌, ◌≢◌, [], ◌∷◌, ◌++◌, true, false, List, Bool, Err, IfOk, IfErr, OnErr};
+ghost use Rattle.csdn_history.specs.declared.reply.Reply.{Reply as AnyReply};
+ghost use Rattle.of10_session.specs.declared.turn.Ask.{Ask as AnyAsk};
+ghost use Rattle.of10_session.specs.Replies.{IsServable};
+
+use csdn_history::reply::Reply;
+use of10_session::Ask;
+
+/// Why an ask has no reply.
+#[derive(Clone, Copy, Debug, PartialEq, Eq)]
+pub enum Unanswered {
+    /// The ask isn't declared: the network lacks an element of it, or no rule of the program ends.
+    Stranger,
+    /// There is no entry for it yet.
+    NoEntry,
+    /// The history has no room for a further entry.
+    Full,
+    Memory,
+}
+
+/// What answers a session's asks: a journal, or a seat of a hall.
+pub trait Answers {
+    /// Whether an ask is declared.
+    ghost declares: { Self → AnyAsk → Bool };
+    /// The replies that this session was given so far.
+    ghost given: { Self → List AnyReply };
+
+    /// The reply to an ask, which is entered.
+    fn ask(&mut self, ask: Ask) -> Result<Reply, Unanswered>
+        ensures same { declares self.new ≡ declares self.old }
+        ensures reply { IfOk result (λ reply. (declares self.old ask ≡ true) × IsServable reply × (given self.new ≡ given self.old ++ reply ∷ [])) }
+        ensures err { OnErr result (given self.new ≡ given self.old) }
+        ensures stranger { result ≡ Err Unanswered.Stranger → declares self.old ask ≡ false }
+        ensures declared { IfErr result (λ e. e ≢ Unanswered.Stranger → declares self.old ask ≡ true) };
+}

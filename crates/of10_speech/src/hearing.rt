@@ -1,0 +1,172 @@
+//! One step of a session that hears a stream.
+
+ghost use Rattle.std.specs.Prelude.{◌≡◌, ◌≢◌, ◌+◌, ◌<◌, ◌^◌, length, IfOk, OnErr};
+ghost use Rattle.of10_msgs.specs.Sending.{IsSendable};
+ghost use Rattle.of10_stream.specs.Framings.{IsOpen, IsReady};
+ghost use Rattle.of10_session.specs.Progresses.{IsListening};
+ghost use Rattle.of10_speech.specs.Speeches.{told, Further, said_to, on_ask};
+ghost use Rattle.of10_speech.specs.Hearings.{Says, Hears, HearsFrame, is_ended};
+
+use crate::answers::{Answers, Unanswered};
+use crate::stops::{Broken, SpokenEnd, Stop};
+use of10_msgs::Message;
+use of10_session::{Ask, Pending, Session, Turn, TurnEnd};
+use of10_stream::{Framer, read_frame};
+use of10_wire::WireRefusal;
+use std::alloc::Global;
+
+/// Settles the ask of a session.
+fn settle<P: Answers>(
+    alloc: Global,
+    session: &mut Session,
+    program: &mut P,
+    ask: Ask,
+    out: &mut Vec<u8>,
+) -> Result<Stop, Broken>
+    requires pending { session.old.pending ≢ Pending.Nothing }
+    requires room { session.old.ignored + 1 < 2 ^ 64 }
+    ensures said { IfOk result (λ stop. Says (on_ask (told P.declares P.given program.new) (length (P.given program.old)) session.old ask) stop session.new out.old.items out.new.items) }
+    ensures err { OnErr result ((session.new ≡ session.old) × (out.new.items ≡ out.old.items)) }
+    ensures further { Further (told P.declares P.given program.old) (told P.declares P.given program.new) }
+    ensures counts { IfOk result (λ stop. stop ≡ Stop.Goes → length (P.given program.new) ≡ length (P.given program.old) + length (on_ask (told P.declares P.given program.new) (length (P.given program.old)) session.old ask).asks) }
+{
+    match program.ask(ask) {
+        Ok(reply) => match session.answer(alloc, &reply, out) {
+            Ok(()) => Ok(Stop::Goes),
+            Err(_) => Err(Broken::Memory),
+        },
+        Err(Unanswered::Stranger) => match ask {
+            Ask::Join { s } => Ok(Stop::Ends(SpokenEnd::UnknownSwitch { s })),
+            Ask::Packet { .. } | Ask::Expire { .. } => {
+                session.pass();
+                Ok(Stop::Goes)
+            }
+        },
+        Err(Unanswered::NoEntry) => Ok(Stop::Waits),
+        Err(Unanswered::Full) => Err(Broken::Full),
+        Err(Unanswered::Memory) => Err(Broken::Memory),
+    }
+}
+
+/// Hears the message at a place of the stream: appends all that it calls for.
+///
+/// # Errors
+///
+/// Where the history was full or memory ran out nothing is appended, and nothing counts as ignored; the session is not to
+/// be used again.
+pub fn hear<P: Answers>(
+    alloc: Global,
+    session: &mut Session,
+    place: u64,
+    message: Message,
+    program: &mut P,
+    out: &mut Vec<u8>,
+) -> Result<Stop, Broken>
+    requires listening { IsListening session.old }
+    requires room { session.old.ignored + 1 < 2 ^ 64 }
+    requires sendable { IsSendable message }
+    ensures said { IfOk result (λ stop. Says (said_to (told P.declares P.given program.new) place (length (P.given program.old)) session.old message) stop session.new out.old.items out.new.items) }
+    ensures err { OnErr result ((session.new.ignored ≡ session.old.ignored) × (out.new.items ≡ out.old.items)) }
+    ensures further { Further (told P.declares P.given program.old) (told P.declares P.given program.new) }
+    ensures counts { IfOk result (λ stop. stop ≡ Stop.Goes → length (P.given program.new) ≡ length (P.given program.old) + length (said_to (told P.declares P.given program.new) place (length (P.given program.old)) session.old message).asks) }
+{
+    match session.step(alloc, message, out) {
+        Err(_) => Err(Broken::Memory),
+        Ok(Turn::Go) => Ok(Stop::Goes),
+        Ok(Turn::End(TurnEnd::Incompatible)) => Ok(Stop::Ends(SpokenEnd::Incompatible)),
+        Ok(Turn::End(TurnEnd::OutOfTurn)) => Ok(Stop::Ends(SpokenEnd::OutOfTurn { at: place })),
+        Ok(Turn::Ask(ask)) => settle(alloc, session, program, ask, out),
+    }
+}
+
+/// How many bytes of a piece were taken, and whether the session goes on.
+#[derive(Clone, Copy, Debug, PartialEq, Eq)]
+pub struct Hearing {
+    pub used: usize,
+    pub stop: Stop,
+}
+
+/// The end of a stream by bytes that are no message.
+fn ended(start: u64, refusal: WireRefusal) -> Stop
+    requires { start + refusal.at < 2 ^ 64 }
+    ensures { result ≡ is_ended start refusal }
+{
+    Stop::Ends(SpokenEnd::Wire {
+        at: start + refusal.at as u64,
+        why: refusal.why,
+    })
+}
+
+/// Hears the next message of a piece, or takes all of the piece.
+///
+/// # Errors
+///
+/// Where the history was full or memory ran out nothing is appended, and nothing counts as ignored; the session is not to
+/// be used again.
+pub fn hear_next<P: Answers>(
+    alloc: Global,
+    framer: &mut Framer,
+    session: &mut Session,
+    piece: &[u8],
+    program: &mut P,
+    out: &mut Vec<u8>,
+) -> Result<Hearing, Broken>
+    requires framer { IsOpen framer.old }
+    requires room { (framer.old.start + length framer.old.held) + length piece.now < 2 ^ 64 }
+    requires listening { IsListening session.old }
+    requires count { session.old.ignored + 1 < 2 ^ 64 }
+    ensures hears { IfOk result (λ r. Hears (told P.declares P.given program.new) (length (P.given program.old)) framer.old session.old piece.now framer.new session.new r out.old.items out.new.items) }
+    ensures err { OnErr result ((session.new.ignored ≡ session.old.ignored) × (out.new.items ≡ out.old.items)) }
+    ensures further { Further (told P.declares P.given program.old) (told P.declares P.given program.new) }
+{
+    match framer.feed(piece) {
+        Err(refusal) => Ok(Hearing {
+            used: piece.len(),
+            stop: Stop::Ends(SpokenEnd::Wire {
+                at: refusal.at,
+                why: refusal.why,
+            }),
+        }),
+        Ok(fed) => {
+            if !fed.ready {
+                return Ok(Hearing {
+                    used: fed.used,
+                    stop: Stop::Goes,
+                });
+            }
+            let stop = hear_frame(alloc, framer, session, program, out)?;
+            Ok(Hearing {
+                used: fed.used,
+                stop,
+            })
+        }
+    }
+}
+
+/// Hears the frame that is ready, and lets it go where it is a message.
+fn hear_frame<P: Answers>(
+    alloc: Global,
+    framer: &mut Framer,
+    session: &mut Session,
+    program: &mut P,
+    out: &mut Vec<u8>,
+) -> Result<Stop, Broken>
+    requires framer { IsReady framer.old }
+    requires room { framer.old.start + length framer.old.held < 2 ^ 64 }
+    requires listening { IsListening session.old }
+    requires count { session.old.ignored + 1 < 2 ^ 64 }
+    ensures hears { IfOk result (λ stop. HearsFrame (told P.declares P.given program.new) (length (P.given program.old)) framer.old session.old framer.new session.new stop out.old.items out.new.items) }
+    ensures err { OnErr result ((session.new.ignored ≡ session.old.ignored) × (out.new.items ≡ out.old.items)) }
+    ensures further { Further (told P.declares P.given program.old) (told P.declares P.given program.new) }
+{
+    let place = framer.start();
+    match read_frame(alloc, framer.frame()) {
+        Err(_) => Err(Broken::Memory),
+        Ok(Err(refusal)) => Ok(ended(place, refusal)),
+        Ok(Ok(message)) => {
+            let stop = hear(alloc, session, place, message, program, out)?;
+            framer.next();
+            Ok(stop)
+        }
+    }
+}
