@@ -1,7 +1,7 @@
 #!/bin/sh
 # Times names and sorts on the largest programs: 64 relations, 64 constants and 64 invariants, whose atoms name the last
 # of each, in texts of 16, 32 and 64 KiB. Beside each stands the same text with a byte behind it that is no token, which is
-# read to its end and not resolved. The time must grow linearly with the text.
+# read to its end and not resolved. The time must grow linearly with the text. `show` does both, and prints.
 . "$(dirname "$0")/common.sh"
 python3 - "$vericon" "$work" <<'PY'
 import os, subprocess, sys, time
@@ -13,9 +13,9 @@ def seconds(name, text):
     open(path, "w").write(text)
     start = time.perf_counter()
     for _ in range(20):
-        run = subprocess.run([vericon, "check", path], stdout=subprocess.PIPE)
+        run = subprocess.run([vericon, "show", path], stdout=subprocess.PIPE)
         answer = run.stdout.decode().split("\n")[0]
-        if run.returncode not in (0, 1, 2, 3):
+        if run.returncode not in (0, 3):
             sys.exit(f"status {run.returncode}: {answer}")
     return (time.perf_counter() - start) / 20, answer.replace(work, "..")
 

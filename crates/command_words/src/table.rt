@@ -46,7 +46,7 @@ const INDEX: Kind = Kind::Number {
 
 const STRENGTHEN: OptionRow = ("--strengthen", Kind::NotYet);
 
-const LOG: OptionRow = ("--log", Kind::NotYet);
+const LOG: OptionRow = ("--log", FILE);
 
 /// The commands that are served.
 pub const COMMANDS: [CommandRow; 7] = [

@@ -1,3 +1,3 @@
 mod Depths
 mod Line
-mod Listed
+pub mod Listed

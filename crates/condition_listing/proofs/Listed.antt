@@ -16,7 +16,7 @@ pub kind_is : (P : Parts) (n i : ℕ) (c : Condition) (kind : CondKind) → slic
 kind_is P n i c kind there is =
     ap (λ (k : Condition). k.kind) (same_Some (condition P n kind) c (sym (ap (option_map (condition P n)) is) ∙ sym (slice_get-map (condition P n) (kinds P n) i) ∙ there))
 
-drop_is : (cs : List Condition) (i : ℕ) (c : Condition) → slice_get cs i ≡ Some c → drop i cs ≡ c ∷ drop (i + 1) cs
+pub drop_is : (cs : List Condition) (i : ℕ) (c : Condition) → slice_get cs i ≡ Some c → drop i cs ≡ c ∷ drop (i + 1) cs
 drop_is cs i c there =
     drop-cons cs i c (slice_get_within cs i c there)
     ∙ ap (λ x. x ∷ drop (suc i) cs) (get_or_from_slice_get cs i c c there)

@@ -9,3 +9,4 @@ mod words;
 
 pub use judgement::{Judgement, judge};
 pub use listing::list;
+pub use words::put_kind;

@@ -136,8 +136,7 @@ use_is_atom place s S Γ part scope at ts id (Some d) is numerals free =
     let allowed = fault_if (is_forbidden (InFormula place) d) (NotAllowed at) in
     let rest = free_right arity (allowed ++ terms_faults s d.sorts ts) free in
     let stands : slice_get S.relations id ≡ Some d = part.relations id d is in
-    let many : length ts ≡ length d.sorts = eqb-true (length ts) (length d.sorts) (no_fault (length ts == length d.sorts) (WrongArity at) (free_left arity (allowed ++ terms_faults s d.sorts ts) free)) in
-    (
+    let many : length ts ≡ length d.sorts = eqb-true (length ts) (length d.sorts) (no_fault (length ts == length d.sorts) (WrongArity at) (free_left arity (allowed ++ terms_faults s d.sorts ts) free)) in (
       record { sorts = d.sorts; declared = rw stands refl; terms = terms_have s S Γ part scope d.sorts ts many numerals (free_right allowed (terms_faults s d.sorts ts) rest) },
       atom_allowed place d id stands (fault_free (is_forbidden (InFormula place) d) (NotAllowed at) (free_left allowed (terms_faults s d.sorts ts) rest)),
     )

@@ -10,7 +10,7 @@ mod exchange;
 pub mod facts;
 pub mod making;
 mod places;
-mod room;
+pub mod room;
 pub mod rows;
 pub mod sentence;
 pub mod simplify;

@@ -25,9 +25,6 @@ use csdn_core::program::{Parts, Program};
 use csdn_core::syntax::Formula;
 use std::alloc::{AllocError, Global};
 
-#[cfg(test)]
-mod tests;
-
 /// The clauses of a sentence of the program: those of its copies, and those of equality. `AllocError` also where they have 2^62
 /// atoms or more. Literals and ends are kept flat, in room that is taken once.
 pub fn ground(alloc: Global, program: &Program, sentence: &Formula) -> Result<Ground, AllocError>
@@ -47,8 +44,8 @@ pub fn ground(alloc: Global, program: &Program, sentence: &Formula) -> Result<Gr
     })
 }
 
-// The clauses of a sentence with these facts.
-fn clauses_of(
+/// The clauses of a sentence with these facts, in room that is taken once. `AllocError` also where they have 2^62 atoms or more.
+pub fn clauses_of(
     alloc: Global,
     parts: &Parts,
     facts: &Facts,

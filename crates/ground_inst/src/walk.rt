@@ -25,8 +25,8 @@ use fol_forms::signed::{Signed, view};
 use std::alloc::{AllocError, Global};
 use std::mem::replace;
 
-// What the walk has made, and where it stands: the constants of variables, the first free constant of each sort, the number of
-// the next conjunction or disjunction, and the clauses.
+/// What the walk has made, and where it stands: the constants of variables, the first free constant of each sort, the number of
+/// the next conjunction or disjunction, and the clauses.
 #[derive(Drop)]
 pub struct Work {
     pub env: Vec<Binding>,

@@ -16,25 +16,26 @@ use Rattle.of10_session.specs.Sessions.{turn, sends, ignores, asks, out_of_turn,
 use Rattle.of10_session.specs.Replies.{answered, passed}
 
 goes_on : (s : Progress) (ms : List Message) → IsListening s → IsOrderly s (sends ms s)
-goes_on s ms h = record { goes = λ e. record { talks = h.talks; free = h.free }; asks = λ a e. absurd cc; count = omega arith }
+goes_on s ms h = record { goes = λ e. record { talks = h.talks; free = h.free }; asks = λ a e. absurd cc; later = omega arith; count = omega arith }
 
 ignoring_goes : (s : Progress) → IsListening s → IsOrderly s (ignores s)
-ignoring_goes s h = record { goes = λ e. record { talks = h.talks; free = h.free }; asks = λ a e. absurd cc; count = omega arith }
+ignoring_goes s h = record { goes = λ e. record { talks = h.talks; free = h.free }; asks = λ a e. absurd cc; later = omega arith; count = omega arith }
 
 ends : (s : Progress) → IsOrderly s (out_of_turn s)
-ends s = record { goes = λ e. absurd cc; asks = λ a e. absurd cc; count = omega arith }
+ends s = record { goes = λ e. absurd cc; asks = λ a e. absurd cc; later = omega arith; count = omega arith }
 
 -- a session that asks
 asks_it : (s r : Progress) (ask : Ask) (p : Pending) → IsTalking r.phase → r.ignored ≡ s.ignored → p ≢ Nothing → IsOrderly s (asks ask p r)
 asks_it s r ask p talks same waits = record {
   goes = λ e. absurd cc;
   asks = λ a e. record { talks = talks; waits = waits; sent = refl; ignored = same };
+  later = omega (arith, same);
   count = omega (arith, same);
 }
 
 hello_orderly : (s : Progress) (old : Bool) (p : Phase) → IsListening s → IsOrderly s (if old then refuses_version s else on_hello p s)
-hello_orderly s true p h = record { goes = λ e. absurd cc; asks = λ a e. absurd cc; count = omega arith }
-hello_orderly s false Greet h = record { goes = λ e. record { talks = tt; free = h.free }; asks = λ a e. absurd cc; count = omega arith }
+hello_orderly s true p h = record { goes = λ e. absurd cc; asks = λ a e. absurd cc; later = omega arith; count = omega arith }
+hello_orderly s false Greet h = record { goes = λ e. record { talks = tt; free = h.free }; asks = λ a e. absurd cc; later = omega arith; count = omega arith }
 hello_orderly s false p h = ignoring_goes s h
 
 features_orderly : (s : Progress) (p : Phase) (switch : ℕ) → IsListening s → IsOrderly s (on_features p switch s)

@@ -127,4 +127,5 @@ pub record IsAsking (s : Progress) (t : Turned) : Type 0 where
 pub record IsOrderly (s : Progress) (t : Turned) : Type 0 where
   pub goes : t.turn ≡ Go → IsListening t.session
   pub asks : (ask : Ask) → t.turn ≡ AskFor ask → IsAsking s t
+  pub later : s.ignored ≤ t.session.ignored
   pub count : t.session.ignored ≤ s.ignored + 1

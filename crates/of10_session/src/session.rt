@@ -337,7 +337,8 @@ impl Session {
         }
     }
 
-    /// Takes a message: appends what is sent at once, and says what comes next.
+    /// Takes a message: appends what is sent at once, and says what comes next. Of a packet that is asked about it keeps a
+    /// copy of the bytes; else it takes memory for what is sent alone.
     ///
     /// # Errors
     ///
@@ -414,7 +415,7 @@ impl Session {
         }
     }
 
-    /// Takes the answer to the pending ask, and appends what is sent.
+    /// Takes the answer to the pending ask, and appends what is sent, at the cost of its bytes.
     ///
     /// # Errors
     ///

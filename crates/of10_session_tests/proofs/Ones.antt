@@ -1,7 +1,6 @@
 -- Lists of one and of none.
-use Rattle.std.proofs.Common.{ℕ, zero, suc, ◌<◌, ◌≤◌, ◌^◌, List, [], ◌∷◌, arith}
+use Rattle.std.proofs.Common.{ℕ, zero, suc, ◌<◌, ◌^◌, [], ◌∷◌, arith}
 use Rattle.std.specs.Prelude.{All}
-use Rattle.csdn_history.specs.declared.reply.Rule.{Rule}
 use Rattle.of10_session.specs.Replies.{IsServableRule}
 
 pub all_none : {X : Type 0} (P : X → Type 0) → All P []

@@ -1,5 +1,5 @@
 -- Replies that are written down.
-use Rattle.std.specs.Prelude.{ℕ, ◌==◌, List, [], ◌∷◌, Bool, not}
+use Rattle.std.specs.Prelude.{◌==◌, List, [], ◌∷◌, Bool, not}
 use Rattle.csdn_core.specs.declared.event.Out.{Out}
 use Rattle.csdn_core.specs.declared.event.Out.TheVariants.{Port, Flood}
 use Rattle.csdn_history.specs.declared.reply.Rule.{Rule}

@@ -1,6 +1,6 @@
 //! Streams written in hexadecimal, and what is said to them.
 
-use crate::{Script, Step};
+use crate::{Script, Step, speak_bytewise};
 use of10_speech::{Spoken, speak};
 use std::alloc::{AllocError, Global};
 use std::test::Fail;
@@ -47,6 +47,21 @@ pub fn said(
 ) -> Result<Spoken, Fail> {
     let mut script = Script::new(alloc, steps, expires);
     match speak(alloc, 1, bytes, &mut script, out) {
+        Ok(spoken) => Ok(spoken),
+        Err(_) => Err(Fail::from(AllocError)),
+    }
+}
+
+/// .. and where the bytes come one by one.
+pub fn said_bytewise(
+    alloc: Global,
+    bytes: &[u8],
+    steps: &[Step],
+    expires: bool,
+    out: &mut Vec<u8>,
+) -> Result<Spoken, Fail> {
+    let mut script = Script::new(alloc, steps, expires);
+    match speak_bytewise(alloc, bytes, &mut script, out) {
         Ok(spoken) => Ok(spoken),
         Err(_) => Err(Fail::from(AllocError)),
     }

@@ -2,9 +2,11 @@
 //! `of10_session/specs/Sessions.antt`. Replies are written down in scripts.
 #![tactic(auto)]
 
+mod bytewise;
 mod replies;
 mod scripts;
 
+pub use bytewise::speak_bytewise;
 pub use replies::{Change, Sending, Step, reply_of};
 pub use scripts::Script;
 

@@ -1,6 +1,6 @@
 //! Whole streams, and all bytes that are said to them.
 
-use crate::hex::{put_texts, said};
+use crate::hex::{put_texts, said, said_bytewise};
 use crate::{Change, Sending, Step};
 use of10_speech::{Spoken, SpokenEnd, Stop};
 use std::alloc::Global;
@@ -388,6 +388,7 @@ const ENDING_RULES: &[Row] = &[
     ),
 ];
 
+/// The stream is answered so, whole and byte by byte.
 fn is_said(rt: &impl Abort, alloc: Global, row: &Row) -> Result<(), Fail> {
     let (stream, steps, expires, wanted, spoken) = row;
     let mut bytes = Vec::new(alloc);
@@ -398,6 +399,10 @@ fn is_said(rt: &impl Abort, alloc: Global, row: &Row) -> Result<(), Fail> {
     let found = said(alloc, &bytes, steps, *expires, &mut out)?;
     assert_eq!(rt; found, *spoken, "{bytes:?}");
     assert_eq!(rt; out.as_slice(), wanted_bytes.as_slice());
+    let mut again = Vec::new(alloc);
+    let found = said_bytewise(alloc, &bytes, steps, *expires, &mut again)?;
+    assert_eq!(rt; found, *spoken, "{bytes:?}");
+    assert_eq!(rt; again.as_slice(), wanted_bytes.as_slice());
     Ok(())
 }
 

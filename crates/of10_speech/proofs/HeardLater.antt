@@ -25,7 +25,7 @@ hear_all-append t x [] ns = refl
 hear_all-append t x (m ∷ ms) ns = hear_all-append t (hear t x m) ms ns
 
 -- a session that has stopped says nothing more
-stays : (t : Told) (x : Speech) (m : Message) (stop : Stop) → x.stop ≡ stop → stop ≢ Goes → hear t x m ≡ x
+pub stays : (t : Told) (x : Speech) (m : Message) (stop : Stop) → x.stop ≡ stop → stop ≢ Goes → hear t x m ≡ x
 stays t x m Goes e stopped = absurd (stopped refl)
 stays t x m Waits e stopped = rw e refl
 stays t x m (Ends end) e stopped = rw e refl

@@ -5,3 +5,4 @@ pub mod Ready
 pub mod Asked
 pub mod Frames
 pub mod Following
+pub mod Beginnings

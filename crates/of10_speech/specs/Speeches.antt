@@ -1,5 +1,5 @@
 -- What a session says to a stream, where the replies to its asks are known.
-use Rattle.std.specs.Prelude.{ℕ, ◌≡◌, ◌+◌, List, [], ◌∷◌, ◌++◌, length, slice_get, Option, Some, None, Bool, if◌then◌else◌}
+use Rattle.std.specs.Prelude.{ℕ, ◌≡◌, ◌+◌, ◌≤◌, List, [], ◌∷◌, ◌++◌, length, slice_get, Option, Some, None, Bool, if◌then◌else◌}
 use Rattle.csdn_history.specs.declared.reply.Reply.{Reply}
 use Rattle.of10_wire.specs.declared.refusal.WireRefusal.{WireRefusal}
 use Rattle.of10_msgs.specs.declared.message.Message.{Message}
@@ -123,6 +123,14 @@ pub record IsSpoken (t : Told) (number : ℕ) (bytes : List ℕ) (x : Speech) : 
   pub tail : Tail
   pub stream : IsStream bytes messages tail
   pub said : x ≡ ended_by (speech t number messages).stop tail (speech t number messages)
+
+-- what was said so far, and what is said in the end
+pub record IsBeginning (x y : Speech) : Type 0 where
+  pub sent_behind : List Message
+  pub sent : y.sent ≡ x.sent ++ sent_behind
+  pub asks_behind : List Ask
+  pub asks : y.asks ≡ x.asks ++ asks_behind
+  pub ignored : x.session.ignored ≤ y.session.ignored
 
 -- exactly one answer
 pub record HasOneAnswer (t : Told) (number : ℕ) (bytes : List ℕ) : Type 0 where

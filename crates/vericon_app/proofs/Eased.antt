@@ -7,7 +7,7 @@ use Rattle.vericon_edge.specs.Counts.{Rose}
 use Rattle.vericon_edge.specs.Told.{Told, untold, absent, holds, MayBeMissing}
 use Rattle.vericon_app.specs.declared.source.FileKind.{FileKind}
 use Rattle.vericon_app.specs.declared.source.FileKind.TheVariants.{Program, Network, Journal}
-use Rattle.vericon_app.specs.Inputs.{Inputs, ReadRefusal, was_missing, was_longer, had_failed, WithFile, was_read, was_refused}
+use Rattle.vericon_app.specs.Inputs.{Inputs, was_missing, was_longer, had_failed, WithFile, was_read, was_refused}
 use Rattle.vericon_app.specs.Loads as load
 use Rattle.vericon_app.specs.Loads.{Needs, was_there, was_not, Holds, IsProgram, NoProgram, WithProgram, IsCase, NoCase, WithCase, AreNotes, NoNotes, WithNotes}
 use Rattle.vericon_app.specs.Eval.{TruthOutput, EvalOutput}

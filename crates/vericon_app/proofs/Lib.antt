@@ -1,4 +1,7 @@
 pub mod Outputs
+mod Logged
+mod Writes
+mod Answered
 pub mod Exact
 pub mod Refused
 mod Small

@@ -1,5 +1,5 @@
 -- What is loaded of a file, from what is loaded of its bytes.
-use Rattle.std.proofs.Common.{◌≡◌, ℕ, List, subst, sym}
+use Rattle.std.proofs.Common.{ℕ, List}
 use Rattle.csdn_core.specs.declared.program.Parts.{Parts}
 use Rattle.net_structs.specs.declared.case.Case.{Case}
 use Rattle.journal_text.specs.declared.note.Note.{Note}

@@ -1,7 +1,6 @@
 -- From refusals of texts and trees to those of programs.
 use Rattle.std.proofs.Common.{◌≡◌, ℕ, ◌⊎◌, inl, inr, List, Result, Ok, Err, MatchResult, subst}
 use Rattle.std.specs.Result.{IsErrAnd}
-use Rattle.csdn_core.specs.declared.program.Parts.{Parts}
 use Rattle.csdn_tree.specs.declared.syntax.RawProgram.{RawProgram}
 use Rattle.csdn_text.specs.declared.TextRefusal.{TextRefusal}
 use Rattle.csdn_text.specs.declared.TextRefusal.TheVariants as text
@@ -14,7 +13,7 @@ use Rattle.vericon_app.specs.declared.program.ProgramRefusal.{ProgramRefusal}
 use Rattle.vericon_app.specs.declared.program.ProgramRefusal.TheVariants.{Memory, At}
 use Rattle.vericon_app.specs.declared.program.Why.{Why}
 use Rattle.vericon_app.specs.Refusals.{told_text, told_sorts}
-use Rattle.vericon_app.specs.Programs.{Spells, IsNoProgram, has_no_reading, breaks_a_rule, IsProgramRefusal}
+use Rattle.vericon_app.specs.Programs.{IsNoProgram, has_no_reading, breaks_a_rule, IsProgramRefusal}
 
 -- the text has no reading, and is refused so, unless memory ran out
 record IsRefused (bytes : List ℕ) (e : TextRefusal) : Type 0 where

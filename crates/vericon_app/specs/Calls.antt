@@ -1,8 +1,9 @@
 -- What the words of a call ask of the commands.
-use Rattle.std.specs.Prelude.{◌≡◌, ℕ, List, [], slice_index_or, Option, Some, None}
+use Rattle.std.specs.Prelude.{◌≡◌, ℕ, List, [], slice_index_or, Option, Some, None, codes}
 use Rattle.command_words.specs.declared.table.Command.{Command}
 use Rattle.command_words.specs.declared.table.Command.TheVariants.{Check, Show, Eval, Trace, Conditions, Clauses, Frames}
 use Rattle.command_words.specs.Call.{Call}
+use Rattle.command_words.specs.Options.{value_of}
 
 -- the operand at a place, as the name of a file
 abbrev pub file_name : Call → ℕ → List ℕ
@@ -21,6 +22,20 @@ files_of Frames = 1
 abbrev pub files_named : Option Call → ℕ
 files_named None = 0
 files_named (Some call) = files_of call.command
+
+-- the name of the file that a call of the command writes a log to, where it asks for one
+abbrev pub log_name : Command → Call → Option (List ℕ)
+log_name Check call = value_of (codes "--log") call.options
+log_name Show call = None
+log_name Eval call = None
+log_name Trace call = None
+log_name Conditions call = None
+log_name Clauses call = None
+log_name Frames call = None
+
+abbrev pub log_named : Option Call → Option (List ℕ)
+log_named None = None
+log_named (Some call) = log_name call.command call
 
 -- a call of `check` with this file
 pub record IsCheck (asked : Option Call) (name : List ℕ) : Type 0 where

@@ -16,6 +16,16 @@ pub record Inputs : Type 0 where
 abbrev pub inputs_of : {D : Type 0} → (D → List ℕ → Told) → (D → ℕ) → D → D → Inputs
 inputs_of told faults old new = record { told = told old; before = faults old; after = faults new }
 
+-- what the files tell after a call, and the counts of write faults before and after it
+pub record Changes : Type 0 where
+  pub told : List ℕ → Told
+  pub before : ℕ
+  pub after : ℕ
+
+-- those of a call that leaves the files `new`
+abbrev pub changes_of : {D : Type 0} → (D → List ℕ → Told) → (D → ℕ) → D → D → Changes
+changes_of told faults old new = record { told = told new; before = faults old; after = faults new }
+
 -- how many bytes a file of a kind has at most
 abbrev pub longest : FileKind → ℕ
 longest Program = 65536

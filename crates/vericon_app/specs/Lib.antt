@@ -5,6 +5,7 @@ pub mod Programs
 pub mod Lines
 pub mod Sources
 pub mod Inputs
+pub mod Written
 pub mod Small
 pub mod Loads
 pub mod LoadGives
@@ -19,4 +20,5 @@ pub mod Output
 pub mod Left
 pub mod Quiet
 pub mod Verified
+pub mod Logs
 pub mod Decided

@@ -6,7 +6,7 @@ use Rattle.csdn_core.specs.declared.program.Relation.{Relation}
 use Rattle.csdn_core.specs.declared.program.Invariant.{Invariant}
 use Rattle.truth_table.specs.Condition.{init, step_in, number_of}
 use Rattle.vericon_app.specs.declared.program.Why.{Why}
-use Rattle.vericon_app.specs.declared.program.Why.TheVariants.{TooLong, BadByte, BadName, BadNumber, Unexpected, TooDeep, Duplicate, Unknown, WrongArity, WrongSort, NotAllowed, TooMany, NotYet}
+use Rattle.vericon_app.specs.declared.program.Why.TheVariants.{TooLong, BadByte, BadName, BadNumber, Unexpected, TooDeep, Duplicate, Unknown, WrongArity, WrongSort, NotAllowed, TooMany}
 use Rattle.vericon_app.specs.declared.source.FileKind.{FileKind}
 use Rattle.vericon_app.specs.declared.source.FileKind.TheVariants.{Program, Frames, Logs, Network, Journal}
 
@@ -35,7 +35,6 @@ word_of WrongArity = codes "WrongArity"
 word_of WrongSort = codes "WrongSort"
 word_of NotAllowed = codes "NotAllowed"
 word_of TooMany = codes "TooMany"
-word_of NotYet = codes "NotYet"
 
 -- a program is refused at a place
 abbrev pub refused_text : List ℕ → ℕ → Why → List ℕ
@@ -55,6 +54,9 @@ refused_line_text name line = name ++ codes " refused line " ++ decimal line ++ 
 
 abbrev pub yes_text : ℕ → List ℕ
 yes_text level = codes "yes level " ++ decimal level ++ codes "\n"
+
+abbrev pub no_network_text : List ℕ
+no_network_text = codes "no network\n"
 
 abbrev pub name_in : Option Invariant → List ℕ
 name_in None = []

@@ -1,9 +1,6 @@
 -- The output of `show`.
 use Rattle.std.specs.Prelude.{◌≡◌, ℕ, List}
-use Rattle.csdn_core.specs.declared.program.Parts.{Parts}
 use Rattle.csdn_tree.specs.declared.syntax.RawProgram.{RawProgram}
-use Rattle.csdn_text.specs.Reading.{Reads}
-use Rattle.csdn_types.specs.Resolved.{Types}
 use Rattle.csdn_print.specs.Programs.{program_text}
 use Rattle.vericon_app.specs.declared.program.Why.{Why}
 use Rattle.vericon_app.specs.declared.source.FileKind.TheVariants.{Program}

@@ -1,7 +1,7 @@
 -- The numbers that a call ends with.
 use Rattle.std.specs.Prelude.{ℕ}
 use Rattle.vericon_app.specs.declared.outcome.Status.{Status}
-use Rattle.vericon_app.specs.declared.outcome.Status.TheVariants.{Done, Counterexample, NotAccepted, Broken, Unknown, Refused, ReadFault, Usage, Memory, WriteFault}
+use Rattle.vericon_app.specs.declared.outcome.Status.TheVariants.{Done, Counterexample, NotAccepted, Broken, Unknown, Refused, NoNetwork, ReadFault, Usage, Memory, WriteFault}
 
 abbrev pub code_of : Status → ℕ
 code_of Done = 0
@@ -10,6 +10,7 @@ code_of NotAccepted = 1
 code_of Broken = 1
 code_of Unknown = 2
 code_of Refused = 3
+code_of NoNetwork = 4
 code_of ReadFault = 5
 code_of Usage = 6
 code_of Memory = 7

@@ -2,12 +2,14 @@
 ghost use Rattle.std.specs.Prelude.{◌≡◌, ◌≤◌, ◌+◌, ◌⊎◌, ℕ, false, List, map, string_bytes, IfOk};
 ghost use Rattle.vericon_app.specs.Status.{code_of};
 ghost use Rattle.command_words.specs.Calls.{asked_call};
-ghost use Rattle.vericon_app.specs.Calls.{IsCheck, files_of, files_named};
+ghost use Rattle.vericon_app.specs.Calls.{IsCheck, files_of, files_named, log_name, log_named};
 ghost use Rattle.vericon_app.specs.Lines.{memory_text};
-ghost use Rattle.vericon_app.specs.Inputs.{inputs_of};
+ghost use Rattle.vericon_app.specs.Inputs.{inputs_of, changes_of};
 ghost use Rattle.vericon_app.specs.Output.{CommandOutput, Output};
 ghost use Rattle.vericon_app.specs.Left.{HasLeft, Finishes};
 ghost use Rattle.vericon_app.specs.Verified.{IsVerified};
+ghost use Rattle.vericon_app.specs.Logs.{IsLogged};
+ghost use Rattle.vericon_app.specs.Written.{WritesLog};
 ghost use Rattle.vericon_app.specs.Quiet.{IsUndisturbed, Answers};
 ghost use Rattle.vericon_app.specs.Decided.{IsDecided};
 ghost use Rattle.vericon_edge.specs.Told.{holds};
@@ -34,19 +36,18 @@ fn run_request<F: Files>(
     request: &Request,
     files: &mut F,
 ) -> Result<Outcome, AllocError>
-    ensures output { IfOk result (λ outcome. CommandOutput request.now.command request.now (inputs_of F.told F.read_faults files.old files.new) outcome.text.items (code_of outcome.status)) }
-    ensures told { F.told files.new ≡ F.told files.old }
+    ensures output { IfOk result (λ outcome. CommandOutput request.now.command request.now (inputs_of F.told F.read_faults files.old files.new) (changes_of F.told F.write_faults files.old files.new) outcome.text.items (code_of outcome.status)) }
+    ensures writes { WritesLog (F.told files.old) (F.told files.new) (log_name request.now.command request.now) (F.write_faults files.old) (F.write_faults files.new) (F.write_calls files.old) (F.write_calls files.new) }
     ensures later { F.read_faults files.old ≤ F.read_faults files.new }
-    ensures writes { F.write_faults files.new ≡ F.write_faults files.old }
     ensures reads { F.read_calls files.new ≤ F.read_calls files.old + files_of request.now.command }
-    ensures no_write { F.write_calls files.new ≡ F.write_calls files.old }
 {
     let file = request.operand(0);
     let net = request.operand(1);
     let journal = request.operand(2);
     let index = request.number(3);
+    let log = request.option("--log");
     match request.command() {
-        Command::Check => check(alloc, files, file),
+        Command::Check => check(alloc, files, log, file),
         Command::Show => show(alloc, files, file),
         Command::Eval => eval_call(alloc, files, file, net, index),
         Command::Trace => trace(alloc, files, file, net, journal),
@@ -62,12 +63,10 @@ fn run_words<F: Files>(
     words: &[String],
     files: &mut F,
 ) -> Result<Outcome, AllocError>
-    ensures output { IfOk result (λ outcome. Output (asked_call (map string_bytes words.now)) (inputs_of F.told F.read_faults files.old files.new) outcome.text.items (code_of outcome.status)) }
-    ensures told { F.told files.new ≡ F.told files.old }
+    ensures output { IfOk result (λ outcome. Output (asked_call (map string_bytes words.now)) (inputs_of F.told F.read_faults files.old files.new) (changes_of F.told F.write_faults files.old files.new) outcome.text.items (code_of outcome.status)) }
+    ensures writes { WritesLog (F.told files.old) (F.told files.new) (log_named (asked_call (map string_bytes words.now))) (F.write_faults files.old) (F.write_faults files.new) (F.write_calls files.old) (F.write_calls files.new) }
     ensures later { F.read_faults files.old ≤ F.read_faults files.new }
-    ensures writes { F.write_faults files.new ≡ F.write_faults files.old }
     ensures reads { F.read_calls files.new ≤ F.read_calls files.old + files_named (asked_call (map string_bytes words.now)) }
-    ensures no_write { F.write_calls files.new ≡ F.write_calls files.old }
 {
     match request_of(words) {
         None => usage(alloc),
@@ -96,18 +95,20 @@ pub fn no_memory<S: Sink>(out: &mut S) -> u8
     finish(out, b"memory\n", Status::Memory)
 }
 
-/// Serves the command that the words name, and gives its status. It writes its lines to the sink, and no file.
+/// Serves the command that the words name, and gives its status. It writes its lines to the sink, and no file but
+/// the log that `check` was asked for.
 ///
 /// | status | meaning |
 /// |---|---|
 /// | 0 | yes, or done |
 /// | 1 | a condition is broken, and the state that is printed shows it; or an invariant was false after a note; or a block's log isn't accepted |
-/// | 2 | a condition is too large to be looked at |
+/// | 2 | a condition can't be decided, or is too large to be looked at |
 /// | 3 | a text was refused |
+/// | 4 | no network meets the topology invariants |
 /// | 5 | the file is missing, or was not read |
 /// | 6 | the words have no stated form |
 /// | 7 | there was no memory |
-/// | 8 | the sink failed |
+/// | 8 | the sink failed, or the log was not written |
 pub fn check_call<F: Files, S: Sink>(
     alloc: Global,
     words: &[String],
@@ -116,19 +117,19 @@ pub fn check_call<F: Files, S: Sink>(
 ) -> u8
     requires { S.has_failed out.old ≡ false }
     // what is written, and its status
-    ensures output { HasLeft (Output (asked_call (map string_bytes words.now)) (inputs_of F.told F.read_faults files.old files.new)) (S.written out.old) (S.written out.new) (S.faults out.old) (S.faults out.new) result }
-    // a yes: the program is inductive, and holds its invariants in every network and every run
+    ensures output { HasLeft (Output (asked_call (map string_bytes words.now)) (inputs_of F.told F.read_faults files.old files.new) (changes_of F.told F.write_faults files.old files.new)) (S.written out.old) (S.written out.new) (S.faults out.old) (S.faults out.new) result }
+    // a yes: the program is inductive, and holds its invariants in every network and every run, and there is a network
     ensures yes { (name : List ℕ) → IsCheck (asked_call (map string_bytes words.now)) name → result ≡ 0 → IsVerified (F.told files.old name) }
+    // .. and where a log was asked for, its file holds a block for each condition, whose clauses are tied to the condition's sentence and refuted
+    ensures logged { (name log : List ℕ) → IsCheck (asked_call (map string_bytes words.now)) name → log_named (asked_call (map string_bytes words.now)) ≡ Some log → result ≡ 0 → IsLogged (F.told files.old name) (F.told files.old log) (F.told files.new log) }
     // where no fault was counted, want of memory is the only excuse
-    ensures answered { IsUndisturbed (inputs_of F.told F.read_faults files.old files.new) (S.faults out.old) (S.faults out.new) → Answers (asked_call (map string_bytes words.now)) (F.told files.old) (S.written out.old) (S.written out.new) result }
+    ensures answered { IsUndisturbed (inputs_of F.told F.read_faults files.old files.new) (changes_of F.told F.write_faults files.old files.new) (S.faults out.old) (S.faults out.new) → Answers (asked_call (map string_bytes words.now)) (F.told files.old) (F.told files.new) (S.written out.old) (S.written out.new) result }
     // so what `check` is told fixes its status
-    ensures decided { (name bytes : List ℕ) → IsCheck (asked_call (map string_bytes words.now)) name → F.told files.old name ≡ holds bytes → IsUndisturbed (inputs_of F.told F.read_faults files.old files.new) (S.faults out.old) (S.faults out.new) → IsDecided bytes result ⊎ (result ≡ 7) }
-    // each file that is named is read once at most, and none is written
+    ensures decided { (name bytes : List ℕ) → IsCheck (asked_call (map string_bytes words.now)) name → F.told files.old name ≡ holds bytes → IsUndisturbed (inputs_of F.told F.read_faults files.old files.new) (changes_of F.told F.write_faults files.old files.new) (S.faults out.old) (S.faults out.new) → IsDecided bytes result ⊎ (result ≡ 7) }
+    // each file that is named is read once at most; and none is written but the log, which is written once at most
     ensures once { F.read_calls files.new ≤ F.read_calls files.old + files_named (asked_call (map string_bytes words.now)) }
-    ensures no_write { F.write_calls files.new ≡ F.write_calls files.old }
-    ensures told { F.told files.new ≡ F.told files.old }
+    ensures writes { WritesLog (F.told files.old) (F.told files.new) (log_named (asked_call (map string_bytes words.now))) (F.write_faults files.old) (F.write_faults files.new) (F.write_calls files.old) (F.write_calls files.new) }
     ensures reads { F.read_faults files.old ≤ F.read_faults files.new }
-    ensures writes { F.write_faults files.new ≡ F.write_faults files.old }
     ensures faults { S.faults out.old ≤ S.faults out.new }
 {
     match run_words(alloc, words, files) {

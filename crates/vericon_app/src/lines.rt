@@ -3,7 +3,7 @@ ghost use Rattle.std.specs.Prelude.{◌≡◌, ◌<◌, ◌≤◌, ◌++◌, [],
 ghost use Rattle.std.specs.Fmt.{decimal};
 ghost use Rattle.vericon_app.specs.Status.{code_of};
 ghost use Rattle.vericon_app.specs.declared.source.FileKind.TheVariants.{Frames};
-ghost use Rattle.vericon_app.specs.Lines.{word_of, too_long_text, usage_text, missing_text, read_fault_text, refused_text, refused_line_text, yes_text, safety_name, true_lines, case_text, init_text, step_text};
+ghost use Rattle.vericon_app.specs.Lines.{word_of, too_long_text, usage_text, missing_text, read_fault_text, refused_text, refused_line_text, yes_text, no_network_text, safety_name, true_lines, case_text, init_text, step_text};
 
 use crate::outcome::{Outcome, Status};
 use crate::program::Why;
@@ -75,7 +75,6 @@ fn word(why: Why) -> &'static [u8]
         Why::WrongSort => b"WrongSort",
         Why::NotAllowed => b"NotAllowed",
         Why::TooMany => b"TooMany",
-        Why::NotYet => b"NotYet",
     }
 }
 
@@ -136,6 +135,18 @@ pub fn yes(alloc: Global, level: usize) -> Result<Outcome, AllocError>
     Ok(Outcome {
         text,
         status: Status::Done,
+    })
+}
+
+/// `no network`
+pub fn no_network(alloc: Global) -> Result<Outcome, AllocError>
+    ensures text { IfOk result (λ outcome. outcome.text.items ≡ no_network_text) }
+    ensures status { IfOk result (λ outcome. code_of outcome.status ≡ 4) }
+{
+    let text = b"no network\n".to_vec(alloc)?;
+    Ok(Outcome {
+        text,
+        status: Status::NoNetwork,
     })
 }
 

@@ -13,17 +13,19 @@ pub enum Status {
     NotAccepted,
     /// An invariant was false after a note.
     Broken,
-    /// A condition is too large to be looked at.
+    /// A condition is too large to be looked at, or isn't decided.
     Unknown,
     /// A text was refused.
     Refused,
+    /// No network meets the topology invariants.
+    NoNetwork,
     /// A file was not read.
     ReadFault,
     /// The words have no stated form.
     Usage,
     /// There was no memory.
     Memory,
-    /// The sink failed.
+    /// The sink failed, or a file was not written.
     WriteFault,
 }
 
@@ -37,6 +39,7 @@ impl Status {
             Status::Counterexample | Status::NotAccepted | Status::Broken => 1,
             Status::Unknown => 2,
             Status::Refused => 3,
+            Status::NoNetwork => 4,
             Status::ReadFault => 5,
             Status::Usage => 6,
             Status::Memory => 7,

@@ -25,8 +25,6 @@ pub enum Why {
     WrongSort,
     NotAllowed,
     TooMany,
-    /// The program is one that can't be decided yet.
-    NotYet,
 }
 
 /// Why there is no program.

@@ -5,15 +5,15 @@ ghost use Rattle.csdn_core.specs.declared.syntax.Formula.TheVariants.{Atom as At
 ghost use Rattle.csdn_core.specs.Tree.{conjunction, disjunction, implication, negation, universal};
 ghost use Rattle.decision_laws.specs.Example.{contradiction as contradiction_of, equal as equation_of, has as atom_of, one as one_of, one_after as one_after_of, goal as goal_of, r, sentence as sentence_of, variable};
 
-use super::clauses_of;
-use crate::facts::facts_of;
-use crate::room::room_of;
-use crate::simplify::simplify;
 use clause_log::{Clauses, Lit};
 use csdn_core::program::{Parts, Relation};
 use csdn_core::syntax::Formula;
 use csdn_core::terms::{Pred, RelId, Sort, Term, Terms, VarId};
 use decision_laws::laws::{contradiction_example, uniqueness_example};
+use ground_inst::facts::facts_of;
+use ground_inst::making::clauses_of;
+use ground_inst::room::room_of;
+use ground_inst::simplify::simplify;
 use sqlite_items::{Boxed, Items};
 use std::alloc::{AllocError, Global};
 use std::test::Fail;

@@ -1,0 +1,4 @@
+mod Found
+mod BareNames
+mod Names
+mod Blocks

@@ -1,0 +1,5 @@
+//! Sentences whose clauses are worked by hand.
+#![tactic(auto)]
+
+#[cfg(test)]
+mod tests;
