@@ -29,7 +29,8 @@ use std::alloc::{AllocError, Global};
 
 /// The network and state of a valuation that makes each clause of a sentence true. Their elements are the classes of equal
 /// constants: switches and hosts from 1 on, a port with a numeral as that numeral, and the other ports as the least numbers from
-/// 1 on that are no numeral. The sentence is true in them.
+/// 1 on that are no numeral. The sentence is true in them. It takes as many looks at the valuation as there are pairs of constants
+/// of a sort, and a look at each true atom for each relation that the sentence uses.
 pub fn network_of(
     alloc: Global,
     program: &Program,
