@@ -33,8 +33,8 @@ spelled_well bytes P spells = subst IsWellSorted (sym spells.types.is) (parts_we
 -- no condition of an inductive program is open
 not_open : (P : Parts) (index : ℕ) (why : Why) → IsWellSorted P → IsInductive 0 P → IsFirstUnproven P 0 index why → why ≡ Open → ⊥
 not_open P index why well inductive first is =
-    let found : OfCondition P 0 index (λ (c : Condition). IsWhy P index c Open) = subst (λ (w : Why). OfCondition P 0 index (λ (c : Condition). IsWhy P index c w)) is first.unproven in
-    (case_valid P found.condition).0 (complete P well 0 inductive index found.condition found.there found.holds.0) found.holds.1.has_case
+    let found : OfCondition P 0 index (λ (c : Condition). IsWhy P c Open) = subst (λ (w : Why). OfCondition P 0 index (λ (c : Condition). IsWhy P c w)) is first.unproven in
+    (case_valid P found.condition).0 (complete P well 0 inductive index found.condition found.there (first.later is)) found.holds.has_case
 
 module _ (told : List ℕ → Told) (changes : Changes) (wanted : Option (List ℕ)) (log : List ℕ) (wants : wanted ≡ Some log) where
   yes_logged : (file : Told) (bytes text : List ℕ) (status : ℕ) (P : Parts) → MayHold file bytes → Spells bytes P → YesOutput told changes wanted P text status → status ≡ 0 → IsLogged file (told log) (changes.told log)
