@@ -1,0 +1,30 @@
+//! What can go wrong in a trial.
+use csdn_text::TextRefusal;
+use csdn_types::refusal::SortRefusal;
+use fol_forms::refusal::FormRefusal;
+use net_structs::read::NetRefusal;
+use std::alloc::AllocError;
+use thiserror::Error;
+
+/// Why a trial has no outcome.
+#[derive(Debug, Drop, Error)]
+pub enum Trouble {
+    #[error("out of memory")]
+    Memory(#[from] AllocError),
+    #[error("the text is no program: {0}")]
+    Text(#[from] TextRefusal),
+    #[error("the program is not well-sorted: {0}")]
+    Sorts(#[from] SortRefusal),
+    #[error("there is no network: {0}")]
+    Net(#[from] NetRefusal),
+    #[error("a condition has no formula: {0}")]
+    Form(#[from] FormRefusal),
+    #[error("a formula binds too many variables at once")]
+    Deep,
+}
+
+/// Puts an element behind the others.
+pub fn put<T: Drop>(list: &mut Vec<T>, element: T) -> Result<(), AllocError> {
+    list.push(element)?;
+    Ok(())
+}
