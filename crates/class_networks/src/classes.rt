@@ -3,7 +3,7 @@
 
 ghost use Rattle.std.specs.Prelude.{◌≡◌, ◌++◌, ◌∷◌, [], ◌≤◌, ◌==◌, IfOk, OnOk, length, if◌then◌else◌};
 ghost use Rattle.decision_laws.specs.Classes.{position_in};
-ghost use Rattle.class_networks.specs.Judgements.{classes_in, constants_in, first_in, says};
+ghost use Rattle.class_networks.specs.Judgements.{classes_in, first_in};
 
 use crate::judgement::Judgement;
 use csdn_core::terms::Sort;

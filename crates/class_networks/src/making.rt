@@ -1,13 +1,11 @@
 //! From a valuation to its network and state.
 #![tactic(auto)]
 
-ghost use Rattle.std.specs.Prelude.{◌≡◌, IfOk, map, length};
+ghost use Rattle.std.specs.Prelude.{◌≡◌, IfOk};
 ghost use Rattle.clause_log.specs.Literals.{IsModel, truths};
-ghost use Rattle.csdn_core.specs.Network.{Network as AnyNetwork};
 ghost use Rattle.decision_laws.specs.Laws.{IsSentence};
-ghost use Rattle.decision_laws.specs.Vocabulary.{places_from};
 ghost use Rattle.ground_inst.specs.Ground.{IsGround};
-ghost use Rattle.net_structs.specs.Networks.{in_order, put_in_order, static_cmp};
+ghost use Rattle.net_structs.specs.Networks.{in_order};
 ghost use Rattle.net_structs.specs.Rows.{row_cmp};
 ghost use Rattle.class_networks.specs.Cases.{IsNetworkOf, MakesTrue};
 ghost use Rattle.class_networks.specs.Made.{IsMade, made_network, stored_rows};

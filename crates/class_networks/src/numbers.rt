@@ -1,11 +1,10 @@
 //! The numbers of classes.
 #![tactic(auto)]
 
-ghost use Rattle.std.specs.Prelude.{◌≡◌, ◌++◌, ◌∷◌, [], suc, IfOk, OnOk, map, slice_index_or};
-ghost use Rattle.csdn_core.specs.declared.terms.Sort.TheVariants.{Ho as HostSort, Pr as PortSort, Sw as SwitchSort};
+ghost use Rattle.std.specs.Prelude.{◌≡◌, suc, IfOk, map, slice_index_or};
 ghost use Rattle.decision_laws.specs.Classes.{position_in};
 ghost use Rattle.decision_laws.specs.Vocabulary.{places_from};
-ghost use Rattle.class_networks.specs.Judgements.{classes_in, constants_in, first_in, free_in, numbers_in, unnumbered_in};
+ghost use Rattle.class_networks.specs.Judgements.{constants_in, numbers_in};
 ghost use Rattle.class_networks.specs.Numberings.{AreClasses, AreNumbers, number_at};
 
 use crate::classes::{classes_of, first_of, position};

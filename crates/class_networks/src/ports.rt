@@ -1,13 +1,12 @@
 //! The numbers of ports.
 #![tactic(auto)]
 
-ghost use Rattle.std.specs.Prelude.{◌≡◌, ◌++◌, ◌∷◌, [], ◌+◌, ◌==◌, not, IfOk, OnOk, length, filter, is_none, slice_index_or, if◌then◌else◌};
+ghost use Rattle.std.specs.Prelude.{◌≡◌, ◌++◌, ◌∷◌, [], ◌+◌, ◌==◌, not, IfOk, OnOk, length, filter, is_none, if◌then◌else◌};
 ghost use Rattle.std.specs.List.{list_any};
 ghost use Rattle.csdn_core.specs.declared.terms.Sort.TheVariants.{Pr as PortSort};
 ghost use Rattle.decision_laws.specs.Classes.{numeral_among as among};
 ghost use Rattle.decision_laws.specs.Copies.{Equation as EquationFact, numeral_place as place_of_numeral};
-ghost use Rattle.decision_laws.specs.Vocabulary.{places_from};
-ghost use Rattle.class_networks.specs.Judgements.{constants_in, free_in, numeral_in, says, unnumbered_in, words_in};
+ghost use Rattle.class_networks.specs.Judgements.{constants_in, free_in, numeral_in, says, words_in};
 
 use crate::judgement::Judgement;
 use csdn_core::terms::Sort;

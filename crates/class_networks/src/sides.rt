@@ -1,12 +1,12 @@
 //! Which tuples are the network's, and which the state's.
 #![tactic(auto)]
 
-ghost use Rattle.std.specs.Prelude.{◌≡◌, ◌++◌, ◌∷◌, [], OnOk, filter, if◌then◌else◌};
+ghost use Rattle.std.specs.Prelude.{◌≡◌, OnOk};
 ghost use Rattle.csdn_core.specs.Network.{is_fixed as is_fixed_number};
 ghost use Rattle.decision_laws.specs.Classes.{is_static as is_static_relation};
 ghost use Rattle.net_structs.specs.Networks.{put_in_order, static_cmp};
 ghost use Rattle.net_structs.specs.Rows.{row_cmp};
-ghost use Rattle.class_networks.specs.Made.{fixed_row, fixed_rows, is_stored, stored_rows};
+ghost use Rattle.class_networks.specs.Made.{fixed_row, fixed_rows, stored_rows};
 
 use csdn_core::program::Parts;
 use csdn_core::terms::{Pred, RelId};

@@ -1,7 +1,7 @@
 //! The values of constants.
 #![tactic(auto)]
 
-ghost use Rattle.std.specs.Prelude.{◌≡◌, ◌++◌, ◌∷◌, [], IfOk, length, map};
+ghost use Rattle.std.specs.Prelude.{◌≡◌, IfOk, length, map};
 ghost use Rattle.decision_laws.specs.Vocabulary.{places_from};
 ghost use Rattle.class_networks.specs.Made.{value_in};
 
