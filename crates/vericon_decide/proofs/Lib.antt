@@ -1,1 +1,3 @@
 mod VerdictLaws
+mod LevelLaws
+mod AnswerLaws
