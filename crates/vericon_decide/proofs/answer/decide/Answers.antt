@@ -1,24 +1,20 @@
-use Rattle.std.proofs.Common.{◌≡◌, subst, Err}
+use Rattle.std.proofs.Common.{subst}
 use Rattle.csdn_conditions.specs.Answers.{OfCondition}
-use Rattle.vericon_decide.specs.declared.answer.Why.{Why}
-use Rattle.vericon_decide.specs.declared.answer.Why.TheVariants.{Open}
-use Rattle.vericon_decide.specs.Answers.{IsTold, IsUnmet}
-use Rattle.vericon_decide.proofs.AnswerLaws.{network_unmet, network_met, network_unsuited}
+use Rattle.vericon_decide.specs.Levels.{IsFinding}
+use Rattle.vericon_decide.proofs.AnswerLaws.{network_unmet, network_met, network_undecided}
 use Rattle.vericon_decide.proofs.answer.decide.Goals as goal
 
-pub decide_later-requires-clause-met : goal.decide_later-requires-clause-met
-decide_later-requires-clause-met c =
-    let found = subst (λ z. OfCondition c.args.program.now c.args.most 0 (λ d. IsTold c.args.program.now d z)) c.in-Err.is c.in_ok-proof.ensures in
-    let is_open : c.in-Err.why ≡ Open = c.is_open.ensures.open_so c.if-is_open.true in
-    let told = subst (λ (z : Why). OfCondition c.args.program.now c.args.most 0 (λ d. IsTold c.args.program.now d (Err z))) is_open found in
-    network_met c.args.program.now c.args.most c.parts.ensures.well_sorted told
+pub returns-in-Valid : goal.returns-in-Valid
+returns-in-Valid c =
+    network_unmet c.args.program.now c.in-Valid.proof c.parts.ensures.well_sorted
+    (subst (λ z. OfCondition c.args.program.now 0 0 (λ d. IsFinding c.args.program.now d z)) c.in-Valid.is c.in_ok-proof.ensures)
 
-pub returns-in-Ok : goal.returns-in-Ok
-returns-in-Ok c =
-    let found = subst (λ z. OfCondition c.args.program.now c.args.most 0 (λ d. IsTold c.args.program.now d z)) c.in-Ok.is c.in_ok-proof.ensures in
-    subst (λ n. IsUnmet c.args.program.now n c.in-Ok.proof) c.requires (network_unmet c.args.program.now c.args.most c.in-Ok.proof c.parts.ensures.well_sorted found)
+pub decide_levels-requires-clause-met : goal.decide_levels-requires-clause-met
+decide_levels-requires-clause-met c =
+    network_met c.args.program.now _ c.parts.ensures.well_sorted
+    (subst (λ z. OfCondition c.args.program.now 0 0 (λ d. IsFinding c.args.program.now d z)) c.in-Broken.is c.in_ok-proof.ensures)
 
-pub returns-else-is_open : goal.returns-else-is_open
-returns-else-is_open c =
-    let found = subst (λ z. OfCondition c.args.program.now c.args.most 0 (λ d. IsTold c.args.program.now d z)) c.in-Err.is c.in_ok-proof.ensures in
-    (c.requires, network_unsuited c.args.program.now c.args.most c.in-Err.why (c.is_open.ensures.other c.if-is_open.false) found)
+pub decide_rest-requires-clause-undecided : goal.decide_rest-requires-clause-undecided
+decide_rest-requires-clause-undecided c =
+    network_undecided c.args.program.now c.args.most c.in-Undecided.why
+    (subst (λ z. OfCondition c.args.program.now 0 0 (λ d. IsFinding c.args.program.now d z)) c.in-Undecided.is c.in_ok-proof.ensures)

@@ -4,9 +4,9 @@ use Rattle.csdn_conditions.specs.declared.sentence.Condition.{Condition}
 use Rattle.csdn_conditions.specs.Closed.{IsClosed}
 use Rattle.csdn_conditions.specs.Answers.{Answers, OfCondition}
 use Rattle.csdn_conditions.proofs.ClosedConditions.{members_closed}
-use Rattle.vericon_decide.specs.Answers.{IsTold}
-use Rattle.vericon_decide.proofs.AnswerLaws.{told_there, large_there}
-use Rattle.vericon_decide.proofs.answer.proof_at.Goals as goal
+use Rattle.vericon_decide.specs.Levels.{IsFinding}
+use Rattle.vericon_decide.proofs.LevelLaws.{found_there, large_there}
+use Rattle.vericon_decide.proofs.findings.finding_at.Goals as goal
 
 pub decide_condition-requires-clause-hypothesis : goal.decide_condition-requires-clause-hypothesis
 decide_condition-requires-clause-hypothesis c =
@@ -22,8 +22,8 @@ decide_condition-requires-clause-goal c =
 
 pub returns-in_ok-decide_condition-in-Ok : goal.returns-in_ok-decide_condition-in-Ok
 returns-in_ok-decide_condition-in-Ok c =
-    subst (λ z. OfCondition c.args.program.now c.args.level c.args.index (λ d. IsTold c.args.program.now d z)) (sym c.told.ensures)
-    (told_there c.args.program.now c.args.level c.args.index c.in-Ok.condition c.in_ok-decide_condition-in-Ok.field-0 c.in-Ok.ensures c.in_ok-decide_condition-in-Ok.ensures)
+    subst (λ z. OfCondition c.args.program.now c.args.level c.args.index (λ d. IsFinding c.args.program.now d z)) (sym c.finding_of.ensures)
+    (found_there c.args.program.now c.args.level c.args.index c.in-Ok.condition c.in_ok-decide_condition-in-Ok.field-0 c.in-Ok.ensures c.in_ok-decide_condition-in-Ok.ensures)
 
 pub returns-in-Err-Large : goal.returns-in-Err-Large
 returns-in-Err-Large c =
