@@ -26,6 +26,9 @@ fn told(alloc: Global, text: &[u8]) -> Result<String, AllocError> {
             let good = accepted(alloc, &proofs)?;
             format!(in alloc; "yes {level}: {} proofs, {good}", proofs.len())
         }
+        Answer::Counter { level, index, .. } => {
+            format!(in alloc; "counterexample {level} {index}")
+        }
         Answer::Unknown { level, index, why } => {
             format!(in alloc; "unknown {level} {index}: {why:?}")
         }
@@ -91,18 +94,18 @@ mod rows {
         ),
         (
             b"rel armed(); safety A: not armed(); pktIn(s, src->dst, i) { armed.insert(); }",
-            "unknown 0 2: Open",
+            "counterexample 0 2",
         ),
         // an invariant that is false at the start
         (
             b"rel armed(); safety A: armed(); pktIn(s, src->dst, i) { skip; }",
-            "unknown 0 1: Open",
+            "counterexample 0 1",
         ),
         (b"topology T: forall X:HO. not X = X;", "no network"),
         // two hosts may be one, unless it is said that they differ
         (
             b"rel r(HO); safety one: forall X:HO, Y:HO. r(X) and r(Y) -> X = Y; pktIn(s, src->dst, i) { r.insert(src); }",
-            "unknown 0 2: Open",
+            "counterexample 0 2",
         ),
         (
             b"rel r(HO); safety one: forall X:HO, Y:HO. r(X) and r(Y) -> X = Y; pktIn(s, src->dst, i) { if not (exists Z:HO. r(Z)) { r.insert(src); } }",
@@ -129,8 +132,8 @@ mod rows {
         // a program without invariants
         (b"rel p();", "yes 0: 0 proofs, true"),
         (SWITCH, "yes 0: 2 proofs, true"),
-        (HUB, "unknown 0 1: Open"),
-        (FIREWALL, "unknown 0 3: Open"),
+        (HUB, "counterexample 0 1"),
+        (FIREWALL, "counterexample 0 3"),
     ];
 
     #[test]

@@ -1,6 +1,7 @@
 //! Trials of `decide`: beside it a plain search goes through all networks of at most two switches, hosts and ports and their
 //! states. Where that finds a case of some condition the answer is never yes, and where it finds a network that meets the
-//! topology invariants it is never that there is none. Where it finds nothing, nothing follows.
+//! topology invariants it is never that there is none. Where it finds nothing, nothing follows. A case that is answered is looked
+//! at again: the hypothesis of its condition is true there, and the goal false.
 #![tactic(auto)]
 
 mod depth;
@@ -12,7 +13,7 @@ mod trouble;
 mod worlds;
 
 use crate::programs::{Kind, TRIALS};
-use crate::search::{Found, search};
+use crate::search::{Found, breaks, search};
 use crate::trouble::Trouble;
 use csdn_types_tests::resolved;
 use std::alloc::Global;
@@ -23,6 +24,10 @@ use vericon_decide::answer::{Answer, decide};
 #[derive(Clone, Copy, Debug, PartialEq, Eq)]
 enum Told {
     Yes,
+    /// A case that breaks its condition.
+    Counterexample,
+    /// A case that doesn't.
+    NoCase,
     Unknown,
     NoNetwork,
 }
@@ -39,6 +44,13 @@ impl Outcome {
         let program = resolved(alloc, text)??;
         let told = match decide(alloc, &program, 0)? {
             Answer::Yes { .. } => Told::Yes,
+            Answer::Counter { index, case, .. } => {
+                if breaks(alloc, &program, index, &case)? {
+                    Told::Counterexample
+                } else {
+                    Told::NoCase
+                }
+            }
             Answer::Unknown { .. } => Told::Unknown,
             Answer::NoNetwork { .. } => Told::NoNetwork,
         };
@@ -51,7 +63,8 @@ impl Outcome {
         match self.told {
             Told::Yes => self.found.has_case,
             Told::NoNetwork => self.found.networks > 0,
-            Told::Unknown => false,
+            Told::NoCase => true,
+            Told::Counterexample | Told::Unknown => false,
         }
     }
 
@@ -60,8 +73,9 @@ impl Outcome {
         let has_case = self.found.has_case;
         match kind {
             Kind::Valid => matches!(self.told, Told::Yes) && !has_case,
-            Kind::Broken => matches!(self.told, Told::Unknown) && has_case,
-            Kind::Unsettled => matches!(self.told, Told::Unknown) && !has_case,
+            Kind::Broken => matches!(self.told, Told::Counterexample) && has_case,
+            Kind::BrokenInLarge => matches!(self.told, Told::Counterexample) && !has_case,
+            Kind::Undecided => matches!(self.told, Told::Unknown) && !has_case,
             Kind::NoNetwork => matches!(self.told, Told::NoNetwork) && self.found.networks == 0,
         }
     }
@@ -79,6 +93,8 @@ impl Outcome {
     fn answer(&self) -> &'static str {
         match self.told {
             Told::Yes => "yes",
+            Told::Counterexample => "counterexample",
+            Told::NoCase => "no counterexample",
             Told::Unknown => "unknown",
             Told::NoNetwork => "no network",
         }

@@ -6,10 +6,12 @@
 pub enum Kind {
     /// Each of its conditions is valid and can be decided, and some network meets its topology invariants. Yes, and no case.
     Valid,
-    /// A condition has a case in a network that is searched. Unknown, and a case.
+    /// A condition has a case in a network that is searched. A counterexample, and a case.
     Broken,
-    /// A condition can't be decided, or has cases in larger networks alone. Unknown, and no case.
-    Unsettled,
+    /// Conditions have cases in larger networks alone. A counterexample, and no case.
+    BrokenInLarge,
+    /// A condition can't be decided, and none is broken. Unknown, and no case.
+    Undecided,
     /// No network meets its topology invariants. That is answered, and none is found.
     NoNetwork,
 }
@@ -208,17 +210,17 @@ pub const TRIALS: [Trial; 43] = [
     },
     // valid, since k comes after m; but the invariant has an exists under a forall, and can't be decided where it is assumed
     Trial {
-        kind: Kind::Unsettled,
+        kind: Kind::Undecided,
         text: "rel k(HO); rel m(HO, HO); safety paired: forall X:HO. k(X) -> (exists Y:HO. m(X, Y)); pktIn(s, a->b, i) { m.insert(a, b); k.insert(a); }",
     },
     // broken by the third host that comes, more than are searched
     Trial {
-        kind: Kind::Unsettled,
+        kind: Kind::BrokenInLarge,
         text: "rel p(HO); safety two: forall X:HO, Y:HO, Z:HO. p(X) and p(Y) and p(Z) -> X = Y or Y = Z or X = Z; pktIn(s, a->b, i) { p.insert(a); }",
     },
     // nothing is wrong but the topology invariant, which has an exists under a forall
     Trial {
-        kind: Kind::Unsettled,
+        kind: Kind::Undecided,
         text: "static link(SW, PR); topology linked: forall S:SW. exists P:PR. link(S, P); rel p(); safety never: not p(); pktIn(s, a->b, i) { skip; }",
     },
     // a switch is itself, and each network has one

@@ -9,6 +9,7 @@ use csdn_conditions::sentence::Condition;
 use csdn_core::event::Packet;
 use csdn_core::program::Program;
 use csdn_core::syntax::Formula;
+use net_structs::case::Case;
 use net_structs::env::Env;
 use net_structs::network::Network;
 use net_structs::state::State;
@@ -95,6 +96,27 @@ pub fn search(alloc: Global, program: &Program) -> Result<Found, Trouble> {
         }
     }
     Ok(found)
+}
+
+/// Whether a case breaks the condition of this number of level 0, in a network that meets the topology invariants.
+pub fn breaks(alloc: Global, program: &Program, index: u32, case: &Case) -> Result<bool, Trouble> {
+    if index >= condition_count(program, 0) {
+        return Ok(false);
+    }
+    let Some(state) = &case.state else {
+        return Ok(false);
+    };
+    let world = World {
+        program,
+        network: &case.network,
+        state,
+    };
+    let topology = condition(alloc, program, 0, 0)?;
+    if !is_case(alloc, &world, &topology)? {
+        return Ok(false);
+    }
+    let broken = condition(alloc, program, 0, index)?;
+    is_case(alloc, &world, &broken)
 }
 
 /// The conditions of level 0 but the network condition.
