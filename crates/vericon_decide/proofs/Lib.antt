@@ -1,3 +1,1 @@
 mod VerdictLaws
-mod AnswerLaws
-mod Exact

@@ -1,112 +1,128 @@
 -- What is answered of a program.
-use Rattle.std.specs.Prelude.{◌≡◌, ℕ, ◌<◌, Bool, true, false, List, [], ◌∷◌, drop, Some, slice_get, Result, Ok, Err}
+use Rattle.std.specs.Prelude.{◌≡◌, ℕ, ◌<◌, ◌≤◌, suc, Bool, true, false, List, Some, slice_get}
 use Rattle.csdn_core.specs.declared.program.Parts.{Parts}
 use Rattle.csdn_core.specs.Network.{Network}
 use Rattle.csdn_core.specs.Holds.{IsTopology, IsInductive}
-use Rattle.csdn_conditions.specs.declared.class.Class.TheVariants.{Nodes as NodesClass, Outside as OutsideClass, Instances as InstancesClass}
-use Rattle.csdn_conditions.specs.declared.kinds.CondKind.TheVariants.{Network as NetworkKind}
+use Rattle.net_structs.specs.declared.case.Case.{Case}
 use Rattle.csdn_conditions.specs.declared.sentence.Condition.{Condition}
 use Rattle.csdn_conditions.specs.Answers.{OfCondition}
-use Rattle.csdn_conditions.specs.Classes.{IsClass}
-use Rattle.csdn_conditions.specs.Conditions.{condition, conditions, sentence}
+use Rattle.csdn_conditions.specs.Conditions.{conditions}
+use Rattle.csdn_conditions.specs.Valid.{HasCase}
 use Rattle.vericon_decide.specs.declared.verdict.Proof.{Proof}
-use Rattle.vericon_decide.specs.declared.verdict.Verdict.{Verdict}
-use Rattle.vericon_decide.specs.declared.verdict.Verdict.TheVariants.{Valid, Open as OpenVerdict, Nodes as NodesVerdict, Outside as OutsideVerdict, Instances as InstancesVerdict}
 use Rattle.vericon_decide.specs.declared.answer.Why.{Why}
-use Rattle.vericon_decide.specs.declared.answer.Why.TheVariants.{Open, Nodes, Outside, Instances}
 use Rattle.vericon_decide.specs.declared.answer.Answer.{Answer}
-use Rattle.vericon_decide.specs.declared.answer.Answer.TheVariants.{Yes, Unknown, NoNetwork}
-use Rattle.vericon_decide.specs.Verdicts.{IsProofOf, IsInside, IsProven, IsOpen}
+use Rattle.vericon_decide.specs.declared.answer.Answer.TheVariants.{Yes, Counter, Unknown, NoNetwork}
+use Rattle.vericon_decide.specs.Verdicts.{IsInside, IsBrokenBy}
+use Rattle.vericon_decide.specs.Levels.{IsWhy, NetworkIsInside, IsMeetable, IsMet, IsUnmet, IsProvenBy, NoneIsBroken, NoneIsBrokenTo, AreInsideTo, FailsBelow}
 
--- one proof for the sentence of each of these conditions, in their order
-abbrev pub AreProofsOf : Parts → List Condition → List Proof → Type 0
-AreProofsOf P [] [] = Unit {0}
-AreProofsOf P [] (proof ∷ proofs) = ⊥
-AreProofsOf P (c ∷ cs) [] = ⊥
-AreProofsOf P (c ∷ cs) (proof ∷ proofs) = IsProofOf P (sentence c) proof × AreProofsOf P cs proofs
+module _ (P : Parts) (most : ℕ) where
+  -- where the network condition can be decided, some network meets the topology invariants, and each level up to `most` fails
+  pub record IsOpen : Type 0 where
+    pub network : NetworkIsInside P → IsMeetable P
+    pub fails : NetworkIsInside P → FailsBelow P (suc most)
 
--- why a condition isn't proven
-abbrev pub IsWhy : Parts → Condition → Why → Type 0
-IsWhy P c Open = IsOpen P c
-IsWhy P c Nodes = IsClass P (sentence c) NodesClass
-IsWhy P c Outside = IsClass P (sentence c) OutsideClass
-IsWhy P c (Instances n) = IsClass P (sentence c) (InstancesClass n)
+  -- this is the first level that is proven, by these proofs, and some network meets the topology invariants
+  pub record IsYes (level : ℕ) (proofs : List Proof) : Type 0 where
+    pub within : level ≤ most
+    pub met : IsMet P
+    pub proven : IsProvenBy P level proofs
+    pub inductive : IsInductive level P
+    pub fails : FailsBelow P level
 
--- the proof of a verdict, or why there is none
-abbrev pub told_by : Verdict → Result Proof Why
-told_by (Valid proof) = Ok proof
-told_by OpenVerdict = Err Open
-told_by NodesVerdict = Err Nodes
-told_by OutsideVerdict = Err Outside
-told_by (InstancesVerdict n) = Err (Instances n)
+  -- at level `most` the condition of this number is the first that is inside and has a case, which is this one; the network
+  -- condition doesn't count
+  pub record IsCounter (level index : ℕ) (case : Case) : Type 0 where
+    pub last : level ≡ most
+    pub open_so : IsOpen
+    pub some : 0 < index
+    pub broken : OfCondition P level index (λ c. IsBrokenBy P c case)
+    pub first : NoneIsBrokenTo P level index
 
--- the condition is proven by this proof, or isn't for this reason
-abbrev pub IsTold : Parts → Condition → Result Proof Why → Type 0
-IsTold P c (Ok proof) = IsProven P c × IsProofOf P (sentence c) proof
-IsTold P c (Err why) = IsWhy P c why
+  -- at level `most` no condition but the network condition is inside and has a case; that of this number is the first that is
+  -- not inside, for this reason
+  pub record IsUnknown (level index : ℕ) (why : Why) : Type 0 where
+    pub last : level ≡ most
+    pub open_so : IsOpen
+    pub unbroken : NoneIsBroken P level
+    pub undecided : OfCondition P level index (λ c. IsWhy P c why)
+    pub first : AreInsideTo P level index
 
--- at level n
-module _ (P : Parts) (n : ℕ) where
-  -- the network condition can be decided
-  abbrev pub NetworkIsInside : Type 0
-  NetworkIsInside = IsInside P (condition P n NetworkKind)
+  abbrev pub IsAnswer : Answer → Type 0
+  IsAnswer (Yes level proofs) = IsYes level proofs.items
+  IsAnswer (Counter level index case) = IsCounter level index case
+  IsAnswer (Unknown level index why) = IsUnknown level index why
+  IsAnswer (NoNetwork proof) = IsUnmet P proof
 
-  -- .. and some network meets the topology invariants
-  pub record IsMet : Type 0 where
-    pub inside : NetworkIsInside
-    pub network : (N : Network) × IsTopology P N
-
-  -- .. and none does, by this proof
-  pub record IsUnmet (proof : Proof) : Type 0 where
-    pub inside : NetworkIsInside
-    pub none : (N : Network) → IsTopology P N → ⊥
-    pub proof_of : IsProofOf P (sentence (condition P n NetworkKind)) proof
-
-  -- the conditions but the network condition are proven by these proofs
-  pub record IsProvenBy (proofs : List Proof) : Type 0 where
-    pub met : IsMet
-    pub proven : (i : ℕ) (c : Condition) → slice_get (conditions P n) i ≡ Some c → 0 < i → IsProven P c
-    pub inductive : IsInductive n P
-    pub proofs_of : AreProofsOf P (drop 1 (conditions P n)) proofs
-
-  -- the condition of this number is the first that is not proven, for this reason; the network condition is to be open, so
-  -- that it counts only where it can't be decided
-  pub record IsFirstUnproven (index : ℕ) (why : Why) : Type 0 where
-    pub met : 0 < index → IsMet
-    pub proven : (i : ℕ) (c : Condition) → slice_get (conditions P n) i ≡ Some c → 0 < i → i < index → IsProven P c
-    pub unproven : OfCondition P n index (λ c. IsWhy P c why)
-    pub later : why ≡ Open → 0 < index
-
-  -- what yes comes to, without proofs: each condition can be decided, some network meets the topology invariants, and the
-  -- program is inductive
-  pub record IsProvable : Type 0 where
-    pub inside : (i : ℕ) (c : Condition) → slice_get (conditions P n) i ≡ Some c → IsInside P c
-    pub network : (N : Network) × IsTopology P N
-    pub inductive : IsInductive n P
-
-abbrev pub IsAnswer : Parts → Answer → Type 0
-IsAnswer P (Yes level proofs) = (level ≡ 0) × IsProvenBy P level proofs.items
-IsAnswer P (Unknown level index why) = (level ≡ 0) × IsFirstUnproven P level index why
-IsAnswer P (NoNetwork proof) = IsUnmet P 0 proof
-
--- two answers are one, but for the proofs that they give
+-- Two answers are one, but for the proofs and the case that they give.
 abbrev pub AreOne : Answer → Answer → Type 0
 AreOne (Yes n ps) (Yes m qs) = n ≡ m
+AreOne (Yes n ps) (Counter m j d) = ⊥
 AreOne (Yes n ps) (Unknown m j whz) = ⊥
 AreOne (Yes n ps) (NoNetwork q) = ⊥
+AreOne (Counter n i c) (Yes m qs) = ⊥
+AreOne (Counter n i c) (Counter m j d) = (n ≡ m) × (i ≡ j)
+AreOne (Counter n i c) (Unknown m j whz) = ⊥
+AreOne (Counter n i c) (NoNetwork q) = ⊥
 AreOne (Unknown n i why) (Yes m qs) = ⊥
+AreOne (Unknown n i why) (Counter m j d) = ⊥
 AreOne (Unknown n i why) (Unknown m j whz) = (n ≡ m) × (i ≡ j) × (why ≡ whz)
 AreOne (Unknown n i why) (NoNetwork q) = ⊥
 AreOne (NoNetwork p) (Yes m qs) = ⊥
+AreOne (NoNetwork p) (Counter m j d) = ⊥
 AreOne (NoNetwork p) (Unknown m j whz) = ⊥
 AreOne (NoNetwork p) (NoNetwork q) = Unit {0}
 
-abbrev pub is_yes : Answer → Bool
-is_yes (Yes n ps) = true
-is_yes (Unknown n i why) = false
-is_yes (NoNetwork p) = false
+-- When each answer comes.
+
+-- each condition of level n can be decided, the program is n-inductive, and some network meets the topology invariants
+pub record IsProvable (P : Parts) (n : ℕ) : Type 0 where
+  pub inside : (i : ℕ) (c : Condition) → slice_get (conditions P n) i ≡ Some c → IsInside P c
+  pub network : IsMeetable P
+  pub inductive : IsInductive n P
+
+-- n is the least such level, and at most `most`
+pub record IsLeastProvable (P : Parts) (most n : ℕ) : Type 0 where
+  pub within : n ≤ most
+  pub provable : IsProvable P n
+  pub least : (m : ℕ) → m < n → IsProvable P m → ⊥
+
+-- some level of at most `most` is such
+pub record IsProvableWithin (P : Parts) (most : ℕ) : Type 0 where
+  pub level : ℕ
+  pub within : level ≤ most
+  pub provable : IsProvable P level
+
+-- the network condition can be decided, and no network meets the topology invariants
+abbrev pub IsUnmeetable : Parts → Type 0
+IsUnmeetable P = NetworkIsInside P × ((N : Network) → IsTopology P N → ⊥)
+
+-- a condition of level n other than the network condition can be decided and has a case
+pub record IsBreakable (P : Parts) (n : ℕ) : Type 0 where
+  pub index : ℕ
+  pub some : 0 < index
+  pub broken : OfCondition P n index (λ c. IsInside P c × HasCase P c)
+
+-- yes at level n
+abbrev pub IsYesAt : ℕ → Answer → Type 0
+IsYesAt n (Yes m ps) = m ≡ n
+IsYesAt n (Counter m i c) = ⊥
+IsYesAt n (Unknown m i why) = ⊥
+IsYesAt n (NoNetwork p) = ⊥
+
+abbrev pub is_counter : Answer → Bool
+is_counter (Yes n ps) = false
+is_counter (Counter n i c) = true
+is_counter (Unknown n i why) = false
+is_counter (NoNetwork p) = false
+
+abbrev pub is_unknown : Answer → Bool
+is_unknown (Yes n ps) = false
+is_unknown (Counter n i c) = false
+is_unknown (Unknown n i why) = true
+is_unknown (NoNetwork p) = false
 
 abbrev pub is_no_network : Answer → Bool
 is_no_network (Yes n ps) = false
+is_no_network (Counter n i c) = false
 is_no_network (Unknown n i why) = false
 is_no_network (NoNetwork p) = true

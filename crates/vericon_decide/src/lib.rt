@@ -5,5 +5,8 @@
 #![tactic(auto)]
 
 pub mod answer;
+mod findings;
 pub mod laws;
+mod levels;
+mod solving;
 pub mod verdict;

@@ -3,16 +3,14 @@
 
 ghost use Rattle.std.specs.Prelude.{IfOk};
 ghost use Rattle.csdn_conditions.specs.Closed.{IsClosed};
-ghost use Rattle.decision_laws.specs.Laws.{IsSentence};
-ghost use Rattle.vericon_decide.specs.Verdicts.{IsVerdict, IsSettled};
+ghost use Rattle.vericon_decide.specs.Verdicts.{IsVerdict};
 
+use crate::solving::{Solution, solution_of};
 use clause_log::{Clauses, Log};
-use clause_search::{Outcome, solve};
 use csdn_conditions::class::{Class, class_of};
 use csdn_conditions::sentence::Condition;
 use csdn_core::program::Program;
-use csdn_core::syntax::Formula;
-use ground_inst::making::ground;
+use net_structs::case::Case;
 use std::alloc::{AllocError, Global};
 
 /// Why a sentence has no network and state: clauses that are tied to it, and a log that refutes them.
@@ -27,8 +25,8 @@ pub struct Proof {
 pub enum Verdict {
     /// No network and state break it.
     Valid(Proof),
-    /// A fair judgement makes the copies of its sentence true, so that some network and state break it.
-    Open,
+    /// Its hypothesis is true in this network and state, and its goal false.
+    Broken(Case),
     /// Its sentence, or the normal form of that, has more than 1,048,576 nodes.
     Nodes,
     /// In the normal form of its sentence an `exists` stands under a `forall`.
@@ -52,28 +50,9 @@ pub fn decide_condition(
         Class::Nodes => Ok(Verdict::Nodes),
         Class::Outside => Ok(Verdict::Outside),
         Class::Instances(count) => Ok(Verdict::Instances(count)),
-        Class::Inside => match proof_of(alloc, program, &sentence)? {
-            Some(proof) => Ok(Verdict::Valid(proof)),
-            None => Ok(Verdict::Open),
+        Class::Inside => match solution_of(alloc, program, &sentence)? {
+            Solution::Refuted(proof) => Ok(Verdict::Valid(proof)),
+            Solution::Satisfied(case) => Ok(Verdict::Broken(case)),
         },
-    }
-}
-
-// A proof that no network and state make the sentence true; none where some do.
-fn proof_of(
-    alloc: Global,
-    program: &Program,
-    sentence: &Formula,
-) -> Result<Option<Proof>, AllocError>
-    requires { IsSentence program.now sentence.now }
-    ensures { IfOk result (IsSettled program.now sentence.now) }
-{
-    let made = ground(alloc, program, sentence)?;
-    match solve(alloc, &made.clauses)? {
-        Outcome::Model(_) => Ok(None),
-        Outcome::Refuted(log) => Ok(Some(Proof {
-            clauses: made.clauses,
-            log,
-        })),
     }
 }

@@ -1,0 +1,106 @@
+-- What holds of the conditions of a level.
+use Rattle.std.specs.Prelude.{◌≡◌, ◌⊎◌, ℕ, ◌<◌, List, [], ◌∷◌, drop, Some, slice_get}
+use Rattle.csdn_core.specs.declared.program.Parts.{Parts}
+use Rattle.csdn_core.specs.Network.{Network}
+use Rattle.csdn_core.specs.Holds.{IsTopology}
+use Rattle.csdn_conditions.specs.declared.class.Class.TheVariants.{Nodes as NodesClass, Outside as OutsideClass, Instances as InstancesClass}
+use Rattle.csdn_conditions.specs.declared.kinds.CondKind.TheVariants.{Network as NetworkKind}
+use Rattle.csdn_conditions.specs.declared.sentence.Condition.{Condition}
+use Rattle.csdn_conditions.specs.Answers.{OfCondition}
+use Rattle.csdn_conditions.specs.Classes.{IsClass}
+use Rattle.csdn_conditions.specs.Conditions.{condition, conditions, sentence}
+use Rattle.csdn_conditions.specs.Valid.{HasCase}
+use Rattle.vericon_decide.specs.declared.verdict.Proof.{Proof}
+use Rattle.vericon_decide.specs.declared.answer.Why.{Why}
+use Rattle.vericon_decide.specs.declared.answer.Why.TheVariants.{Nodes, Outside, Instances}
+use Rattle.vericon_decide.specs.declared.findings.Finding.{Finding}
+use Rattle.vericon_decide.specs.declared.findings.Finding.TheVariants.{Valid, Broken, Undecided}
+use Rattle.vericon_decide.specs.declared.levels.LevelEnd.{LevelEnd}
+use Rattle.vericon_decide.specs.declared.levels.LevelEnd.TheVariants.{Proven as ProvenEnd, Broken as BrokenEnd, Undecided as UndecidedEnd}
+use Rattle.vericon_decide.specs.Verdicts.{IsProofOf, IsInside, IsProven, IsBrokenBy}
+
+-- one proof for the sentence of each of these conditions, in their order
+abbrev pub AreProofsOf : Parts → List Condition → List Proof → Type 0
+AreProofsOf P [] [] = Unit {0}
+AreProofsOf P [] (proof ∷ proofs) = ⊥
+AreProofsOf P (c ∷ cs) [] = ⊥
+AreProofsOf P (c ∷ cs) (proof ∷ proofs) = IsProofOf P (sentence c) proof × AreProofsOf P cs proofs
+
+-- why a condition isn't inside
+abbrev pub IsWhy : Parts → Condition → Why → Type 0
+IsWhy P c Nodes = IsClass P (sentence c) NodesClass
+IsWhy P c Outside = IsClass P (sentence c) OutsideClass
+IsWhy P c (Instances n) = IsClass P (sentence c) (InstancesClass n)
+
+-- what is found of a condition
+abbrev pub IsFinding : Parts → Condition → Finding → Type 0
+IsFinding P c (Valid proof) = IsProven P c × IsProofOf P (sentence c) proof
+IsFinding P c (Broken case) = IsBrokenBy P c case
+IsFinding P c (Undecided why) = IsWhy P c why
+
+module _ (P : Parts) where
+  -- the network condition, which is the same at every level, can be decided
+  abbrev pub NetworkIsInside : Type 0
+  NetworkIsInside = IsInside P (condition P 0 NetworkKind)
+
+  -- some network meets the topology invariants
+  abbrev pub IsMeetable : Type 0
+  IsMeetable = (N : Network) × IsTopology P N
+
+  -- the network condition can be decided, and some network meets the topology invariants
+  pub record IsMet : Type 0 where
+    pub inside : NetworkIsInside
+    pub network : IsMeetable
+
+  -- .. and none does, by this proof
+  pub record IsUnmet (proof : Proof) : Type 0 where
+    pub inside : NetworkIsInside
+    pub none : (N : Network) → IsTopology P N → ⊥
+    pub proof_of : IsProofOf P (sentence (condition P 0 NetworkKind)) proof
+
+  -- each condition of level n before number k, but the network condition, is inside and has no case
+  abbrev pub AreProvenTo : ℕ → ℕ → Type 0
+  AreProvenTo n k = (i : ℕ) (c : Condition) → slice_get (conditions P n) i ≡ Some c → 0 < i → i < k → IsProven P c
+
+  -- .. each of level n
+  abbrev pub IsProvenAt : ℕ → Type 0
+  IsProvenAt n = (i : ℕ) (c : Condition) → slice_get (conditions P n) i ≡ Some c → 0 < i → IsProven P c
+
+  -- none of level n before number k, but the network condition, is inside and has a case
+  abbrev pub NoneIsBrokenTo : ℕ → ℕ → Type 0
+  NoneIsBrokenTo n k = (i : ℕ) (c : Condition) → slice_get (conditions P n) i ≡ Some c → 0 < i → i < k → IsInside P c → HasCase P c → ⊥
+
+  -- .. none of level n
+  abbrev pub NoneIsBroken : ℕ → Type 0
+  NoneIsBroken n = (i : ℕ) (c : Condition) → slice_get (conditions P n) i ≡ Some c → 0 < i → IsInside P c → HasCase P c → ⊥
+
+  -- each of level n before number k is inside
+  abbrev pub AreInsideTo : ℕ → ℕ → Type 0
+  AreInsideTo n k = (i : ℕ) (c : Condition) → slice_get (conditions P n) i ≡ Some c → i < k → IsInside P c
+
+  -- a condition of level n other than the network condition is not inside, or has a case
+  pub record FailsAt (n : ℕ) : Type 0 where
+    pub index : ℕ
+    pub some : 0 < index
+    pub failed : OfCondition P n index (λ c. (IsInside P c → ⊥) ⊎ HasCase P c)
+
+  -- each level below n does
+  abbrev pub FailsBelow : ℕ → Type 0
+  FailsBelow n = (m : ℕ) → m < n → FailsAt m
+
+  -- the conditions of level n but the network condition are proven by these proofs
+  pub record IsProvenBy (n : ℕ) (proofs : List Proof) : Type 0 where
+    pub proven : IsProvenAt n
+    pub proofs_of : AreProofsOf P (drop 1 (conditions P n)) proofs
+
+  -- the condition of this number of level n, which isn't the network condition, is such, and those between are proven
+  pub record IsFirst (n index : ℕ) (Fact : Condition → Type 0) : Type 0 where
+    pub some : 0 < index
+    pub fact : OfCondition P n index Fact
+    pub before : AreProvenTo n index
+
+  -- how far level n is proven
+  abbrev pub IsLevelEnd : ℕ → LevelEnd → Type 0
+  IsLevelEnd n (ProvenEnd proofs) = IsProvenBy n proofs.items
+  IsLevelEnd n (BrokenEnd index case) = IsFirst n index (λ c. IsBrokenBy P c case)
+  IsLevelEnd n (UndecidedEnd index why) = IsFirst n index (λ c. IsWhy P c why)
