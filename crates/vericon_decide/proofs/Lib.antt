@@ -1,1 +1,4 @@
 mod VerdictLaws
+mod LevelLaws
+mod AnswerLaws
+mod Exact

@@ -47,6 +47,13 @@ module _ (P : Parts) (most : ℕ) where
     pub undecided : OfCondition P level index (λ c. IsWhy P c why)
     pub first : AreInsideTo P level index
 
+  -- the condition of this number of level `most` is the first that is not inside, for this reason, and none before it has a case
+  pub record IsUndecided (index : ℕ) (why : Why) : Type 0 where
+    pub open_so : IsOpen
+    pub undecided : OfCondition P most index (λ c. IsWhy P c why)
+    pub first : AreInsideTo P most index
+    pub unbroken : NoneIsBrokenTo P most index
+
   abbrev pub IsAnswer : Answer → Type 0
   IsAnswer (Yes level proofs) = IsYes level proofs.items
   IsAnswer (Counter level index case) = IsCounter level index case

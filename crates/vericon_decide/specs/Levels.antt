@@ -1,8 +1,10 @@
 -- What holds of the conditions of a level.
-use Rattle.std.specs.Prelude.{◌≡◌, ◌⊎◌, ℕ, ◌<◌, List, [], ◌∷◌, drop, Some, slice_get}
+use Rattle.std.specs.Prelude.{◌≡◌, ◌⊎◌, ℕ, ◌<◌, List, [], ◌∷◌, drop, Option, Some, None, Vec, slice_get}
+use Rattle.std.specs.declared.alloc.Global.{Global}
 use Rattle.csdn_core.specs.declared.program.Parts.{Parts}
 use Rattle.csdn_core.specs.Network.{Network}
 use Rattle.csdn_core.specs.Holds.{IsTopology}
+use Rattle.net_structs.specs.declared.case.Case.{Case}
 use Rattle.csdn_conditions.specs.declared.class.Class.TheVariants.{Nodes as NodesClass, Outside as OutsideClass, Instances as InstancesClass}
 use Rattle.csdn_conditions.specs.declared.kinds.CondKind.TheVariants.{Network as NetworkKind}
 use Rattle.csdn_conditions.specs.declared.sentence.Condition.{Condition}
@@ -11,6 +13,8 @@ use Rattle.csdn_conditions.specs.Classes.{IsClass}
 use Rattle.csdn_conditions.specs.Conditions.{condition, conditions, sentence}
 use Rattle.csdn_conditions.specs.Valid.{HasCase}
 use Rattle.vericon_decide.specs.declared.verdict.Proof.{Proof}
+use Rattle.vericon_decide.specs.declared.verdict.Verdict.{Verdict}
+use Rattle.vericon_decide.specs.declared.verdict.Verdict.TheVariants.{Valid as ValidVerdict, Broken as BrokenVerdict, Nodes as NodesVerdict, Outside as OutsideVerdict, Instances as InstancesVerdict}
 use Rattle.vericon_decide.specs.declared.answer.Why.{Why}
 use Rattle.vericon_decide.specs.declared.answer.Why.TheVariants.{Nodes, Outside, Instances}
 use Rattle.vericon_decide.specs.declared.findings.Finding.{Finding}
@@ -37,6 +41,19 @@ abbrev pub IsFinding : Parts → Condition → Finding → Type 0
 IsFinding P c (Valid proof) = IsProven P c × IsProofOf P (sentence c) proof
 IsFinding P c (Broken case) = IsBrokenBy P c case
 IsFinding P c (Undecided why) = IsWhy P c why
+
+-- a case that is found, or none where the condition is inside and has no case, or isn't inside
+abbrev pub IsCaseFound : Parts → Condition → Option Case → Type 0
+IsCaseFound P c (Some case) = IsBrokenBy P c case
+IsCaseFound P c None = IsInside P c → HasCase P c → ⊥
+
+-- what is found by a verdict
+abbrev pub found_by : Verdict → Finding
+found_by (ValidVerdict proof) = Valid proof
+found_by (BrokenVerdict case) = Broken case
+found_by NodesVerdict = Undecided Nodes
+found_by OutsideVerdict = Undecided Outside
+found_by (InstancesVerdict n) = Undecided (Instances n)
 
 module _ (P : Parts) where
   -- the network condition, which is the same at every level, can be decided
@@ -98,6 +115,11 @@ module _ (P : Parts) where
     pub some : 0 < index
     pub fact : OfCondition P n index Fact
     pub before : AreProvenTo n index
+
+  -- the proofs of level n, or none where it fails
+  abbrev pub IsLevelProven : ℕ → Option (Vec Proof Global) → Type 0
+  IsLevelProven n (Some proofs) = IsProvenBy n proofs.items
+  IsLevelProven n None = FailsAt n
 
   -- how far level n is proven
   abbrev pub IsLevelEnd : ℕ → LevelEnd → Type 0

@@ -1,10 +1,15 @@
 //! What is answered of a program.
 #![tactic(auto)]
 
-ghost use Rattle.std.specs.Prelude.{◌≤◌, IfOk};
-ghost use Rattle.vericon_decide.specs.Answers.{IsAnswer};
+ghost use Rattle.std.specs.Prelude.{◌<◌, ◌≤◌, IfOk, length};
+ghost use Rattle.csdn_conditions.specs.Kinds.{kinds};
+ghost use Rattle.vericon_decide.specs.Levels.{IsMet, FailsBelow};
+ghost use Rattle.vericon_decide.specs.Answers.{IsAnswer, IsUndecided};
 
+use crate::findings::{Finding, case_at, finding_at};
+use crate::levels::{LevelEnd, level_end, level_proofs};
 use crate::verdict::Proof;
+use csdn_conditions::kinds::condition_count;
 use csdn_core::program::Program;
 use net_structs::case::Case;
 use std::alloc::{AllocError, Global};
@@ -40,5 +45,80 @@ pub fn decide(alloc: Global, program: &Program, most: u8) -> Result<Answer, Allo
     requires { most ≤ 9 }
     ensures { IfOk result (IsAnswer program.now most) }
 {
-    Err(AllocError)
+    // Its contract says that the program is well-sorted.
+    program.parts();
+    match finding_at(alloc, program, 0, 0)? {
+        Finding::Valid(proof) => Ok(Answer::NoNetwork { proof }),
+        Finding::Broken(_) => decide_levels(alloc, program, most),
+        Finding::Undecided(why) => decide_rest(alloc, program, most, 0, why),
+    }
+}
+
+// The levels in order, where some network meets the topology invariants.
+fn decide_levels(alloc: Global, program: &Program, most: u8) -> Result<Answer, AllocError>
+    requires most { most ≤ 9 }
+    requires met { IsMet program.now }
+    ensures { IfOk result (IsAnswer program.now most) }
+{
+    // Its contract says that the program is well-sorted.
+    program.parts();
+    for level in 0..most {
+        if let Some(proofs) = level_proofs(alloc, program, level)? {
+            return Ok(Answer::Yes { level, proofs });
+        }
+    }
+    decide_last(alloc, program, most)
+}
+
+// The last level, where each one below it fails.
+fn decide_last(alloc: Global, program: &Program, most: u8) -> Result<Answer, AllocError>
+    requires most { most ≤ 9 }
+    requires met { IsMet program.now }
+    requires fails { FailsBelow program.now most }
+    ensures { IfOk result (IsAnswer program.now most) }
+{
+    // Its contract says that the program is well-sorted.
+    program.parts();
+    match level_end(alloc, program, most)? {
+        LevelEnd::Proven(proofs) => Ok(Answer::Yes {
+            level: most,
+            proofs,
+        }),
+        LevelEnd::Broken { index, case } => Ok(Answer::Counter {
+            level: most,
+            index,
+            case,
+        }),
+        LevelEnd::Undecided { index, why } => decide_rest(alloc, program, most, index, why),
+    }
+}
+
+// The conditions of the last level after this one, which is the first that can't be decided.
+fn decide_rest(
+    alloc: Global,
+    program: &Program,
+    most: u8,
+    index: u32,
+    why: Why,
+) -> Result<Answer, AllocError>
+    requires most { most ≤ 9 }
+    requires index { index < length (kinds program.now most) }
+    requires undecided { IsUndecided program.now most index why }
+    ensures { IfOk result (IsAnswer program.now most) }
+{
+    let count = condition_count(program, most);
+    for later in index + 1..count {
+        if let Some(case) = case_at(alloc, program, most, later)? {
+            return Ok(Answer::Counter {
+                level: most,
+                index: later,
+                case,
+            });
+        }
+    }
+    Ok(Answer::Unknown {
+        level: most,
+        index,
+        why,
+    })
 }

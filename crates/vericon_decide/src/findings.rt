@@ -1,11 +1,10 @@
 //! What is found of the condition of a number.
 #![tactic(auto)]
 
-ghost use Rattle.std.specs.Prelude.{◌<◌, ◌≤◌, IfOk, length};
+ghost use Rattle.std.specs.Prelude.{◌≡◌, ◌<◌, ◌≤◌, IfOk, length};
 ghost use Rattle.csdn_conditions.specs.Answers.{OfCondition};
 ghost use Rattle.csdn_conditions.specs.Kinds.{kinds};
-ghost use Rattle.csdn_conditions.specs.Valid.{HasCase};
-ghost use Rattle.vericon_decide.specs.Levels.{IsFinding};
+ghost use Rattle.vericon_decide.specs.Levels.{IsFinding, IsCaseFound, found_by};
 
 use crate::answer::Why;
 use crate::verdict::{Proof, Verdict, decide_condition};
@@ -37,5 +36,42 @@ pub fn finding_at(
     requires index { index < length (kinds program.now level) }
     ensures { IfOk result (λ finding. OfCondition program.now level index (λ c. IsFinding program.now c finding)) }
 {
-    Err(AllocError)
+    // Its contract says that the program is well-sorted.
+    program.parts();
+    match condition(alloc, program, level, index) {
+        Ok(condition) => Ok(finding_of(decide_condition(alloc, program, condition)?)),
+        Err(FormRefusal::Large) => Ok(Finding::Undecided(Why::Nodes)),
+        Err(FormRefusal::Memory) => Err(AllocError),
+    }
+}
+
+// What is found by a verdict.
+fn finding_of(verdict: Verdict) -> Finding
+    ensures { result ≡ found_by verdict }
+{
+    match verdict {
+        Verdict::Valid(proof) => Finding::Valid(proof),
+        Verdict::Broken(case) => Finding::Broken(case),
+        Verdict::Nodes => Finding::Undecided(Why::Nodes),
+        Verdict::Outside => Finding::Undecided(Why::Outside),
+        Verdict::Instances(count) => Finding::Undecided(Why::Instances(count)),
+    }
+}
+
+/// A case of the condition of this number. None where it has none, or can't be decided.
+pub fn case_at(
+    alloc: Global,
+    program: &Program,
+    level: u8,
+    index: u32,
+) -> Result<Option<Case>, AllocError>
+    requires level { level ≤ 9 }
+    requires index { index < length (kinds program.now level) }
+    ensures { IfOk result (λ found. OfCondition program.now level index (λ c. IsCaseFound program.now c found)) }
+{
+    match finding_at(alloc, program, level, index)? {
+        Finding::Valid(_) => Ok(None),
+        Finding::Broken(case) => Ok(Some(case)),
+        Finding::Undecided(_) => Ok(None),
+    }
 }

@@ -2,10 +2,12 @@
 #![tactic(auto)]
 
 ghost use Rattle.std.specs.Prelude.{◌≤◌, IfOk};
-ghost use Rattle.vericon_decide.specs.Levels.{IsLevelEnd};
+ghost use Rattle.vericon_decide.specs.Levels.{IsLevelEnd, IsLevelProven};
 
 use crate::answer::Why;
+use crate::findings::{Finding, finding_at};
 use crate::verdict::Proof;
+use csdn_conditions::kinds::condition_count;
 use csdn_core::program::Program;
 use net_structs::case::Case;
 use std::alloc::{AllocError, Global};
@@ -26,5 +28,32 @@ pub fn level_end(alloc: Global, program: &Program, level: u8) -> Result<LevelEnd
     requires { level ≤ 9 }
     ensures { IfOk result (IsLevelEnd program.now level) }
 {
-    Err(AllocError)
+    // Its contract says that the program is well-sorted.
+    program.parts();
+    let count = condition_count(program, level);
+    let mut proofs = Vec::new(alloc);
+    for index in 1..count {
+        match finding_at(alloc, program, level, index)? {
+            Finding::Valid(proof) => proofs.push(proof)?,
+            Finding::Broken(case) => return Ok(LevelEnd::Broken { index, case }),
+            Finding::Undecided(why) => return Ok(LevelEnd::Undecided { index, why }),
+        }
+    }
+    Ok(LevelEnd::Proven(proofs))
+}
+
+/// The proofs of the conditions of a level after the first, in their order. None where one of them isn't proven.
+pub fn level_proofs(
+    alloc: Global,
+    program: &Program,
+    level: u8,
+) -> Result<Option<Vec<Proof>>, AllocError>
+    requires { level ≤ 9 }
+    ensures { IfOk result (IsLevelProven program.now level) }
+{
+    match level_end(alloc, program, level)? {
+        LevelEnd::Proven(proofs) => Ok(Some(proofs)),
+        LevelEnd::Broken { index: _, case: _ } => Ok(None),
+        LevelEnd::Undecided { index: _, why: _ } => Ok(None),
+    }
 }
