@@ -15,7 +15,7 @@ use Rattle.condition_listing.proofs.Listed.{drop_is}
 use Rattle.log_text.specs.declared.block.Block.{Block}
 use Rattle.log_text.specs.LogText.{are_blocks, is_block, is_log, is_clause_list, is_bare_name}
 use Rattle.vericon_decide.specs.declared.verdict.Proof.{Proof}
-use Rattle.vericon_decide.specs.Answers.{AreProofsOf}
+use Rattle.vericon_decide.specs.Levels.{AreProofsOf}
 use Rattle.vericon_decide.specs.Verdicts.{IsProofOf}
 use Rattle.answer_listing.specs.Words.{condition_text}
 use Rattle.answer_listing.specs.Logs.{IsBlockOf, AreBlocksOf}

@@ -2,3 +2,4 @@ mod Found
 mod BareNames
 mod Names
 mod Blocks
+mod InOrder

@@ -1,2 +1,3 @@
 pub mod Words
+pub mod Counterexamples
 pub mod Logs

@@ -1,4 +1,4 @@
--- The words of conditions that are not proven.
+-- The words of conditions that are not decided.
 use Rattle.std.specs.Prelude.{◌≡◌, ℕ, List, [], ◌∷◌, ◌++◌, codes, decimal}
 use Rattle.text_lines.specs.Printed.{spaced}
 use Rattle.csdn_core.specs.declared.program.Parts.{Parts}
@@ -6,15 +6,14 @@ use Rattle.csdn_conditions.specs.declared.kinds.CondKind.{CondKind}
 use Rattle.csdn_conditions.specs.Answers.{OfCondition}
 use Rattle.condition_listing.specs.Words.{kind_words}
 use Rattle.vericon_decide.specs.declared.answer.Why.{Why}
-use Rattle.vericon_decide.specs.declared.answer.Why.TheVariants.{Open, Nodes, Outside, Instances}
+use Rattle.vericon_decide.specs.declared.answer.Why.TheVariants.{Nodes, Outside, Instances}
 
 -- `I KIND`
 abbrev pub condition_text : Parts → ℕ → CondKind → List ℕ
 condition_text P i kind = decimal i ++ spaced (kind_words P kind)
 
--- `undecided`, `nodes`, `outside` or `instances N`
+-- `nodes`, `outside` or `instances N`
 abbrev pub why_words : Why → List (List ℕ)
-why_words Open = codes "undecided" ∷ []
 why_words Nodes = codes "nodes" ∷ []
 why_words Outside = codes "outside" ∷ []
 why_words (Instances n) = codes "instances" ∷ decimal n ∷ []

@@ -4,7 +4,7 @@ ghost use Rattle.log_text.specs.LogText.{are_blocks, is_bare_name, is_block, is_
 ghost use Rattle.csdn_conditions.specs.Kinds.{kinds};
 ghost use Rattle.csdn_conditions.specs.Conditions.{conditions, sentence};
 ghost use Rattle.csdn_conditions.specs.Answers.{OfCondition};
-ghost use Rattle.vericon_decide.specs.Answers.{AreProofsOf};
+ghost use Rattle.vericon_decide.specs.Levels.{AreProofsOf};
 ghost use Rattle.vericon_decide.specs.Verdicts.{IsProofOf};
 ghost use Rattle.answer_listing.specs.Words.{condition_text};
 ghost use Rattle.answer_listing.specs.Logs.{AreBlocksOf, IsBlockOf, IsLogOf};

@@ -43,7 +43,6 @@ fn put_why(out: &mut Vec<u8>, why: Why) -> Result<(), AllocError>
     ensures { OnOk result (out.new.items ≡ out.old.items ++ spaced (why_words why)) }
 {
     match why {
-        Why::Open => put_one(out, b"undecided"),
         Why::Nodes => put_one(out, b"nodes"),
         Why::Outside => put_one(out, b"outside"),
         Why::Instances(count) => put_instances(out, count),
@@ -72,7 +71,7 @@ fn put_unproven(
     Ok(out)
 }
 
-/// `unknown level N condition I KIND: WHY`: the condition of this number isn't proven, for this reason.
+/// `unknown level N condition I KIND: WHY`: the condition of this number isn't decided, for this reason.
 pub fn unproven_line(
     alloc: Global,
     program: &Program,

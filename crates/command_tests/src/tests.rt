@@ -1,4 +1,5 @@
 //! Rows of calls, with what they print and their statuses.
+mod checks;
 mod conditions;
 mod traces;
 
@@ -75,48 +76,6 @@ fn prints(rt: &impl Abort, alloc: Global, calls: &[Call]) -> Result<(), Fail> {
         assert_eq!(rt; status, *number);
     }
     Ok(())
-}
-
-const CHECKS: &[Call] = &[
-    (&["check", "p"], &[ARMED], b"yes level 0\n", 0),
-    (
-        &["check", "p"],
-        &[b"rel armed(); safety A: not armed(); pktIn(s, src->dst, i) { armed.insert(); }"],
-        b"counterexample level 0 condition 2 step A pktIn\nvericon-net 1\nsw 1\nho 1\npr 1\nstate\nend\n",
-        1,
-    ),
-    (
-        &["check", "p"],
-        &[b"rel p(); rel q(); safety A: not p() or q(); safety B: q();"],
-        b"counterexample level 0 condition 2 init 0 B\nvericon-net 1\nsw 1\nho 1\npr 1\nstate\nend\n",
-        1,
-    ),
-    (
-        &["check", "p"],
-        &[
-            b"rel p(); rel q(); safety A: true; safety B: not q(); pktIn(s, src->dst, i) { if p() { q.insert(); } }",
-        ],
-        b"counterexample level 0 condition 5 step B pktIn\nvericon-net 1\nsw 1\nho 1\npr 1\nstate\nt p\nend\n",
-        1,
-    ),
-    (
-        &["check", "p"],
-        &[b"rel r(HO); safety A: forall X:SW. r(X);"],
-        b"p refused at 36: WrongSort\n",
-        3,
-    ),
-    (
-        &["check", "p"],
-        &[b"rel r(HO); topology T: forall X:HO. r(X);"],
-        b"p refused at 36: NotAllowed\n",
-        3,
-    ),
-    (&["check", "p"], &[ONE], b"p refused at 0: NotYet\n", 3),
-];
-
-#[test]
-fn check_prints_these_lines_with_these_statuses(rt: HostRuntime) -> Result<(), Fail> {
-    prints(&rt, rt.alloc(), CHECKS)
 }
 
 const FRAMES: &[Call] = &[

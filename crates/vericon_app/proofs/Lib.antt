@@ -1,9 +1,9 @@
 pub mod Outputs
 mod Logged
+mod Broken
 mod Writes
 mod Answered
 pub mod Exact
 pub mod Refused
-mod Small
 pub mod Eased
 mod Loading

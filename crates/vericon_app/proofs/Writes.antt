@@ -23,9 +23,9 @@ behind old middle new log before between after calls called calls' same faults w
     record { others = λ name other. is.others name other ∙ ap (λ (told : List ℕ → Told). told name) same; later = omega (arith, faults, later); once = omega (arith, writes, once) }
 
 -- what follows from the bytes of a file, by what the files told before it was read
-pub bytes_behind : (old middle now : List ℕ → Told) (before between after : ℕ) (log : Option (List ℕ)) (name found bytes text : List ℕ) (status : ℕ) → middle ≡ old → between ≡ before → found ≡ bytes
-    → BytesOutput middle (record { told = now; before = between; after = after }) log name found text status → BytesOutput old (record { told = now; before = before; after = after }) log name bytes text status
-bytes_behind old middle now before between after log name found bytes text status same faults read out =
-    subst (λ (told : List ℕ → Told). BytesOutput told (record { told = now; before = before; after = after }) log name bytes text status) same
-    (subst (λ (b : ℕ). BytesOutput middle (record { told = now; before = b; after = after }) log name bytes text status) faults
-    (subst (λ (xs : List ℕ). BytesOutput middle (record { told = now; before = between; after = after }) log name xs text status) read out))
+pub bytes_behind : (old middle now : List ℕ → Told) (before between after most : ℕ) (log : Option (List ℕ)) (name found bytes text : List ℕ) (status : ℕ) → middle ≡ old → between ≡ before → found ≡ bytes
+    → BytesOutput middle (record { told = now; before = between; after = after }) most log name found text status → BytesOutput old (record { told = now; before = before; after = after }) most log name bytes text status
+bytes_behind old middle now before between after most log name found bytes text status same faults read out =
+    subst (λ (told : List ℕ → Told). BytesOutput told (record { told = now; before = before; after = after }) most log name bytes text status) same
+    (subst (λ (b : ℕ). BytesOutput middle (record { told = now; before = b; after = after }) most log name bytes text status) faults
+    (subst (λ (xs : List ℕ). BytesOutput middle (record { told = now; before = between; after = after }) most log name xs text status) read out))

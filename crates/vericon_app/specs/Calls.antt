@@ -1,8 +1,9 @@
 -- What the words of a call ask of the commands.
-use Rattle.std.specs.Prelude.{◌≡◌, ℕ, List, [], slice_index_or, Option, Some, None, codes}
+use Rattle.std.specs.Prelude.{◌≡◌, ℕ, List, [], slice_index_or, Option, Some, None, codes, min}
 use Rattle.command_words.specs.declared.table.Command.{Command}
 use Rattle.command_words.specs.declared.table.Command.TheVariants.{Check, Show, Eval, Trace, Conditions, Clauses, Frames}
 use Rattle.command_words.specs.Call.{Call}
+use Rattle.command_words.specs.Calls.{option_number}
 use Rattle.command_words.specs.Options.{value_of}
 
 -- the operand at a place, as the name of a file
@@ -36,6 +37,18 @@ log_name Frames call = None
 abbrev pub log_named : Option Call → Option (List ℕ)
 log_named None = None
 log_named (Some call) = log_name call.command call
+
+-- the highest level that a call tries, which is at most 9: the number behind `--strengthen`, and 0 where it isn't given
+abbrev pub strength : Option ℕ → ℕ
+strength None = 0
+strength (Some level) = min level 9
+
+abbrev pub level_of : Call → ℕ
+level_of call = strength (option_number (codes "--strengthen") call.options)
+
+abbrev pub level_named : Option Call → ℕ
+level_named None = 0
+level_named (Some call) = level_of call
 
 -- a call of `check` with this file
 pub record IsCheck (asked : Option Call) (name : List ℕ) : Type 0 where

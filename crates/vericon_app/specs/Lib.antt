@@ -6,7 +6,6 @@ pub mod Lines
 pub mod Sources
 pub mod Inputs
 pub mod Written
-pub mod Small
 pub mod Loads
 pub mod LoadGives
 pub mod Check
@@ -20,5 +19,6 @@ pub mod Output
 pub mod Left
 pub mod Quiet
 pub mod Verified
+pub mod Broken
 pub mod Logs
 pub mod Decided

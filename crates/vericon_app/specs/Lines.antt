@@ -1,10 +1,6 @@
 -- The lines that commands print. Each text is whole lines, each with its end.
-use Rattle.std.specs.Prelude.{ℕ, Bool, List, [], ◌∷◌, ◌++◌, codes, if◌then◌else◌, length, slice_get, Option, Some, None}
+use Rattle.std.specs.Prelude.{ℕ, List, ◌++◌, codes}
 use Rattle.std.specs.Fmt.{decimal}
-use Rattle.csdn_core.specs.declared.program.Parts.{Parts}
-use Rattle.csdn_core.specs.declared.program.Relation.{Relation}
-use Rattle.csdn_core.specs.declared.program.Invariant.{Invariant}
-use Rattle.truth_table.specs.Condition.{init, step_in, number_of}
 use Rattle.vericon_app.specs.declared.program.Why.{Why}
 use Rattle.vericon_app.specs.declared.program.Why.TheVariants.{TooLong, BadByte, BadName, BadNumber, Unexpected, TooDeep, Duplicate, Unknown, WrongArity, WrongSort, NotAllowed, TooMany}
 use Rattle.vericon_app.specs.declared.source.FileKind.{FileKind}
@@ -57,29 +53,3 @@ yes_text level = codes "yes level " ++ decimal level ++ codes "\n"
 
 abbrev pub no_network_text : List ℕ
 no_network_text = codes "no network\n"
-
-abbrev pub name_in : Option Invariant → List ℕ
-name_in None = []
-name_in (Some invariant) = invariant.name
-
--- the name of the safety invariant of this number
-abbrev pub safety_name : Parts → ℕ → List ℕ
-safety_name P v = name_in (slice_get P.safety v)
-
--- a line for each relation that is true
-abbrev pub true_lines : List Relation → List Bool → List ℕ
-true_lines [] values = []
-true_lines (r ∷ rs) [] = []
-true_lines (r ∷ rs) (b ∷ bs) = (if b then codes "t " ++ r.name ++ codes "\n" else []) ++ true_lines rs bs
-
--- the network of one switch, one host and one port, and the state in which the relations have these values; those without a value are false
-abbrev pub case_text : Parts → List Bool → List ℕ
-case_text P values = codes "vericon-net 1\nsw 1\nho 1\npr 1\nstate\n" ++ true_lines P.relations values ++ codes "end\n"
-
--- the invariant is false at the start
-abbrev pub init_text : Parts → ℕ → List ℕ
-init_text P v = codes "counterexample level 0 condition " ++ decimal (number_of (length P.safety) (init v)) ++ codes " init 0 " ++ safety_name P v ++ codes "\n"
-
--- the invariant is false after a packet came in
-abbrev pub step_text : Parts → ℕ → List ℕ
-step_text P v = codes "counterexample level 0 condition " ++ decimal (number_of (length P.safety) (step_in v)) ++ codes " step " ++ safety_name P v ++ codes " pktIn\n"

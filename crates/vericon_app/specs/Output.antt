@@ -4,7 +4,7 @@ use Rattle.command_words.specs.declared.table.Command.{Command}
 use Rattle.command_words.specs.declared.table.Command.TheVariants.{Check, Show, Eval, Trace, Conditions, Clauses, Frames}
 use Rattle.command_words.specs.Call.{Call}
 use Rattle.command_words.specs.Calls.{number_at}
-use Rattle.vericon_app.specs.Calls.{file_name, log_name}
+use Rattle.vericon_app.specs.Calls.{file_name, level_of, log_name}
 use Rattle.vericon_app.specs.Inputs.{Inputs, Changes}
 use Rattle.vericon_app.specs.Lines.{usage_text}
 use Rattle.vericon_app.specs.Check.{CheckOutput}
@@ -22,7 +22,7 @@ EvalCallOutput (Some index) given name net text status = EvalConditionOutput giv
 
 -- what a call of the command may print, and its status
 abbrev pub CommandOutput : Command → Call → Inputs → Changes → List ℕ → ℕ → Type 0
-CommandOutput Check call given changes text status = CheckOutput given changes (log_name Check call) (file_name call 0) text status
+CommandOutput Check call given changes text status = CheckOutput given changes (level_of call) (log_name Check call) (file_name call 0) text status
 CommandOutput Show call given changes text status = ShowOutput given (file_name call 0) text status
 CommandOutput Eval call given changes text status = EvalCallOutput (number_at call.operands 3) given (file_name call 0) (file_name call 1) text status
 CommandOutput Trace call given changes text status = TraceOutput given (file_name call 0) (file_name call 1) (file_name call 2) text status

@@ -2,12 +2,13 @@
 ghost use Rattle.std.specs.Prelude.{◌≡◌, ◌≤◌, ◌+◌, ◌⊎◌, ℕ, false, List, map, string_bytes, IfOk};
 ghost use Rattle.vericon_app.specs.Status.{code_of};
 ghost use Rattle.command_words.specs.Calls.{asked_call};
-ghost use Rattle.vericon_app.specs.Calls.{IsCheck, files_of, files_named, log_name, log_named};
+ghost use Rattle.vericon_app.specs.Calls.{IsCheck, files_of, files_named, level_of, level_named, log_name, log_named};
 ghost use Rattle.vericon_app.specs.Lines.{memory_text};
 ghost use Rattle.vericon_app.specs.Inputs.{inputs_of, changes_of};
 ghost use Rattle.vericon_app.specs.Output.{CommandOutput, Output};
 ghost use Rattle.vericon_app.specs.Left.{HasLeft, Finishes};
 ghost use Rattle.vericon_app.specs.Verified.{IsVerified};
+ghost use Rattle.vericon_app.specs.Broken.{IsShownBroken};
 ghost use Rattle.vericon_app.specs.Logs.{IsLogged};
 ghost use Rattle.vericon_app.specs.Written.{WritesLog};
 ghost use Rattle.vericon_app.specs.Quiet.{IsUndisturbed, Answers};
@@ -30,6 +31,17 @@ use std::alloc::{AllocError, Global};
 use vericon_edge::files::Files;
 use vericon_edge::sink::{Sink, write_piece};
 
+/// The highest level that a call tries: the number behind `--strengthen`, and 0 where it isn't given.
+fn highest_level(request: &Request) -> u8
+    ensures level { result ≡ level_of request.now }
+    ensures within { result ≤ 9 }
+{
+    match request.option_number("--strengthen") {
+        None => 0,
+        Some(level) => level.min(9) as u8,
+    }
+}
+
 /// What the command that a call names says.
 fn run_request<F: Files>(
     alloc: Global,
@@ -46,8 +58,9 @@ fn run_request<F: Files>(
     let journal = request.operand(2);
     let index = request.number(3);
     let log = request.option("--log");
+    let most = highest_level(request);
     match request.command() {
-        Command::Check => check(alloc, files, log, file),
+        Command::Check => check(alloc, files, most, log, file),
         Command::Show => show(alloc, files, file),
         Command::Eval => eval_call(alloc, files, file, net, index),
         Command::Trace => trace(alloc, files, file, net, journal),
@@ -101,7 +114,7 @@ pub fn no_memory<S: Sink>(out: &mut S) -> u8
 /// | status | meaning |
 /// |---|---|
 /// | 0 | yes, or done |
-/// | 1 | a condition is broken, and the state that is printed shows it; or an invariant was false after a note; or a block's log isn't accepted |
+/// | 1 | a condition is broken, and the network and the state that are printed show it; or an invariant was false after a note; or a block's log isn't accepted |
 /// | 2 | a condition can't be decided, or is too large to be looked at |
 /// | 3 | a text was refused |
 /// | 4 | no network meets the topology invariants |
@@ -119,13 +132,15 @@ pub fn check_call<F: Files, S: Sink>(
     // what is written, and its status
     ensures output { HasLeft (Output (asked_call (map string_bytes words.now)) (inputs_of F.told F.read_faults files.old files.new) (changes_of F.told F.write_faults files.old files.new)) (S.written out.old) (S.written out.new) (S.faults out.old) (S.faults out.new) result }
     // a yes: the program is inductive, and holds its invariants in every network and every run, and there is a network
-    ensures yes { (name : List ℕ) → IsCheck (asked_call (map string_bytes words.now)) name → result ≡ 0 → IsVerified (F.told files.old name) }
+    ensures yes { (name : List ℕ) → IsCheck (asked_call (map string_bytes words.now)) name → result ≡ 0 → IsVerified (level_named (asked_call (map string_bytes words.now))) (F.told files.old name) }
+    // a counterexample: what is written shows a case of the condition that it names, and reads back
+    ensures broken { (name : List ℕ) → IsCheck (asked_call (map string_bytes words.now)) name → result ≡ 1 → IsShownBroken (F.told files.old name) (S.written out.old) (S.written out.new) }
     // .. and where a log was asked for, its file holds a block for each condition, whose clauses are tied to the condition's sentence and refuted
-    ensures logged { (name log : List ℕ) → IsCheck (asked_call (map string_bytes words.now)) name → log_named (asked_call (map string_bytes words.now)) ≡ Some log → result ≡ 0 → IsLogged (F.told files.old name) (F.told files.old log) (F.told files.new log) }
+    ensures logged { (name log : List ℕ) → IsCheck (asked_call (map string_bytes words.now)) name → log_named (asked_call (map string_bytes words.now)) ≡ Some log → result ≡ 0 → IsLogged (level_named (asked_call (map string_bytes words.now))) (F.told files.old name) (F.told files.old log) (F.told files.new log) }
     // where no fault was counted, want of memory is the only excuse
     ensures answered { IsUndisturbed (inputs_of F.told F.read_faults files.old files.new) (changes_of F.told F.write_faults files.old files.new) (S.faults out.old) (S.faults out.new) → Answers (asked_call (map string_bytes words.now)) (F.told files.old) (F.told files.new) (S.written out.old) (S.written out.new) result }
     // so what `check` is told fixes its status
-    ensures decided { (name bytes : List ℕ) → IsCheck (asked_call (map string_bytes words.now)) name → F.told files.old name ≡ holds bytes → IsUndisturbed (inputs_of F.told F.read_faults files.old files.new) (changes_of F.told F.write_faults files.old files.new) (S.faults out.old) (S.faults out.new) → IsDecided bytes result ⊎ (result ≡ 7) }
+    ensures decided { (name bytes : List ℕ) → IsCheck (asked_call (map string_bytes words.now)) name → F.told files.old name ≡ holds bytes → IsUndisturbed (inputs_of F.told F.read_faults files.old files.new) (changes_of F.told F.write_faults files.old files.new) (S.faults out.old) (S.faults out.new) → IsDecided (level_named (asked_call (map string_bytes words.now))) bytes result ⊎ (result ≡ 7) }
     // each file that is named is read once at most; and none is written but the log, which is written once at most
     ensures once { F.read_calls files.new ≤ F.read_calls files.old + files_named (asked_call (map string_bytes words.now)) }
     ensures writes { WritesLog (F.told files.old) (F.told files.new) (log_named (asked_call (map string_bytes words.now))) (F.write_faults files.old) (F.write_faults files.new) (F.write_calls files.old) (F.write_calls files.new) }

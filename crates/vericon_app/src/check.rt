@@ -2,96 +2,66 @@
 ghost use Rattle.std.specs.Prelude.{◌≡◌, ◌+◌, ◌≤◌, IfOk, [], drop, option_map, true, false};
 ghost use Rattle.vericon_app.specs.Status.{code_of};
 ghost use Rattle.vericon_app.specs.Inputs.{inputs_of, changes_of};
-ghost use Rattle.truth_table.specs.FirstForm.{IsFirstForm};
 ghost use Rattle.csdn_conditions.specs.Conditions.{conditions};
-ghost use Rattle.vericon_decide.specs.Answers.{AreProofsOf, IsProvenBy, IsFirstUnproven};
+ghost use Rattle.vericon_decide.specs.Levels.{AreProofsOf};
+ghost use Rattle.vericon_decide.specs.Answers.{IsYes, IsCounter, IsUnknown};
 ghost use Rattle.answer_listing.specs.Words.{IsUnprovenLine};
-ghost use Rattle.vericon_app.specs.Check.{VerdictOutput, UnprovenOutput, YesOutput, ProgramOutput, BytesOutput, CheckOutput};
+ghost use Rattle.answer_listing.specs.Counterexamples.{IsCounterexampleText};
+ghost use Rattle.vericon_app.specs.Check.{YesOutput, ProgramOutput, BytesOutput, CheckOutput};
 ghost use Rattle.vericon_app.specs.Written.{HasWritten, WritesLog};
-ghost use Rattle.vericon_app.specs.Small.{HasFirstForm, IsSmall};
 
-use crate::lines::{false_after, false_at_start, no_network, refused, yes};
+use crate::lines::{no_network, refused, yes};
 use crate::outcome::{Outcome, Status};
 use crate::program::{ProgramRefusal, read_program};
 use crate::source::{FileKind, Source, read_file};
-use answer_listing::{log_of, unproven_line};
-use csdn_core::program::{Parts, Program};
-use csdn_tokens::tokens;
+use answer_listing::{counterexample_of, log_of, unproven_line};
+use csdn_core::program::Program;
+use net_structs::case::Case;
 use std::alloc::{AllocError, Global};
-use truth_table::decide::{Verdict, decide as decide_by_table};
-use truth_table::form::is_first_form;
 use vericon_decide::answer::{Answer, Why, decide};
 use vericon_decide::verdict::Proof;
 use vericon_edge::files::{FileFault, Files};
 
-/// What the truth table says of a program of the first form.
-fn check_first_form(alloc: Global, parts: &Parts) -> Result<Outcome, AllocError>
-    requires { IsFirstForm parts.now }
-    ensures { IfOk result (λ outcome. VerdictOutput parts.now outcome.text.items (code_of outcome.status)) }
-{
-    match decide_by_table(alloc, parts)? {
-        Verdict::Kept => yes(alloc, 0),
-        Verdict::FalseAtStart { invariant } => false_at_start(alloc, parts, invariant),
-        Verdict::FalseAfter { invariant, values } => false_after(alloc, parts, invariant, &values),
-    }
-}
-
-/// Whether the text falls into at most 300 tokens. One more stands for its end.
-fn is_small(alloc: Global, bytes: &[u8]) -> Result<bool, AllocError>
-    ensures small { result ≡ Ok true → IsSmall bytes.now }
-    ensures large { result ≡ Ok false → IsSmall bytes.now → ⊥ }
-{
-    let found = tokens(alloc, bytes)?;
-    Ok(found.len() <= 301)
-}
-
-/// Whether a program has the first form, and its text as few tokens as that allows.
-fn has_first_form(alloc: Global, bytes: &[u8], parts: &Parts) -> Result<bool, AllocError>
-    ensures form { result ≡ Ok true → HasFirstForm bytes.now parts.now }
-    ensures other { result ≡ Ok false → HasFirstForm bytes.now parts.now → ⊥ }
-{
-    if is_small(alloc, bytes)? {
-        Ok(is_first_form(parts))
-    } else {
-        Ok(false)
-    }
-}
-
-/// `unknown level 0 condition I KIND: WHY`
-fn say_unproven(
+/// `counterexample level N condition I KIND`, and the case.
+fn say_broken(
     alloc: Global,
     program: &Program,
+    most: u8,
+    level: u8,
+    index: u32,
+    case: &Case,
+) -> Result<Outcome, AllocError>
+    requires within { most ≤ 9 }
+    requires broken { IsCounter program.now most level index case.now }
+    ensures text { IfOk result (λ outcome. IsCounterexampleText program.now level index case.now outcome.text.items) }
+    ensures status { IfOk result (λ outcome. code_of outcome.status ≡ 1) }
+{
+    let text = counterexample_of(alloc, program, level, index, case)?;
+    Ok(Outcome {
+        text,
+        status: Status::Counterexample,
+    })
+}
+
+/// `unknown level N condition I KIND: WHY`
+fn say_undecided(
+    alloc: Global,
+    program: &Program,
+    most: u8,
+    level: u8,
     index: u32,
     why: Why,
 ) -> Result<Outcome, AllocError>
-    requires { IsFirstUnproven program.now 0 index why }
-    ensures text { IfOk result (λ outcome. IsUnprovenLine program.now 0 index why outcome.text.items) }
+    requires within { most ≤ 9 }
+    requires unknown { IsUnknown program.now most level index why }
+    ensures text { IfOk result (λ outcome. IsUnprovenLine program.now level index why outcome.text.items) }
     ensures status { IfOk result (λ outcome. code_of outcome.status ≡ 2) }
 {
-    let text = unproven_line(alloc, program, 0, index, why)?;
+    let text = unproven_line(alloc, program, level, index, why)?;
     Ok(Outcome {
         text,
         status: Status::Unknown,
     })
-}
-
-/// What is said of a program with this text, where this condition is the first that isn't proven.
-fn unproven(
-    alloc: Global,
-    bytes: &[u8],
-    program: &Program,
-    index: u32,
-    why: Why,
-) -> Result<Outcome, AllocError>
-    requires { IsFirstUnproven program.now 0 index why }
-    ensures { IfOk result (λ outcome. UnprovenOutput bytes.now program.now index why outcome.text.items (code_of outcome.status)) }
-{
-    let parts = program.parts();
-    if has_first_form(alloc, bytes, parts)? {
-        check_first_form(alloc, parts)
-    } else {
-        say_unproven(alloc, program, index, why)
-    }
 }
 
 /// Writes a text to a file, and says whether it was written.
@@ -133,17 +103,19 @@ fn log_proofs<F: Files>(
     files: &mut F,
     name: &str,
     program: &Program,
+    level: u8,
     proofs: Vec<Proof>,
 ) -> Result<Outcome, AllocError>
-    requires { AreProofsOf program.now (drop 1 (conditions program.now 0)) proofs.items }
-    ensures output { IfOk result (λ outcome. YesOutput (F.told files.old) (changes_of F.told F.write_faults files.old files.new) (Some name.now) program.now outcome.text.items (code_of outcome.status)) }
+    requires within { level ≤ 9 }
+    requires proofs { AreProofsOf program.now (drop 1 (conditions program.now level)) proofs.items }
+    ensures output { IfOk result (λ outcome. YesOutput (F.told files.old) (changes_of F.told F.write_faults files.old files.new) (Some name.now) program.now level outcome.text.items (code_of outcome.status)) }
     ensures writes { WritesLog (F.told files.old) (F.told files.new) (Some name.now) (F.write_faults files.old) (F.write_faults files.new) (F.write_calls files.old) (F.write_calls files.new) }
     ensures faults { F.read_faults files.new ≡ F.read_faults files.old }
     ensures no_read { F.read_calls files.new ≡ F.read_calls files.old }
 {
-    let text = log_of(alloc, program, 0, proofs)?;
+    let text = log_of(alloc, program, level, proofs)?;
     if write(alloc, files, name, text.as_slice())? {
-        yes(alloc, 0)
+        yes(alloc, level)
     } else {
         Ok(not_written(alloc))
     }
@@ -155,40 +127,45 @@ fn proven<F: Files>(
     files: &mut F,
     log: Option<&str>,
     program: &Program,
+    most: u8,
+    level: u8,
     proofs: Vec<Proof>,
 ) -> Result<Outcome, AllocError>
-    requires { IsProvenBy program.now 0 proofs.items }
-    ensures output { IfOk result (λ outcome. YesOutput (F.told files.old) (changes_of F.told F.write_faults files.old files.new) (option_map (λ name. name.now) log.entry) program.now outcome.text.items (code_of outcome.status)) }
+    requires within { most ≤ 9 }
+    requires proven { IsYes program.now most level proofs.items }
+    ensures output { IfOk result (λ outcome. YesOutput (F.told files.old) (changes_of F.told F.write_faults files.old files.new) (option_map (λ name. name.now) log.entry) program.now level outcome.text.items (code_of outcome.status)) }
     ensures writes { WritesLog (F.told files.old) (F.told files.new) (option_map (λ name. name.now) log.entry) (F.write_faults files.old) (F.write_faults files.new) (F.write_calls files.old) (F.write_calls files.new) }
     ensures faults { F.read_faults files.new ≡ F.read_faults files.old }
     ensures no_read { F.read_calls files.new ≡ F.read_calls files.old }
 {
     match log {
-        None => yes(alloc, 0),
-        Some(name) => log_proofs(alloc, files, name, program, proofs),
+        None => yes(alloc, level),
+        Some(name) => log_proofs(alloc, files, name, program, level, proofs),
     }
 }
 
-/// What is said of a program with this text.
+/// What is said of a program, at the levels up to `most`.
 fn check_program<F: Files>(
     alloc: Global,
     files: &mut F,
+    most: u8,
     log: Option<&str>,
-    bytes: &[u8],
     program: &Program,
 ) -> Result<Outcome, AllocError>
-    ensures output { IfOk result (λ outcome. ProgramOutput (F.told files.old) (changes_of F.told F.write_faults files.old files.new) (option_map (λ name. name.now) log.entry) bytes.now program.now outcome.text.items (code_of outcome.status)) }
+    requires { most ≤ 9 }
+    ensures output { IfOk result (λ outcome. ProgramOutput (F.told files.old) (changes_of F.told F.write_faults files.old files.new) most (option_map (λ name. name.now) log.entry) program.now outcome.text.items (code_of outcome.status)) }
     ensures writes { WritesLog (F.told files.old) (F.told files.new) (option_map (λ name. name.now) log.entry) (F.write_faults files.old) (F.write_faults files.new) (F.write_calls files.old) (F.write_calls files.new) }
     ensures faults { F.read_faults files.new ≡ F.read_faults files.old }
     ensures no_read { F.read_calls files.new ≡ F.read_calls files.old }
 {
-    match decide(alloc, program, 0)? {
-        Answer::Yes { level: _, proofs } => proven(alloc, files, log, program, proofs),
-        Answer::Unknown {
-            level: _,
-            index,
-            why,
-        } => unproven(alloc, bytes, program, index, why),
+    match decide(alloc, program, most)? {
+        Answer::Yes { level, proofs } => proven(alloc, files, log, program, most, level, proofs),
+        Answer::Counter { level, index, case } => {
+            say_broken(alloc, program, most, level, index, &case)
+        }
+        Answer::Unknown { level, index, why } => {
+            say_undecided(alloc, program, most, level, index, why)
+        }
         Answer::NoNetwork { proof: _proof } => no_network(alloc),
     }
 }
@@ -197,36 +174,40 @@ fn check_program<F: Files>(
 fn check_bytes<F: Files>(
     alloc: Global,
     files: &mut F,
+    most: u8,
     log: Option<&str>,
     name: &str,
     bytes: &[u8],
 ) -> Result<Outcome, AllocError>
-    ensures output { IfOk result (λ outcome. BytesOutput (F.told files.old) (changes_of F.told F.write_faults files.old files.new) (option_map (λ name. name.now) log.entry) name.now bytes.now outcome.text.items (code_of outcome.status)) }
+    requires { most ≤ 9 }
+    ensures output { IfOk result (λ outcome. BytesOutput (F.told files.old) (changes_of F.told F.write_faults files.old files.new) most (option_map (λ name. name.now) log.entry) name.now bytes.now outcome.text.items (code_of outcome.status)) }
     ensures writes { WritesLog (F.told files.old) (F.told files.new) (option_map (λ name. name.now) log.entry) (F.write_faults files.old) (F.write_faults files.new) (F.write_calls files.old) (F.write_calls files.new) }
     ensures faults { F.read_faults files.new ≡ F.read_faults files.old }
     ensures no_read { F.read_calls files.new ≡ F.read_calls files.old }
 {
     match read_program(alloc, bytes) {
-        Ok(program) => check_program(alloc, files, log, bytes, &program),
+        Ok(program) => check_program(alloc, files, most, log, &program),
         Err(ProgramRefusal::At { at, why }) => refused(alloc, name, at, why),
         Err(ProgramRefusal::Memory) => Err(AllocError),
     }
 }
 
-/// What `check` says of a file. Where the answer is yes and the name of a log is given, the log is written to that file.
+/// What `check` says of a file, at the levels up to `most`. Where the answer is yes and the name of a log is given, the log is written to that file.
 pub fn check<F: Files>(
     alloc: Global,
     files: &mut F,
+    most: u8,
     log: Option<&str>,
     name: &str,
 ) -> Result<Outcome, AllocError>
-    ensures output { IfOk result (λ outcome. CheckOutput (inputs_of F.told F.read_faults files.old files.new) (changes_of F.told F.write_faults files.old files.new) (option_map (λ name. name.now) log.entry) name.now outcome.text.items (code_of outcome.status)) }
+    requires { most ≤ 9 }
+    ensures output { IfOk result (λ outcome. CheckOutput (inputs_of F.told F.read_faults files.old files.new) (changes_of F.told F.write_faults files.old files.new) most (option_map (λ name. name.now) log.entry) name.now outcome.text.items (code_of outcome.status)) }
     ensures writes { WritesLog (F.told files.old) (F.told files.new) (option_map (λ name. name.now) log.entry) (F.write_faults files.old) (F.write_faults files.new) (F.write_calls files.old) (F.write_calls files.new) }
     ensures later { F.read_faults files.old ≤ F.read_faults files.new }
     ensures reads { F.read_calls files.new ≤ F.read_calls files.old + 1 }
 {
     match read_file(alloc, files, FileKind::Program, name)? {
-        Source::Bytes(bytes) => check_bytes(alloc, files, log, name, &bytes),
+        Source::Bytes(bytes) => check_bytes(alloc, files, most, log, name, &bytes),
         Source::Refused(outcome) => Ok(outcome),
     }
 }

@@ -6,7 +6,7 @@ topology two: not prt(1) = prt(2);
 trans no_black_hole: forall S:SW, A:HO, B:HO, I:PR. S.rcv_this(A->B, I) -> (exists O:PR. S.sent(A->B, I->O));
 ";
 
-const LINKED: &[u8] =
+pub(crate) const LINKED: &[u8] =
     b"static link(SW, PR, HO); topology T: forall S:SW. exists H:HO. link(S, prt(1), H);";
 
 const WITH_STATE: &[u8] = b"vericon-net 1\nsw 1\nho 1 2\npr 1\nstate\nt r 1\nend\n";
@@ -18,7 +18,7 @@ const TWO_HOLD: &[u8] = b"vericon-net 1\nsw 1\nho 1 2\npr 1\nstate\nt r 1\nt r 2
 const EMPTY_STATE: &[u8] = b"vericon-net 1\nsw 1\nho 1 2\npr 1 2\nstate\nend\n";
 
 /// A program with so many `if` in a row.
-fn with_ifs(alloc: Global, count: usize) -> Result<Vec<u8>, AllocError> {
+pub(crate) fn with_ifs(alloc: Global, count: usize) -> Result<Vec<u8>, AllocError> {
     let mut program = b"rel p(); safety A: not p(); pktIn(s, src->dst, i) {".to_vec(alloc)?;
     for _ in 0..count {
         program.extend_from_slice(b" if p() { skip; }")?;

@@ -2,7 +2,7 @@ use Rattle.std.proofs.Common.{◌≡◌, true, length, drop}
 use Rattle.std.specs.Vec.Iter.{into_iter_items, into_iter_len}
 use Rattle.csdn_conditions.specs.Conditions.{conditions}
 use Rattle.log_text.specs.LogText.{are_blocks}
-use Rattle.vericon_decide.specs.Answers.{AreProofsOf}
+use Rattle.vericon_decide.specs.Levels.{AreProofsOf}
 use Rattle.answer_listing.proofs.Blocks.{GoesOn}
 use Rattle.answer_listing.proofs.log.blocks_of.Given as goal
 

@@ -2,6 +2,7 @@ use Rattle.std.proofs.Common.{ℕ, List, subst}
 use Rattle.vericon_app.specs.Status.{code_of}
 use Rattle.vericon_app.specs.Left.{Finishes}
 use Rattle.vericon_app.proofs.Exact.{decided, answered}
+use Rattle.vericon_app.proofs.Broken.{shown}
 use Rattle.vericon_app.proofs.Logged.{logged}
 use Rattle.vericon_app.proofs.Outputs.{finished, verified}
 use Rattle.vericon_app.proofs.call.check_call.Goals as goal
@@ -15,6 +16,11 @@ pub returns-in-Ok-clause-yes : goal.returns-in-Ok-clause-yes
 returns-in-Ok-clause-yes g c = λ name asked zero_is.
     let F : List ℕ → Type 0 = λ text. Finishes text (code_of c.in-Ok.outcome.status) (g.S.Sink.written c.args.out.now) (g.S.Sink.written c.finish.new.out) (g.S.Sink.faults c.args.out.now) (g.S.Sink.faults c.finish.new.out) c.finish.result in
     verified _ _ _ _ _ _ _ _ _ _ name c.in-Ok.ensures.output (subst F c.as_slice.ensures.value c.finish.ensures.finishes) asked zero_is
+
+pub returns-in-Ok-clause-broken : goal.returns-in-Ok-clause-broken
+returns-in-Ok-clause-broken g c = λ name asked one_is.
+    let F : List ℕ → Type 0 = λ text. Finishes text (code_of c.in-Ok.outcome.status) (g.S.Sink.written c.args.out.now) (g.S.Sink.written c.finish.new.out) (g.S.Sink.faults c.args.out.now) (g.S.Sink.faults c.finish.new.out) c.finish.result in
+    shown _ _ _ _ _ _ _ _ _ _ name c.in-Ok.ensures.output (subst F c.as_slice.ensures.value c.finish.ensures.finishes) asked one_is
 
 pub returns-in-Ok-clause-logged : goal.returns-in-Ok-clause-logged
 returns-in-Ok-clause-logged g c = λ name log asked wants zero_is.
