@@ -1,5 +1,6 @@
 //! Rows of calls, with what they print and their statuses.
 mod conditions;
+mod logs;
 mod traces;
 
 use std::alloc::{AllocError, Global};
@@ -32,6 +33,20 @@ pktIn(s, src->dst, prt(2)) {
   if tr(s, src) {
     s.forward(src->dst, prt(2)->prt(1));
     s.install(src->dst, prt(2)->prt(1));
+  }
+}
+";
+
+const LEARNING_SWITCH: &[u8] = b"rel conn(SW, PR, HO);
+topology two: not prt(1) = prt(2);
+trans no_black_hole: forall S:SW, A:HO, B:HO, I:PR. S.rcv_this(A->B, I) -> (exists O:PR. S.sent(A->B, I->O));
+pktIn(s, src->dst, i) {
+  conn.insert(s, i, src);
+  pick o:PR where conn(s, o, dst) {
+    s.install(src->dst, i->o);
+    s.forward(src->dst, i->o);
+  } else {
+    s.flood(src->dst, i);
   }
 }
 ";
@@ -111,7 +126,39 @@ const CHECKS: &[Call] = &[
         b"p refused at 36: NotAllowed\n",
         3,
     ),
-    (&["check", "p"], &[ONE], b"p refused at 0: NotYet\n", 3),
+    (
+        &["check", "p"],
+        &[ONE],
+        b"unknown level 0 condition 2 step one pktIn: undecided\n",
+        2,
+    ),
+    (
+        &["check", "p"],
+        &[
+            b"rel r(HO); safety one: forall X:HO, Y:HO. r(X) and r(Y) -> X = Y; pktIn(s, src->dst, i) { if not (exists Z:HO. r(Z)) { r.insert(src); } }",
+        ],
+        b"yes level 0\n",
+        0,
+    ),
+    (&["check", "p"], &[LEARNING_SWITCH], b"yes level 0\n", 0),
+    (
+        &["check", "p"],
+        &[FIREWALL],
+        b"unknown level 0 condition 3 step guarded pktFlow: undecided\n",
+        2,
+    ),
+    (
+        &["check", "p"],
+        &[b"topology T: forall X:HO. not X = X;"],
+        b"no network\n",
+        4,
+    ),
+    (
+        &["check", "p"],
+        &[b"static link(SW, PR, HO); topology T: forall S:SW. exists H:HO. link(S, prt(1), H);"],
+        b"unknown level 0 condition 0 network: outside\n",
+        2,
+    ),
 ];
 
 #[test]
