@@ -1,0 +1,105 @@
+//! Logs that `check` writes.
+use super::conditions::LINKED;
+use super::*;
+
+/// Steps on files in memory, where the file `p` holds a program: the words of two calls, the second of them on what the first
+/// left, what each prints, and its status.
+type Steps = (
+    &'static [u8],
+    &'static [&'static str],
+    &'static [u8],
+    u8,
+    &'static [&'static str],
+    &'static [u8],
+    u8,
+);
+
+const LOGGED: &[Steps] = &[
+    (
+        ARMED,
+        &["check", "--log", "l", "p"],
+        b"yes level 0\n",
+        0,
+        &["clauses", "l"],
+        b"1 init 0 A: accepted\n2 step A pktIn: accepted\n3 step A pktFlow: accepted\n",
+        0,
+    ),
+    // no condition but the network condition
+    (
+        b"rel p();",
+        &["check", "--log", "l", "p"],
+        b"yes level 0\n",
+        0,
+        &["clauses", "l"],
+        b"",
+        0,
+    ),
+    // a log over the program itself
+    (
+        b"rel p();",
+        &["check", "--log", "p", "p"],
+        b"yes level 0\n",
+        0,
+        &["clauses", "p"],
+        b"",
+        0,
+    ),
+    // no yes, no log
+    (
+        LINKED,
+        &["check", "--log", "l", "p"],
+        b"unknown level 0 condition 0 network: outside\n",
+        2,
+        &["clauses", "l"],
+        b"missing l\n",
+        5,
+    ),
+];
+
+// Each call prints what stands in its row.
+fn prints_in_turn(rt: &impl Abort, alloc: Global, rows: &[Steps]) -> Result<(), Fail> {
+    for (
+        program,
+        first,
+        first_printed,
+        first_status,
+        second,
+        second_printed,
+        second_status,
+    ) in rows {
+        let mut files = files_with(alloc, &[*program])?;
+        let mut out = MemSink::new(alloc, 1000, FaultPlan::none(alloc));
+        let words = words_of(alloc, first)?;
+        assert_eq!(rt;
+            check_call(alloc, &words, &mut files, &mut out),
+            *first_status
+        );
+        assert_eq!(rt; out.bytes(), *first_printed);
+        let mut out = MemSink::new(alloc, 1000, FaultPlan::none(alloc));
+        let words = words_of(alloc, second)?;
+        assert_eq!(rt;
+            check_call(alloc, &words, &mut files, &mut out),
+            *second_status
+        );
+        assert_eq!(rt; out.bytes(), *second_printed);
+    }
+    Ok(())
+}
+
+#[test]
+fn a_yes_leaves_a_log_that_is_accepted(rt: HostRuntime) -> Result<(), Fail> {
+    prints_in_turn(&rt, rt.alloc(), LOGGED)
+}
+
+#[test]
+fn a_log_that_is_not_written_leaves_no_yes(rt: HostRuntime) -> Result<(), Fail> {
+    let alloc = rt.alloc();
+    let writes = FaultPlan::new(vec![in alloc; 1]?);
+    let mut files = MemFiles::new(alloc, FaultPlan::none(alloc), writes);
+    files.write_all(alloc, "p", ARMED)?;
+    let mut out = MemSink::new(alloc, 1000, FaultPlan::none(alloc));
+    let words = words_of(alloc, &["check", "--log", "l", "p"])?;
+    assert_eq!(rt; check_call(alloc, &words, &mut files, &mut out), 8);
+    assert_eq!(rt; out.bytes(), b"".as_slice());
+    Ok(())
+}
