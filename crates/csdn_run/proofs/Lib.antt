@@ -1,0 +1,4 @@
+pub mod Markings
+pub mod Orders
+pub mod Joining
+pub mod Settled
