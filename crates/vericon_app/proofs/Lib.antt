@@ -1,5 +1,6 @@
 pub mod Outputs
 mod Logged
+mod Starts
 mod Broken
 mod Writes
 mod Answered

@@ -27,6 +27,7 @@ use crate::trace::trace;
 use command_words::request::Request;
 use command_words::request_of;
 use command_words::table::Command;
+use csdn_conditions::laws::start_is_initial;
 use std::alloc::{AllocError, Global};
 use vericon_edge::files::Files;
 use vericon_edge::sink::{Sink, write_piece};
@@ -133,7 +134,7 @@ pub fn check_call<F: Files, S: Sink>(
     ensures output { HasLeft (Output (asked_call (map string_bytes words.now)) (inputs_of F.told F.read_faults files.old files.new) (changes_of F.told F.write_faults files.old files.new)) (S.written out.old) (S.written out.new) (S.faults out.old) (S.faults out.new) result }
     // a yes: the program is inductive, and holds its invariants in every network and every run, and there is a network
     ensures yes { (name : List ℕ) → IsCheck (asked_call (map string_bytes words.now)) name → result ≡ 0 → IsVerified (level_named (asked_call (map string_bytes words.now))) (F.told files.old name) }
-    // a counterexample: what is written shows a case of the condition that it names, and reads back
+    // a counterexample: what is written shows a case of the condition that it names, and reads back; where that is of the start, some run breaks the invariant
     ensures broken { (name : List ℕ) → IsCheck (asked_call (map string_bytes words.now)) name → result ≡ 1 → IsShownBroken (F.told files.old name) (S.written out.old) (S.written out.new) }
     // .. and where a log was asked for, its file holds a block for each condition, whose clauses are tied to the condition's sentence and refuted
     ensures logged { (name log : List ℕ) → IsCheck (asked_call (map string_bytes words.now)) name → log_named (asked_call (map string_bytes words.now)) ≡ Some log → result ≡ 0 → IsLogged (level_named (asked_call (map string_bytes words.now))) (F.told files.old name) (F.told files.old log) (F.told files.new log) }
@@ -147,6 +148,8 @@ pub fn check_call<F: Files, S: Sink>(
     ensures reads { F.read_faults files.old ≤ F.read_faults files.new }
     ensures faults { S.faults out.old ≤ S.faults out.new }
 {
+    // Its contract says when a case begins at the start.
+    start_is_initial();
     match run_words(alloc, words, files) {
         Ok(outcome) => finish(out, outcome.text.as_slice(), outcome.status),
         Err(_) => no_memory(out),

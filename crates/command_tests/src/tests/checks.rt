@@ -154,7 +154,7 @@ fn a_condition_that_is_too_large_is_unknown(rt: HostRuntime) -> Result<(), Fail>
     let (text, status) = answer(alloc, &["check", "p"], &[&program])?;
     assert_eq!(rt;
         text.as_slice(),
-        b"unknown level 0 condition 2 step A pktIn: nodes\n"
+        b"unknown level 0 condition 2 step A pktIn: nodes\n".as_slice()
     );
     assert_eq!(rt; status, 2);
     Ok(())

@@ -20,7 +20,7 @@ returns-in-Ok-clause-yes g c = λ name asked zero_is.
 pub returns-in-Ok-clause-broken : goal.returns-in-Ok-clause-broken
 returns-in-Ok-clause-broken g c = λ name asked one_is.
     let F : List ℕ → Type 0 = λ text. Finishes text (code_of c.in-Ok.outcome.status) (g.S.Sink.written c.args.out.now) (g.S.Sink.written c.finish.new.out) (g.S.Sink.faults c.args.out.now) (g.S.Sink.faults c.finish.new.out) c.finish.result in
-    shown _ _ _ _ _ _ _ _ _ _ name c.in-Ok.ensures.output (subst F c.as_slice.ensures.value c.finish.ensures.finishes) asked one_is
+    shown c.start_is_initial.ensures _ _ _ _ _ _ _ _ _ _ name c.in-Ok.ensures.output (subst F c.as_slice.ensures.value c.finish.ensures.finishes) asked one_is
 
 pub returns-in-Ok-clause-logged : goal.returns-in-Ok-clause-logged
 returns-in-Ok-clause-logged g c = λ name log asked wants zero_is.
