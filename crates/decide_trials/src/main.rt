@@ -1,7 +1,7 @@
 //! Trials of `decide`: beside it a plain search goes through all networks of at most two switches, hosts and ports and their
 //! states. Where that finds a case of some condition the answer is never yes, and where it finds a network that meets the
-//! topology invariants it is never that there is none. Where it finds nothing, nothing follows. A case that is answered is looked
-//! at again: the hypothesis of its condition is true there, and the goal false.
+//! topology invariants it is never that there is none. Where it finds nothing, nothing follows. A case that is answered is printed,
+//! read again and looked at: the topology invariants and the hypothesis of its condition are true there, and the goal false.
 #![tactic(auto)]
 
 mod depth;
@@ -15,7 +15,10 @@ mod worlds;
 use crate::programs::{Kind, TRIALS};
 use crate::search::{Found, breaks, search};
 use crate::trouble::Trouble;
+use csdn_core::program::Program;
 use csdn_types_tests::resolved;
+use net_structs::case::Case;
+use net_text::{print_net, read_net};
 use std::alloc::Global;
 use std::io;
 use vericon_decide::answer::{Answer, decide};
@@ -44,13 +47,7 @@ impl Outcome {
         let program = resolved(alloc, text)??;
         let told = match decide(alloc, &program, 0)? {
             Answer::Yes { .. } => Told::Yes,
-            Answer::Counter { index, case, .. } => {
-                if breaks(alloc, &program, index, &case)? {
-                    Told::Counterexample
-                } else {
-                    Told::NoCase
-                }
-            }
+            Answer::Counter { index, case, .. } => told_of_case(alloc, &program, index, &case)?,
             Answer::Unknown { .. } => Told::Unknown,
             Answer::NoNetwork { .. } => Told::NoNetwork,
         };
@@ -106,6 +103,22 @@ impl Outcome {
         } else {
             "no case"
         }
+    }
+}
+
+/// Whether a case breaks its condition, when it was printed and read again.
+fn told_of_case(
+    alloc: Global,
+    program: &Program,
+    index: u32,
+    case: &Case,
+) -> Result<Told, Trouble> {
+    let text = print_net(alloc, program, case)?;
+    let read = read_net(alloc, program, text.as_slice())?;
+    if breaks(alloc, program, index, &read)? {
+        Ok(Told::Counterexample)
+    } else {
+        Ok(Told::NoCase)
     }
 }
 

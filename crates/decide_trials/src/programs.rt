@@ -22,7 +22,7 @@ pub struct Trial {
     pub text: &'static str,
 }
 
-pub const TRIALS: [Trial; 43] = [
+pub const TRIALS: [Trial; 56] = [
     // nothing is there at the start, and each branch takes one out before it puts the other in
     Trial {
         kind: Kind::Valid,
@@ -207,6 +207,71 @@ pub const TRIALS: [Trial; 43] = [
     Trial {
         kind: Kind::Valid,
         text: "const c:HO; const d:HO; const e:HO; topology apart: not c = d and not d = e and not c = e; rel p(HO); safety never: forall X:HO. not p(X); pktIn(s, a->b, i) { skip; }",
+    },
+    // p is empty at the start
+    Trial {
+        kind: Kind::Broken,
+        text: "rel p(); safety start: p();",
+    },
+    // a packet leaves its source in seen
+    Trial {
+        kind: Kind::Broken,
+        text: "rel seen(HO); safety none: forall X:HO. not seen(X); pktIn(s, a->b, i) { seen.insert(a); }",
+    },
+    // no host is in seen at the start
+    Trial {
+        kind: Kind::Broken,
+        text: "rel seen(HO); safety some: exists X:HO. seen(X); pktIn(s, a->b, i) { seen.insert(a); }",
+    },
+    // a packet at each of the two ports
+    Trial {
+        kind: Kind::Broken,
+        text: "rel p(PR); safety apart: not (p(prt(1)) and p(prt(2))); pktIn(s, a->b, i) { p.insert(i); }",
+    },
+    // a host that moves is at both ports
+    Trial {
+        kind: Kind::Broken,
+        text: "rel at(HO, PR); safety one: forall H:HO, P:PR, Q:PR. at(H, P) and at(H, Q) -> P = Q; pktIn(s, a->b, i) { at.insert(a, i); }",
+    },
+    // the second packet finds on, and nothing takes that out
+    Trial {
+        kind: Kind::Broken,
+        text: "rel on(SW); rel off(SW); safety one: forall S:SW. not (on(S) and off(S)); pktIn(s, a->b, i) { if on(s) { off.insert(s); } else { on.insert(s); } }",
+    },
+    // a packet of c where there is a second host
+    Trial {
+        kind: Kind::Broken,
+        text: "const c:HO; rel m(HO); safety whole: m(c) -> (forall X:HO. m(X)); pktIn(s, a->b, i) { m.insert(a); }",
+    },
+    // the packet's destination may be another host than its source
+    Trial {
+        kind: Kind::Broken,
+        text: "rel q(HO); trans known: forall S:SW, A:HO, B:HO, I:PR. S.rcv_this(A->B, I) -> q(B); pktIn(s, a->b, i) { q.insert(a); }",
+    },
+    // each packet leaves a rule
+    Trial {
+        kind: Kind::Broken,
+        text: "safety none: forall S:SW, A:HO, B:HO, I:PR, O:PR. not S.ft(A->B, I->O); pktIn(s, a->b, i) { s.install(a->b, i->i); }",
+    },
+    // a packet at port 1 is sent back
+    Trial {
+        kind: Kind::Broken,
+        text: "safety none: forall S:SW, A:HO, B:HO, I:PR, O:PR. not S.sent(A->B, I->O); pktIn(s, a->b, prt(1)) { s.forward(a->b, prt(1)->prt(1)); }",
+    },
+    // the port may be an edge of another switch
+    Trial {
+        kind: Kind::Broken,
+        text: "static edge(SW, PR); rel used(PR); safety edges: forall S:SW, P:PR. edge(S, P) -> not used(P); pktIn(s, a->b, i) { if not edge(s, i) { used.insert(i); } }",
+    },
+    // a packet from a host to itself where there is a second one
+    Trial {
+        kind: Kind::Broken,
+        text: "rel p(HO); safety pairs: forall X:HO, Y:HO. p(X) -> p(Y); pktIn(s, a->b, i) { p.insert(a); p.insert(b); }",
+    },
+    // q is empty when the first packet comes
+    Trial {
+        kind: Kind::Broken,
+        text: "rel p(); rel q(); safety implied: p() -> q(); pktIn(s, a->b, i) { if not q() { p.insert(); } }",
     },
     // valid, since k comes after m; but the invariant has an exists under a forall, and can't be decided where it is assumed
     Trial {

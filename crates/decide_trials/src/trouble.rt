@@ -3,6 +3,7 @@ use csdn_text::TextRefusal;
 use csdn_types::refusal::SortRefusal;
 use fol_forms::refusal::FormRefusal;
 use net_structs::read::NetRefusal;
+use net_text::NetTextRefusal;
 use std::alloc::AllocError;
 use thiserror::Error;
 
@@ -17,6 +18,8 @@ pub enum Trouble {
     Sorts(#[from] SortRefusal),
     #[error("there is no network: {0}")]
     Net(#[from] NetRefusal),
+    #[error("the text of a case is no network: {0}")]
+    NetText(#[from] NetTextRefusal),
     #[error("a condition has no formula: {0}")]
     Form(#[from] FormRefusal),
     #[error("a formula binds too many variables at once")]

@@ -72,7 +72,7 @@ fn equal(alloc: Global, x: u32, y: u32) -> Result<Boxed<Formula>, AllocError>
     )
 }
 
-#[tactic(auto, using(csdn_core::specs::Tree::shapes))]
+#[tactic(auto, using(csdn_core::proofs::Shapes::shapes))]
 fn forall(
     alloc: Global,
     x: u32,
@@ -84,28 +84,28 @@ fn forall(
     boxed(alloc, Formula::Forall(VarId(x), sort, p))
 }
 
-#[tactic(auto, using(csdn_core::specs::Tree::shapes))]
+#[tactic(auto, using(csdn_core::proofs::Shapes::shapes))]
 fn not(alloc: Global, p: Boxed<Formula>) -> Result<Boxed<Formula>, AllocError>
     ensures { IfOk result (λ f. f ≡ negation p) }
 {
     boxed(alloc, Formula::Not(p))
 }
 
-#[tactic(auto, using(csdn_core::specs::Tree::shapes))]
+#[tactic(auto, using(csdn_core::proofs::Shapes::shapes))]
 fn and(alloc: Global, p: Boxed<Formula>, q: Boxed<Formula>) -> Result<Boxed<Formula>, AllocError>
     ensures { IfOk result (λ f. f ≡ conjunction p q) }
 {
     boxed(alloc, Formula::And(p, q))
 }
 
-#[tactic(auto, using(csdn_core::specs::Tree::shapes))]
+#[tactic(auto, using(csdn_core::proofs::Shapes::shapes))]
 fn or(alloc: Global, p: Boxed<Formula>, q: Boxed<Formula>) -> Result<Boxed<Formula>, AllocError>
     ensures { IfOk result (λ f. f ≡ disjunction p q) }
 {
     boxed(alloc, Formula::Or(p, q))
 }
 
-#[tactic(auto, using(csdn_core::specs::Tree::shapes))]
+#[tactic(auto, using(csdn_core::proofs::Shapes::shapes))]
 fn implies(
     alloc: Global,
     p: Boxed<Formula>,
