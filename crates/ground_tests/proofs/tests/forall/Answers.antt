@@ -1,6 +1,6 @@
 use Rattle.std.proofs.Common.{◌∙◌}
 use Rattle.std.proofs.lemmas.Result.{IfOk-weaker}
-use Rattle.csdn_core.specs.Tree.{Forall-is}
+use Rattle.csdn_core.proofs.Shapes.{Forall-is}
 use Rattle.decision_laws.specs.Example.{variable}
 use Rattle.ground_tests.proofs.tests.forall.Goals as goal
 
