@@ -44,7 +44,9 @@ const INDEX: Kind = Kind::Number {
     most: 0xffff_ffff,
 };
 
-const STRENGTHEN: OptionRow = ("--strengthen", Kind::NotYet);
+const STRENGTHEN: OptionRow = ("--strengthen", Kind::Number { least: 0, most: 9 });
+
+const STRENGTHEN_LATER: OptionRow = ("--strengthen", Kind::NotYet);
 
 const LOG: OptionRow = ("--log", FILE);
 
@@ -57,7 +59,7 @@ pub const COMMANDS: [CommandRow; 7] = [
     (
         "conditions",
         Command::Conditions,
-        &[STRENGTHEN],
+        &[STRENGTHEN_LATER],
         &[FILE],
         &[],
     ),

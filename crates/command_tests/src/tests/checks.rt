@@ -13,6 +13,10 @@ const ONE_MOVED: &[u8] =
 const ARMED_LATER: &[u8] =
     b"rel armed(); safety A: not armed(); pktIn(s, src->dst, i) { armed.insert(); }";
 
+/// No invariant says that `p` stays false, which it does.
+const LATER: &[u8] =
+    b"rel p(); rel q(); safety A: not q(); pktIn(s, src->dst, i) { if p() { q.insert(); } }";
+
 const ONE_PORT_AT_LEAST: &[u8] = b"rel conn(SW, PR, HO);
 trans no_black_hole: forall S:SW, A:HO, B:HO, I:PR. S.rcv_this(A->B, I) -> (exists O:PR. S.sent(A->B, I->O));
 pktIn(s, src->dst, i) {
@@ -143,6 +147,44 @@ fn is_shown(rt: &impl Abort, alloc: Global, row: &Broken) -> Result<(), Fail> {
 fn a_counterexample_shows_that_its_condition_is_broken(rt: HostRuntime) -> Result<(), Fail> {
     for row in BROKEN {
         is_shown(&rt, rt.alloc(), row)?;
+    }
+    Ok(())
+}
+
+const LEVELS: &[Call] = &[
+    (
+        &["check", "--strengthen", "1", "p"],
+        &[ARMED_LATER],
+        b"counterexample level 1 condition 2 init 1 A\n",
+        1,
+    ),
+    (
+        &["check", "--strengthen", "1", "p"],
+        &[LATER],
+        b"yes level 1\n",
+        0,
+    ),
+    (
+        &["check", "--strengthen", "2", "p"],
+        &[LATER],
+        b"yes level 1\n",
+        0,
+    ),
+    (
+        &["check", "--strengthen", "10", "p"],
+        &[LATER],
+        b"usage\n",
+        6,
+    ),
+];
+
+#[test]
+fn levels_are_tried_in_order(rt: HostRuntime) -> Result<(), Fail> {
+    let alloc = rt.alloc();
+    for (words, contents, begin, number) in LEVELS {
+        let (text, status) = answer(alloc, words, contents)?;
+        assert_eq!(rt; text.as_slice().starts_with(begin), true);
+        assert_eq!(rt; status, *number);
     }
     Ok(())
 }

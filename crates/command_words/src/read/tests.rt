@@ -97,7 +97,11 @@ const TODAY: &[Case] = &[
     (&["check", "p", "q"], "usage"),
     (&["check", "--log"], "usage"),
     (&["check", "--strengthen"], "usage"),
-    (&["check", "--strengthen", "0", "p"], "usage"),
+    (
+        &["check", "--strengthen", "0", "p"],
+        "Check --strengthen=0 p",
+    ),
+    (&["check", "--strengthen", "10", "p"], "usage"),
     (&["check", "--log", "f", "p"], "Check --log=f p"),
     (&["check", "--log", "f"], "usage"),
     (&["check", "--log", "f", "--log", "g", "p"], "usage"),
