@@ -3,7 +3,7 @@ use super::conditions::{LINKED, with_ifs};
 use super::*;
 
 /// A packet leads to a second host in `r`, unless there is one already.
-const ONE_KEPT: &[u8] =
+pub(crate) const ONE_KEPT: &[u8] =
     b"rel r(HO); safety one: forall X:HO, Y:HO. r(X) and r(Y) -> X = Y; pktIn(s, src->dst, i) { if not (exists Z:HO. r(Z)) { r.insert(src); } }";
 
 /// Its host takes the place of the one in `r`.
@@ -30,7 +30,7 @@ pktIn(s, src->dst, i) {
 }
 ";
 
-const TWO_PORTS_AT_LEAST: &[u8] = b"rel conn(SW, PR, HO);
+pub(crate) const TWO_PORTS_AT_LEAST: &[u8] = b"rel conn(SW, PR, HO);
 topology two: not prt(1) = prt(2);
 trans no_black_hole: forall S:SW, A:HO, B:HO, I:PR. S.rcv_this(A->B, I) -> (exists O:PR. S.sent(A->B, I->O));
 pktIn(s, src->dst, i) {

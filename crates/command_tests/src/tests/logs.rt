@@ -1,4 +1,5 @@
 //! Logs that `check` writes.
+use super::checks::{ONE_KEPT, TWO_PORTS_AT_LEAST};
 use super::conditions::LINKED;
 use super::*;
 
@@ -22,6 +23,24 @@ const LOGGED: &[Steps] = &[
         0,
         &["clauses", "l"],
         b"1 init 0 A: accepted\n2 step A pktIn: accepted\n3 step A pktFlow: accepted\n",
+        0,
+    ),
+    (
+        ONE_KEPT,
+        &["check", "--log", "l", "p"],
+        b"yes level 0\n",
+        0,
+        &["clauses", "l"],
+        b"1 init 0 one: accepted\n2 step one pktIn: accepted\n3 step one pktFlow: accepted\n",
+        0,
+    ),
+    (
+        TWO_PORTS_AT_LEAST,
+        &["check", "--log", "l", "p"],
+        b"yes level 0\n",
+        0,
+        &["clauses", "l"],
+        b"1 trans no_black_hole pktIn: accepted\n2 trans no_black_hole pktFlow: accepted\n",
         0,
     ),
     // no condition but the network condition
