@@ -10,7 +10,7 @@ ghost use Rattle.class_networks.specs.Judgements.{constants_in, free_in, numeral
 
 use crate::judgement::Judgement;
 use csdn_core::terms::Sort;
-use decision_laws::names::numeral_place;
+use ground_inst::name_places::numeral_place;
 use net_structs::network::Elements;
 use sqlite_items::Items;
 use std::alloc::{AllocError, Global};

@@ -8,7 +8,7 @@ ghost use Rattle.class_networks.specs.Made.{value_in};
 use crate::numbers::Numbers;
 use csdn_core::program::Parts;
 use csdn_core::terms::ConstId;
-use decision_laws::names::{constant_place, constant_sort};
+use ground_inst::name_places::{constant_place, constant_sort};
 use net_structs::network::Elements;
 use sqlite_items::Items;
 use std::alloc::{AllocError, Global};

@@ -19,7 +19,6 @@ pub mod Facts
 pub mod Left
 pub mod Bridge
 pub mod ExampleLemmas
-pub mod NamesLemmas
 pub mod Fitting
 pub mod Differing
 pub mod Weights

@@ -5,3 +5,4 @@ mod Steps
 mod Turns
 mod Wholes
 mod WholeClauses
+mod NamesLemmas

@@ -9,9 +9,9 @@ ghost use Rattle.ground_inst.specs.Equality.{numeral_of};
 ghost use Rattle.ground_inst.specs.Facts.{vocabulary_of};
 
 use crate::facts::Facts;
+use crate::name_places::numeral_place;
 use csdn_core::program::Parts;
 use csdn_core::terms::Sort;
-use decision_laws::names::numeral_place;
 use fol_forms::constants::known;
 use std::alloc::{AllocError, Global};
 

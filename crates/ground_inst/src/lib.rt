@@ -9,6 +9,7 @@ pub mod equality;
 mod exchange;
 pub mod facts;
 pub mod making;
+pub mod name_places;
 mod places;
 pub mod room;
 pub mod rows;

@@ -7,11 +7,11 @@ ghost use Rattle.decision_laws.specs.Vocabulary.{find_or};
 ghost use Rattle.ground_inst.specs.Walk.{equation_fact, literal_of, scope, tuple_fact, ways_of};
 
 use crate::facts::{Facts, equation_atom, tuple_atom};
+use crate::name_places::{constant_place, constant_sort, numeral_place};
 use arrayvec::ArrayVec;
 use clause_log::Lit;
 use csdn_core::program::Parts;
 use csdn_core::terms::{Pred, Sort, Term, Terms, VarId};
-use decision_laws::names::{constant_place, constant_sort, numeral_place};
 use std::alloc::AllocError;
 
 /// The constant that a variable stands for.

@@ -1,7 +1,7 @@
 use Rattle.std.proofs.Common.{sym}
 use Rattle.std.proofs.Math.Seq.{take-length}
-use Rattle.decision_laws.proofs.NamesLemmas.{numeral_index}
-use Rattle.decision_laws.proofs.names.numeral_place.Goals as goal
+use Rattle.ground_inst.proofs.NamesLemmas.{numeral_index}
+use Rattle.ground_inst.proofs.name_places.numeral_place.Goals as goal
 
 pub returns : goal.returns
 returns c =

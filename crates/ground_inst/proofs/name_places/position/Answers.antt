@@ -1,6 +1,6 @@
 use Rattle.std.proofs.Common.{sym, arith}
-use Rattle.decision_laws.proofs.NamesLemmas.{found_there, passed_by}
-use Rattle.decision_laws.proofs.names.position.Goals as goal
+use Rattle.ground_inst.proofs.NamesLemmas.{found_there, passed_by}
+use Rattle.ground_inst.proofs.name_places.position.Goals as goal
 
 pub returns-then-other-numeral : goal.returns-then-other-numeral
 returns-then-other-numeral c = record {

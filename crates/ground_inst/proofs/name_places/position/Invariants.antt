@@ -1,7 +1,7 @@
 use Rattle.std.proofs.Common.{◌≡◌, map, take}
 use Rattle.csdn_core.specs.declared.terms.Term.TheVariants.{Port}
 use Rattle.decision_laws.specs.Copies.{index_of}
-use Rattle.decision_laws.proofs.names.position.Given as goal
+use Rattle.ground_inst.proofs.name_places.position.Given as goal
 
 -- the numeral isn't among the first
 abbrev pub invariant-loop-place : goal.invariant-loop-place
