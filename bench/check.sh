@@ -1,5 +1,5 @@
 #!/bin/sh
-# Times `check` on the largest programs without arguments: 12 relations, about 300 tokens, a table of 4,096 states.
+# Times `check` on a program without arguments: a chain of 12 relations, about 300 tokens.
 . "$(dirname "$0")/common.sh"
 python3 - "$work/large.csdn" <<'PY'
 import sys
