@@ -27,3 +27,8 @@ pub record IsUnused (taken written : Option (List ℕ)) (closed shut : Bool) (re
   pub held_yet : shut ≡ false
   pub no_read_fault : read_faults ≡ 0
   pub no_write_fault : write_faults ≡ 0
+
+-- an answer gives at least one byte, and at most so many, or says that none come any more
+abbrev pub GivesSome : ℕ → Got → Type 0
+GivesSome room (Bytes n) = (0 < n) × (n ≤ room)
+GivesSome room Closed = Unit {0}

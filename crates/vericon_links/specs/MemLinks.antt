@@ -1,5 +1,5 @@
 -- What a link in memory does.
-use Rattle.std.specs.Prelude.{◌≡◌, ℕ, ◌⊎◌, ◌-◌, Bool, true, List, take, length, min, Contains, Result, Ok, Err}
+use Rattle.std.specs.Prelude.{◌≡◌, ℕ, ◌⊎◌, ◌-◌, true, List, take, length, min, Result, Ok, Err}
 use Rattle.vericon_edge.specs.declared.fault.Failed.{Failed}
 use Rattle.vericon_edge.specs.FaultPlan.{IsNextDue}
 use Rattle.vericon_links.specs.declared.link.Got.{Got}

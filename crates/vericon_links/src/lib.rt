@@ -9,3 +9,5 @@ pub mod link;
 pub mod listener;
 pub mod mem_link;
 pub mod mem_listener;
+pub mod tcp_link;
+pub mod tcp_listen;

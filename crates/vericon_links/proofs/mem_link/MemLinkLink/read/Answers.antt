@@ -1,4 +1,4 @@
-use Rattle.std.proofs.Common.{rules, refl, ap, arith, Some}
+use Rattle.std.proofs.Common.{rules, refl, ap, Some}
 use Rattle.vericon_links.proofs.TakenLemmas.{taken_more}
 use Rattle.vericon_links.proofs.mem_link.MemLinkLink.read.Goals as goal
 
