@@ -154,8 +154,6 @@ impl Listener for MemListener {
 
     fn give_back(&mut self, number: u32, link: MemLink) {
         self.back += 1;
-        if self.given.push((number, link)).is_err() {
-            unreachable!()
-        }
+        self.given.push_reserved((number, link));
     }
 }
