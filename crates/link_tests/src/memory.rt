@@ -1,4 +1,6 @@
 //! Links and listeners in memory.
+ghost use Rattle.std.specs.Prelude.{◌≡◌, ◌<◌, ◌+◌};
+
 use std::alloc::{AllocError, Global};
 use std::process::Abort;
 use std::test::Fail;
@@ -254,19 +256,16 @@ fn a_link_that_is_shut_fails(rt: HostRuntime) -> Result<(), Fail> {
     Ok(())
 }
 
-/// What an accept gives, without the link.
-fn accepted(
-    listener: &mut MemListener,
-    links: &mut Vec<MemLink>,
-) -> Result<&'static str, AllocError> {
-    Ok(match listener.accept() {
-        Ok(Arrival::Came(link)) => {
-            links.push(link)?;
-            "came"
-        }
-        Ok(Arrival::Closed) => "closed",
-        Err(_) => "failed",
-    })
+/// Reads from a link, and gives it back with a number.
+fn settle(listener: &mut MemListener, number: u32, link: MemLink)
+    requires { ⟦<MemListener as Listener>⟧.back listener.old < ⟦<MemListener as Listener>⟧.came listener.old }
+    ensures came { ⟦<MemListener as Listener>⟧.came listener.new ≡ ⟦<MemListener as Listener>⟧.came listener.old }
+    ensures back { ⟦<MemListener as Listener>⟧.back listener.new ≡ ⟦<MemListener as Listener>⟧.back listener.old + 1 }
+{
+    let mut link = link;
+    let mut into = [0u8; 9];
+    let _ = link.read(&mut into);
+    listener.give_back(number, link);
 }
 
 #[test]
@@ -274,25 +273,25 @@ fn links_come_and_go_back(rt: HostRuntime) -> Result<(), Fail> {
     let alloc = rt.alloc();
     let scripts = vec![in alloc; script(alloc, 4, &[], &[])?, script(alloc, 3, &[], &[])?]?;
     let mut listener = MemListener::new(alloc, scripts, plan(alloc, &[0])?, plan(alloc, &[2])?)?;
-    let mut links = Vec::new(alloc);
     assert_eq!(rt; listener.listen(6633), Err(Failed));
-    assert_eq!(rt; accepted(&mut listener, &mut links)?, "failed");
+    assert_eq!(rt; listener.accept().is_err(), true);
     assert_eq!(rt; listener.listen(6633), Ok(()));
-    assert_eq!(rt; accepted(&mut listener, &mut links)?, "came");
-    assert_eq!(rt; accepted(&mut listener, &mut links)?, "failed");
-    assert_eq!(rt; accepted(&mut listener, &mut links)?, "came");
-    assert_eq!(rt; accepted(&mut listener, &mut links)?, "closed");
+    let Ok(Arrival::Came(first)) = listener.accept() else {
+        return Err(Fail::from("no link"));
+    };
+    assert_eq!(rt; listener.accept().is_err(), true);
+    let Ok(Arrival::Came(second)) = listener.accept() else {
+        return Err(Fail::from("no second link"));
+    };
+    let Ok(Arrival::Closed) = listener.accept() else {
+        return Err(Fail::from("a third link"));
+    };
     assert_eq!(rt; listener.uses(), 7);
-    let mut number = 7;
-    for mut link in links {
-        let mut into = [0u8; 9];
-        assert_eq!(rt; link.read(&mut into).is_ok(), true);
-        listener.give_back(number, link);
-        number = 5;
-    }
+    settle(&mut listener, 7, second);
+    settle(&mut listener, 5, first);
     let given = listener.given();
     assert_eq!(rt; given.len(), 2);
-    assert_eq!(rt; (given[0].0, given[0].1.taken()), (7, 4));
-    assert_eq!(rt; (given[1].0, given[1].1.taken()), (5, 3));
+    assert_eq!(rt; (given[0].0, given[0].1.taken()), (7, 3));
+    assert_eq!(rt; (given[1].0, given[1].1.taken()), (5, 4));
     Ok(())
 }

@@ -52,20 +52,18 @@ fn links_come(rt: HostRuntime) -> Result<(), Fail> {
     let mut second = TcpListen::new(rt.clone()?);
     assert_eq!(rt; second.listen(port), Err(Failed));
 
-    for number in 1..3u32 {
-        let mut peer = TcpStream::connect(&rt, SocketAddr::from((Ipv4Addr::LOCALHOST, port)))?;
-        peer.write_all(b"hello")?;
-        let Ok(Arrival::Came(mut link)) = listener.accept() else {
-            return Err(Fail::from("no link"));
-        };
-        let mut into = [0u8; 8];
-        assert_eq!(rt; link.read(&mut into), Ok(Got::Bytes(5)));
-        assert_eq!(rt; write_whole(&mut link, b"hello"), Ok(()));
-        listener.give_back(number, link);
-        let mut got = [0u8; 5];
-        peer.read_exact(&mut got)?;
-        assert_eq!(rt; got.as_slice(), b"hello".as_slice());
-        assert_eq!(rt; peer.read(&mut got)?, 0);
-    }
+    let mut peer = TcpStream::connect(&rt, SocketAddr::from((Ipv4Addr::LOCALHOST, port)))?;
+    peer.write_all(b"hello")?;
+    let Ok(Arrival::Came(mut link)) = listener.accept() else {
+        return Err(Fail::from("no link"));
+    };
+    let mut into = [0u8; 8];
+    assert_eq!(rt; link.read(&mut into), Ok(Got::Bytes(5)));
+    assert_eq!(rt; write_whole(&mut link, b"hello"), Ok(()));
+    listener.give_back(1, link);
+    let mut got = [0u8; 5];
+    peer.read_exact(&mut got)?;
+    assert_eq!(rt; got.as_slice(), b"hello".as_slice());
+    assert_eq!(rt; peer.read(&mut got)?, 0);
     Ok(())
 }
