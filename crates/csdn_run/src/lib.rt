@@ -13,3 +13,4 @@ mod standing;
 
 pub use marks::Marks;
 pub use runtime::{RunRefusal, Runtime};
+pub use standing::is_declared;
