@@ -1,4 +1,4 @@
--- The words of conditions that are not decided.
+-- The lines of verdicts: of a yes, of conditions that are not decided, and of programs without a network.
 use Rattle.std.specs.Prelude.{◌≡◌, ℕ, List, [], ◌∷◌, ◌++◌, codes, decimal}
 use Rattle.text_lines.specs.Printed.{spaced}
 use Rattle.csdn_core.specs.declared.program.Parts.{Parts}
@@ -26,3 +26,10 @@ unproven_text P n i kind why =
 -- .. by the number of the condition
 abbrev pub IsUnprovenLine : Parts → ℕ → ℕ → Why → List ℕ → Type 0
 IsUnprovenLine P n i why text = OfCondition P n i (λ c. text ≡ unproven_text P n i c.kind why)
+
+-- `yes level N`
+abbrev pub yes_text : ℕ → List ℕ
+yes_text level = codes "yes level " ++ decimal level ++ codes "\n"
+
+abbrev pub no_network_text : List ℕ
+no_network_text = codes "no network\n"

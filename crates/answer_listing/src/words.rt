@@ -3,7 +3,7 @@ ghost use Rattle.std.specs.Prelude.{◌≡◌, ◌<◌, ◌≤◌, ◌++◌, ◌
 ghost use Rattle.text_lines.specs.Printed.{spaced};
 ghost use Rattle.csdn_conditions.specs.Kinds.{kinds};
 ghost use Rattle.vericon_decide.specs.declared.answer.Why.TheVariants.{Instances};
-ghost use Rattle.answer_listing.specs.Words.{IsUnprovenLine, condition_text, unproven_text, why_words};
+ghost use Rattle.answer_listing.specs.Words.{IsUnprovenLine, condition_text, no_network_text, unproven_text, why_words, yes_text};
 
 use condition_listing::put_kind;
 use csdn_conditions::kinds::{CondKind, condition_kind};
@@ -85,4 +85,25 @@ pub fn unproven_line(
 {
     let kind = condition_kind(program, level, index);
     put_unproven(alloc, program, level, index, kind, why)
+}
+
+/// `yes level LEVEL`
+pub fn yes_line(alloc: Global, level: u8) -> Result<Vec<u8>, AllocError>
+    ensures { IfOk result (λ text. text.items ≡ yes_text level) }
+{
+    let mut out = Vec::new(alloc);
+    put_word(&mut out, b"yes level ")?;
+    put_number(&mut out, u64::from(level))?;
+    put_line_end(&mut out)?;
+    Ok(out)
+}
+
+/// `no network`: no network meets the topology invariants.
+pub fn no_network_line(alloc: Global) -> Result<Vec<u8>, AllocError>
+    ensures { IfOk result (λ text. text.items ≡ no_network_text) }
+{
+    let mut out = Vec::new(alloc);
+    put_word(&mut out, b"no network")?;
+    put_line_end(&mut out)?;
+    Ok(out)
 }

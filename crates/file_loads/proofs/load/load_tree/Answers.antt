@@ -1,0 +1,13 @@
+use Rattle.csdn_read.specs.Programs.{Keeps}
+use Rattle.file_loads.specs.Loads.{IsNotProgram}
+use Rattle.file_loads.specs.declared.read.FileKind.TheVariants.{Program}
+use Rattle.file_loads.proofs.Explaining.{if_ok}
+use Rattle.file_loads.proofs.Giving.{given, refused_given}
+use Rattle.file_loads.proofs.load.load_tree.Goals as goal
+
+pub returns-in-Loaded-clause-load : goal.returns-in-Loaded-clause-load
+returns-in-Loaded-clause-load g c =
+    if_ok c.tree_of.result _ _ (λ l is. given _ Program c.args.name.now c.in_ok-bytes.ensures.reads Keeps (IsNotProgram c.args.name.now) c.in-Loaded.bytes _ l (rw c.in-Loaded.is at c.in_ok-bytes.ensures.load) c.deref.ensures.value is) c.tree_of.ensures
+
+pub returns-in-Refused-clause-load : goal.returns-in-Refused-clause-load
+returns-in-Refused-clause-load g c = refused_given _ Program c.args.name.now c.in_ok-bytes.ensures.reads Keeps (IsNotProgram c.args.name.now) _ _ (rw c.in-Refused.is at c.in_ok-bytes.ensures.load)

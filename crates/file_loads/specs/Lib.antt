@@ -1,0 +1,9 @@
+pub mod Status
+pub mod Lines
+pub mod Views
+pub mod Answers
+pub mod Writes
+pub mod Explained
+pub mod Outputs
+pub mod Loads
+pub mod Gives
