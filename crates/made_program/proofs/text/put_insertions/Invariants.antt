@@ -1,0 +1,8 @@
+use Rattle.std.proofs.Common.{◌≡◌, ◌++◌}
+use Rattle.std.specs.Prelude.{flat_map}
+use Rattle.std.specs.List.{range_with_len}
+use Rattle.made_program.specs.Made.{insertion}
+use Rattle.made_program.proofs.text.put_insertions.Given as goal
+
+abbrev pub invariant-relations : goal.invariant-relations
+invariant-relations l = l.out.items ≡ l.fn.out.items ++ flat_map insertion (range_with_len 1 l.before)
