@@ -6,6 +6,7 @@ pub mod Conditions
 pub mod Trace
 pub mod Frames
 pub mod Clauses
+pub mod Make
 pub mod Output
 pub mod Left
 pub mod Quiet

@@ -5,7 +5,7 @@ ghost use Rattle.file_loads.specs.Status.{code_of};
 ghost use Rattle.file_loads.specs.Lines.{memory_text};
 ghost use Rattle.file_loads.specs.Views.{Touches, Writes, change_of};
 ghost use Rattle.file_loads.specs.Explained.{IsExplained};
-ghost use Rattle.vericon_app.specs.Calls.{IsCheck, files_of, files_named, level_named, log_name, log_named, strength};
+ghost use Rattle.vericon_app.specs.Calls.{IsCheck, files_of, files_named, level_named, log_named, number_or_zero, strength, written_name, written_named};
 ghost use Rattle.vericon_app.specs.Output.{CommandOutput, Output};
 ghost use Rattle.vericon_app.specs.Left.{HasLeft, Finishes};
 ghost use Rattle.vericon_app.specs.Verified.{IsVerified};
@@ -20,6 +20,7 @@ use crate::clauses::clauses;
 use crate::conditions::conditions;
 use crate::eval::eval;
 use crate::frames::frames;
+use crate::make::make;
 use crate::show::show;
 use crate::trace::trace;
 use command_words::request::Request;
@@ -43,6 +44,16 @@ fn level_in(number: Option<u32>) -> u8
     }
 }
 
+/// A number, and 0 where there is none.
+fn count_in(number: Option<u32>) -> u64
+    ensures { result ≡ number_or_zero number }
+{
+    match number {
+        None => 0,
+        Some(count) => u64::from(count),
+    }
+}
+
 /// What the command that a call names says.
 fn run_request<F: Files>(
     alloc: Global,
@@ -50,7 +61,7 @@ fn run_request<F: Files>(
     files: &mut F,
 ) -> Result<Outcome, AllocError>
     ensures output { IfOk result (λ outcome. IsExplained (change_of F.told F.read_calls F.write_calls F.read_faults F.write_faults files.old files.new) (files_of request.now.command request.now) (CommandOutput request.now.command request.now) outcome.text.items (code_of outcome.status)) }
-    ensures touches { Touches (length (files_of request.now.command request.now)) (log_name request.now.command request.now) (change_of F.told F.read_calls F.write_calls F.read_faults F.write_faults files.old files.new) }
+    ensures touches { Touches (length (files_of request.now.command request.now)) (written_name request.now.command request.now) (change_of F.told F.read_calls F.write_calls F.read_faults F.write_faults files.old files.new) }
 {
     let file = request.operand(0);
     let net = request.operand(1);
@@ -67,6 +78,7 @@ fn run_request<F: Files>(
         Command::Conditions => conditions(alloc, files, file, most),
         Command::Clauses => clauses(alloc, files, file),
         Command::Frames => frames(alloc, files, file),
+        Command::Make => make(alloc, files, count_in(request.number(0)), net),
     }
 }
 
@@ -77,7 +89,7 @@ fn run_words<F: Files>(
     files: &mut F,
 ) -> Result<Outcome, AllocError>
     ensures output { IfOk result (λ outcome. IsExplained (change_of F.told F.read_calls F.write_calls F.read_faults F.write_faults files.old files.new) (files_named (asked_call (map string_bytes words.now))) (Output (asked_call (map string_bytes words.now))) outcome.text.items (code_of outcome.status)) }
-    ensures touches { Touches (length (files_named (asked_call (map string_bytes words.now)))) (log_named (asked_call (map string_bytes words.now))) (change_of F.told F.read_calls F.write_calls F.read_faults F.write_faults files.old files.new) }
+    ensures touches { Touches (length (files_named (asked_call (map string_bytes words.now)))) (written_named (asked_call (map string_bytes words.now))) (change_of F.told F.read_calls F.write_calls F.read_faults F.write_faults files.old files.new) }
 {
     match request_of(words) {
         None => usage(alloc),
@@ -107,7 +119,7 @@ pub fn no_memory<S: Sink>(out: &mut S) -> u8
 }
 
 /// Serves the command that the words name, and gives its status. It writes its lines to the sink, and no file but
-/// the log that `check` was asked for.
+/// the log that `check` was asked for, or the program that `make` makes.
 ///
 /// | status | meaning |
 /// |---|---|
@@ -119,7 +131,7 @@ pub fn no_memory<S: Sink>(out: &mut S) -> u8
 /// | 5 | the file is missing, or was not read |
 /// | 6 | the words have no stated form |
 /// | 7 | there was no memory |
-/// | 8 | the sink failed, or the log was not written |
+/// | 8 | the sink failed, or the log or the made program was not written |
 pub fn check_call<F: Files, S: Sink>(
     alloc: Global,
     words: &[String],
@@ -139,9 +151,9 @@ pub fn check_call<F: Files, S: Sink>(
     ensures answered { IsUndisturbed (change_of F.told F.read_calls F.write_calls F.read_faults F.write_faults files.old files.new) (S.faults out.old) (S.faults out.new) → IsAnswered (asked_call (map string_bytes words.now)) (change_of F.told F.read_calls F.write_calls F.read_faults F.write_faults files.old files.new) (S.written out.old) (S.written out.new) result }
     // so what `check` is told fixes its status
     ensures decided { (name bytes : List ℕ) → IsCheck (asked_call (map string_bytes words.now)) name → F.told files.old name ≡ holds bytes → IsUndisturbed (change_of F.told F.read_calls F.write_calls F.read_faults F.write_faults files.old files.new) (S.faults out.old) (S.faults out.new) → IsDecided (level_named (asked_call (map string_bytes words.now))) bytes result ⊎ (result ≡ 7) }
-    // each file that is named is read once at most; and none is written but the log, which is written once at most
+    // each file that is named is read once at most; and none is written but the log or the made program, once at most
     ensures once { F.read_calls files.new ≤ F.read_calls files.old + length (files_named (asked_call (map string_bytes words.now))) }
-    ensures writes { Writes (log_named (asked_call (map string_bytes words.now))) (change_of F.told F.read_calls F.write_calls F.read_faults F.write_faults files.old files.new) }
+    ensures writes { Writes (written_named (asked_call (map string_bytes words.now))) (change_of F.told F.read_calls F.write_calls F.read_faults F.write_faults files.old files.new) }
     ensures reads { F.read_faults files.old ≤ F.read_faults files.new }
     ensures faults { S.faults out.old ≤ S.faults out.new }
 {

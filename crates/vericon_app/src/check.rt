@@ -120,6 +120,20 @@ pub fn find(alloc: Global, program: &Program, most: u8) -> Result<Finding, Alloc
     }
 }
 
+/// What is said of a program at the levels up to `most`, where no log is asked for.
+pub fn verdict(alloc: Global, program: &Program, most: u8) -> Result<Outcome, AllocError>
+    requires { most ≤ 9 }
+    ensures { IfOk result (λ outcome. ProgramOutput most None program.now [] None outcome.text.items (code_of outcome.status)) }
+{
+    match find(alloc, program, most)? {
+        Finding::Proven {
+            level,
+            proofs: _proofs,
+        } => yes(alloc, level),
+        Finding::Told(outcome) => Ok(outcome),
+    }
+}
+
 /// Writes the log of these proofs to a file, and then says yes.
 fn log_proofs<F: Files>(
     alloc: Global,

@@ -12,6 +12,7 @@ mod clauses;
 mod conditions;
 mod eval;
 mod frames;
+mod make;
 pub mod process;
 mod show;
 mod trace;
