@@ -2,7 +2,7 @@
 use Rattle.std.specs.Prelude.{ℕ, Bool, true, false, nat_le, if◌then◌else◌, List, [], ◌∷◌, Option, Some, None}
 use Rattle.text_lines.specs.Numbers.{number_of}
 use Rattle.command_words.specs.declared.table.Kind.{Kind}
-use Rattle.command_words.specs.declared.table.Kind.TheVariants.{Text, Number, NotYet}
+use Rattle.command_words.specs.declared.table.Kind.TheVariants.{Text, Number}
 
 -- the number that a word is, of at most 32 bits
 abbrev pub any_number : List ℕ → Option ℕ
@@ -16,7 +16,6 @@ is_at_least least (Some number) = nat_le least number
 abbrev pub fits : Kind → List ℕ → Bool
 fits Text word = true
 fits (Number least most) word = is_at_least least (number_of most word)
-fits NotYet word = false
 
 -- the words behind those that are of the kinds, one by one; none where one of them isn't
 abbrev pub behind_kinds : List Kind → List (List ℕ) → Option (List (List ℕ))

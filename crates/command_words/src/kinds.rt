@@ -25,7 +25,6 @@ pub fn fits(kind: Kind, word: &str) -> bool
             Some(number) => u64::from(least) <= number,
             None => false,
         },
-        Kind::NotYet => false,
     }
 }
 

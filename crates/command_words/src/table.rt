@@ -10,6 +10,7 @@ pub enum Command {
     Conditions,
     Clauses,
     Frames,
+    Make,
 }
 
 /// What a word may be.
@@ -19,8 +20,6 @@ pub enum Kind {
     Text,
     /// A decimal number from `least` to `most`, without a sign or leading zeros.
     Number { least: u32, most: u32 },
-    /// None: the option's word is kept for an option that is not served yet.
-    NotYet,
 }
 
 /// An option: its word, and what its value is.
@@ -37,21 +36,21 @@ pub type CommandRow = (
 
 const FILE: Kind = Kind::Text;
 
-const LEVEL: Kind = Kind::Number { least: 0, most: 0 };
+const LEVEL: Kind = Kind::Number { least: 0, most: 9 };
 
 const INDEX: Kind = Kind::Number {
     least: 0,
     most: 0xffff_ffff,
 };
 
-const STRENGTHEN: OptionRow = ("--strengthen", Kind::Number { least: 0, most: 9 });
+const COUNT: Kind = Kind::Number { least: 1, most: 60 };
 
-const STRENGTHEN_LATER: OptionRow = ("--strengthen", Kind::NotYet);
+const STRENGTHEN: OptionRow = ("--strengthen", LEVEL);
 
 const LOG: OptionRow = ("--log", FILE);
 
 /// The commands that are served.
-pub const COMMANDS: [CommandRow; 7] = [
+pub const COMMANDS: [CommandRow; 8] = [
     ("check", Command::Check, &[STRENGTHEN, LOG], &[FILE], &[]),
     ("show", Command::Show, &[], &[FILE], &[]),
     ("eval", Command::Eval, &[], &[FILE, FILE], &[LEVEL, INDEX]),
@@ -59,10 +58,11 @@ pub const COMMANDS: [CommandRow; 7] = [
     (
         "conditions",
         Command::Conditions,
-        &[STRENGTHEN_LATER],
+        &[STRENGTHEN],
         &[FILE],
         &[],
     ),
     ("clauses", Command::Clauses, &[], &[FILE], &[]),
     ("frames", Command::Frames, &[], &[FILE], &[]),
+    ("make", Command::Make, &[], &[COUNT, FILE], &[]),
 ];

@@ -1,10 +1,9 @@
 pub mod Outputs
+mod Checks
 mod Logged
 mod Starts
 mod Broken
-mod Writes
 mod Answered
-pub mod Exact
-pub mod Refused
-pub mod Eased
-mod Loading
+mod Yes
+mod Spelled
+mod Exact

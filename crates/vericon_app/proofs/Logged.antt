@@ -1,46 +1,63 @@
 -- What a yes has left in the log that was asked for.
-use Rattle.std.proofs.Common.{◌≡◌, ℕ, ◌≤◌, List, Option, Some, sym, ◌∙◌, subst, arith}
+use Rattle.std.proofs.Common.{◌≡◌, ℕ, ◌≤◌, true, List, Option, Some, None, sym, ◌∙◌, subst, arith}
 use Rattle.std.proofs.lemmas.Option.{same_Some}
 use Rattle.csdn_core.specs.declared.program.Parts.{Parts}
+use Rattle.csdn_read.specs.Programs.{Spells}
 use Rattle.vericon_edge.specs.FileAnswers.{NowHolds}
 use Rattle.vericon_edge.specs.Told.{Told, MayHold}
 use Rattle.command_words.specs.Call.{Call}
-use Rattle.vericon_app.specs.Calls.{IsCheck, level_named, log_named}
-use Rattle.vericon_app.specs.Inputs.{Inputs, Changes, was_read, was_refused, was_missing, was_longer, had_failed}
-use Rattle.vericon_app.specs.Programs.{Spells}
-use Rattle.vericon_app.specs.Check.{YesOutput, wants_no_log, has_logged, has_not_logged, ProgramOutput, is_proven, is_broken, is_not_decided, has_no_network, BytesOutput, is_program, is_no_program, CheckOutput}
+use Rattle.file_loads.specs.Views.{Change}
+use Rattle.file_loads.specs.Answers.{Answer}
+use Rattle.file_loads.specs.Writes.{Write, IsWritten, MayWrite}
+use Rattle.file_loads.specs.Explained.{IsExplained}
+use Rattle.file_loads.specs.Outputs.{Writing, was_done, had_failed}
+use Rattle.answer_listing.specs.Logs.{IsLogOf}
+use Rattle.vericon_app.specs.Calls.{IsCheck, files_named, level_named, log_named}
+use Rattle.vericon_app.specs.Check.{IsYesLine, YesOutput, wants_no_log, wants_log, ProgramOutput, is_proven, is_not_proven}
 use Rattle.vericon_app.specs.Output.{Output}
 use Rattle.vericon_app.specs.Left.{Finishes, all, front}
 use Rattle.vericon_app.specs.Logs.{IsLogged}
-use Rattle.vericon_app.proofs.Outputs.{checked}
+use Rattle.vericon_app.proofs.Checks.{CheckEnds, of_program, of_no_program, of_none, checked, not_proven_status, none_status}
 
-module _ (told : List ℕ → Told) (changes : Changes) (most : ℕ) (wanted : Option (List ℕ)) (log : List ℕ) (wants : wanted ≡ Some log) where
-  yes_logged : (file : Told) (bytes text : List ℕ) (status : ℕ) (P : Parts) (level : ℕ) → level ≤ most → MayHold file bytes → Spells bytes P → YesOutput told changes wanted P level text status → status ≡ 0 → IsLogged most file (told log) (changes.told log)
-  yes_logged file bytes text status P level within may spells (wants_no_log none text_is status_is) zero_is = absurd cc
-  yes_logged file bytes text status P level within may spells (has_logged name written named log_of holds text_is status_is) zero_is =
-      let same : name ≡ log = same_Some name log (sym named ∙ wants) in
-      record { bytes = bytes; parts = P; level = level; text = written; told_bytes = may; spells = spells; within = within; log_of = log_of; holds = subst (λ (n : List ℕ). NowHolds (told n) (changes.told n) written) same holds }
-  yes_logged file bytes text status P level within may spells (has_not_logged name named gone rose text_is status_is) zero_is = absurd (omega arith)
+module _ (change : Change) (most : ℕ) (log : List ℕ) where
+  -- a write that was done left its bytes in its file
+  writing_logged : (file : Told) (bytes text : List ℕ) (status : ℕ) (P : Parts) (level : ℕ) (name written : List ℕ) (answers : List Answer) (write : Option Write) → level ≤ most → MayHold file bytes → Spells bytes P → name ≡ log → IsLogOf P level written
+      → MayWrite change write → Writing name written (IsYesLine level) answers write text status → status ≡ 0 → IsLogged most file (change.before.told log) (change.after.told log)
+  writing_logged file bytes text status P level name written answers write within may spells same log_of writes (was_done none is said) zero_is =
+      let done : IsWritten change (record { name = name; bytes = written; is_done = true }) = subst (λ (w : Option Write). MayWrite change w) is writes in
+      record {
+        bytes = bytes;
+        parts = P;
+        level = level;
+        text = written;
+        told_bytes = may;
+        spells = spells;
+        within = within;
+        log_of = log_of;
+        holds = subst (λ (n : List ℕ). NowHolds (change.before.told n) (change.after.told n) written) same done.written.0;
+      }
+  writing_logged file bytes text status P level name written answers write within may spells same log_of writes (had_failed none is text_is status_is) zero_is = absurd (omega arith)
 
-  program_logged : (file : Told) (bytes text : List ℕ) (status : ℕ) (P : Parts) → MayHold file bytes → Spells bytes P → ProgramOutput told changes most wanted P text status → status ≡ 0 → IsLogged most file (told log) (changes.told log)
-  program_logged file bytes text status P may spells (is_proven level proofs proven out) zero_is = yes_logged file bytes text status P level proven.within may spells out zero_is
-  program_logged file bytes text status P may spells (is_broken level index case counter text_is status_is) zero_is = absurd (omega arith)
-  program_logged file bytes text status P may spells (is_not_decided level index why unknown text_is status_is) zero_is = absurd (omega arith)
-  program_logged file bytes text status P may spells (has_no_network proof unmet text_is status_is) zero_is = absurd (omega arith)
+  module _ (wanted : Option (List ℕ)) (wants : wanted ≡ Some log) where
+    yes_logged : (file : Told) (bytes text : List ℕ) (status : ℕ) (P : Parts) (level : ℕ) (answers : List Answer) (write : Option Write) → level ≤ most → MayHold file bytes → Spells bytes P → MayWrite change write → YesOutput wanted P level answers write text status → status ≡ 0
+        → IsLogged most file (change.before.told log) (change.after.told log)
+    yes_logged file bytes text status P level answers write within may spells writes (wants_no_log none said) zero_is = absurd cc
+    yes_logged file bytes text status P level answers write within may spells writes (wants_log name written named log_of said) zero_is =
+        writing_logged file bytes text status P level name written answers write within may spells (same_Some name log (sym named ∙ wants)) log_of writes said zero_is
 
-  bytes_logged : (file : Told) (name bytes text : List ℕ) (status : ℕ) → MayHold file bytes → BytesOutput told changes most wanted name bytes text status → status ≡ 0 → IsLogged most file (told log) (changes.told log)
-  bytes_logged file name bytes text status may (is_program P spells out) zero_is = program_logged file bytes text status P may spells out zero_is
-  bytes_logged file name bytes text status may (is_no_program at why refusal text_is status_is) zero_is = absurd (omega arith)
+    program_logged : (file : Told) (bytes text : List ℕ) (status : ℕ) (P : Parts) (answers : List Answer) (write : Option Write) → MayHold file bytes → Spells bytes P → MayWrite change write → ProgramOutput most wanted P answers write text status → status ≡ 0
+        → IsLogged most file (change.before.told log) (change.after.told log)
+    program_logged file bytes text status P answers write may spells writes (is_proven level proofs proven out) zero_is = yes_logged file bytes text status P level answers write proven.within may spells writes out zero_is
+    program_logged file bytes text status P answers write may spells writes (is_not_proven out) zero_is = absurd (not_proven_status most P text status out.said zero_is)
 
-file_logged : (given : Inputs) (changes : Changes) (most : ℕ) (wanted : Option (List ℕ)) (log name text : List ℕ) (status : ℕ) → wanted ≡ Some log → CheckOutput given changes most wanted name text status → status ≡ 0 → IsLogged most (given.told name) (given.told log) (changes.told log)
-file_logged given changes most wanted log name text status wants (was_read bytes may within out) zero_is = bytes_logged given.told changes most wanted log wants (given.told name) name bytes text status may out zero_is
-file_logged given changes most wanted log name text status wants (was_refused (was_missing may text_is status_is)) zero_is = absurd (omega arith)
-file_logged given changes most wanted log name text status wants (was_refused (was_longer may text_is status_is)) zero_is = absurd (omega arith)
-file_logged given changes most wanted log name text status wants (was_refused (had_failed rose text_is status_is)) zero_is = absurd (omega arith)
+    end_logged : (name text : List ℕ) (status : ℕ) → CheckEnds change most wanted name text status → status ≡ 0 → IsLogged most (change.before.told name) (change.before.told log) (change.after.told log)
+    end_logged name text status (of_program bytes P rest write may spells writes out) zero_is = program_logged (change.before.told name) bytes text status P rest write may spells writes out zero_is
+    end_logged name text status (of_no_program bytes at why may refusal status_is) zero_is = absurd (omega arith)
+    end_logged name text status (of_none answer may said) zero_is = absurd (none_status name text status answer said zero_is)
 
 -- a call of `check` that ends with 0 has written the log that it was asked for
-pub logged : (asked : Option Call) (given : Inputs) (changes : Changes) (text : List ℕ) (said : ℕ) (old new : Option (List ℕ)) (before after status : ℕ) (name log : List ℕ)
-    → Output asked given changes text said → Finishes text said old new before after status → IsCheck asked name → log_named asked ≡ Some log → status ≡ 0 → IsLogged (level_named asked) (given.told name) (given.told log) (changes.told log)
-logged asked given changes text said old new before after status name log out (all is grown steady) check wants zero_is =
-    file_logged given changes (level_named asked) (log_named asked) log name text said wants (checked asked given changes text said name check out) (sym is ∙ zero_is)
-logged asked given changes text said old new before after status name log out (front is grown rose) check wants zero_is = absurd (omega arith)
+pub logged : (asked : Option Call) (change : Change) (text : List ℕ) (said : ℕ) (old new : Option (List ℕ)) (before after status : ℕ) (name log : List ℕ)
+    → IsExplained change (files_named asked) (Output asked) text said → Finishes text said old new before after status → IsCheck asked name → log_named asked ≡ Some log → status ≡ 0 → IsLogged (level_named asked) (change.before.told name) (change.before.told log) (change.after.told log)
+logged asked change text said old new before after status name log out (all is grown steady) check wants zero_is =
+    end_logged change (level_named asked) log (log_named asked) wants name text said (checked asked change text said name check out) (sym is ∙ zero_is)
+logged asked change text said old new before after status name log out (front is grown rose) check wants zero_is = absurd (omega arith)

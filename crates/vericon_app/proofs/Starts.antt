@@ -29,7 +29,7 @@ use Rattle.vericon_decide.specs.Verdicts.{IsCaseOf}
 use Rattle.csdn_types.proofs.WholeProgram.{parts_well_sorted}
 use Rattle.text_facts.proofs.Facts.{from_text}
 use Rattle.vericon_app.specs.Broken.{EndsBroken}
-use Rattle.vericon_app.specs.Programs.{Spells}
+use Rattle.csdn_read.specs.Programs.{Spells}
 
 -- what bytes spell is well-sorted
 pub spelled_well : (bytes : List ℕ) (P : Parts) → Spells bytes P → IsWellSorted P

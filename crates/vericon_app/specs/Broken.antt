@@ -15,7 +15,7 @@ use Rattle.vericon_decide.specs.Verdicts.{IsCaseOf}
 use Rattle.answer_listing.specs.Counterexamples.{IsCounterexampleText}
 use Rattle.vericon_edge.specs.Told.{Told, MayHold}
 use Rattle.vericon_edge.specs.Written.{Grown}
-use Rattle.vericon_app.specs.Programs.{Spells}
+use Rattle.csdn_read.specs.Programs.{Spells}
 
 -- for `init k v` some run of k events from the initial state ends where the invariant v is false; of the other kinds nothing is said
 abbrev pub EndsBroken : Parts → Network → CondKind → Type 0

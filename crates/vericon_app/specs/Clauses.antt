@@ -1,11 +1,14 @@
 -- The output of `clauses`.
-use Rattle.std.specs.Prelude.{◌≡◌, ℕ, Bool, List, Err, if◌then◌else◌}
+use Rattle.std.specs.Prelude.{◌≡◌, ℕ, Bool, List, Option, Err, if◌then◌else◌}
 use Rattle.text_lines.specs.Machine.{reading}
 use Rattle.log_text.specs.LogText.{log_format}
 use Rattle.clause_listing.specs.Listings.{IsListing}
-use Rattle.vericon_app.specs.declared.source.FileKind.TheVariants.{Logs}
-use Rattle.vericon_app.specs.Inputs.{Inputs, WithFile}
-use Rattle.vericon_app.specs.Lines.{refused_line_text}
+use Rattle.file_loads.specs.declared.read.FileKind.TheVariants.{Logs}
+use Rattle.file_loads.specs.Lines.{refused_line_text}
+use Rattle.file_loads.specs.Answers.{Answer}
+use Rattle.file_loads.specs.Writes.{Write}
+use Rattle.file_loads.specs.Outputs.{Then}
+use Rattle.file_loads.specs.Loads.{WithBytes}
 
 -- What is said of a log text, and the status: the listing of its blocks, and whether every log is accepted; or its first bad line.
 pub data BlocksOutput (name bytes text : List ℕ) (status : ℕ) : Type 0 where
@@ -13,5 +16,5 @@ pub data BlocksOutput (name bytes text : List ℕ) (status : ℕ) : Type 0 where
   is_refused : (line : ℕ) → reading log_format bytes ≡ Err (record { number = line; reason = tt }) → text ≡ refused_line_text name line → status ≡ 3 → BlocksOutput name bytes text status
 
 -- `clauses FILE`
-abbrev pub ClausesOutput : Inputs → List ℕ → List ℕ → ℕ → Type 0
-ClausesOutput given name = WithFile given Logs name (BlocksOutput name)
+abbrev pub ClausesOutput : List ℕ → List Answer → Option Write → List ℕ → ℕ → Type 0
+ClausesOutput name = WithBytes Logs name (λ bytes. Then (BlocksOutput name bytes))

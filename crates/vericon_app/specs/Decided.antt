@@ -6,9 +6,9 @@ use Rattle.vericon_decide.specs.declared.answer.Why.{Why}
 use Rattle.vericon_decide.specs.declared.verdict.Proof.{Proof}
 use Rattle.vericon_decide.specs.Levels.{IsUnmet}
 use Rattle.vericon_decide.specs.Answers.{IsYes, IsCounter, IsUnknown}
-use Rattle.vericon_app.specs.declared.source.FileKind.TheVariants.{Program}
-use Rattle.vericon_app.specs.Programs.{Spells}
-use Rattle.vericon_app.specs.Inputs.{longest}
+use Rattle.file_loads.specs.declared.read.FileKind.TheVariants.{Program}
+use Rattle.csdn_read.specs.Programs.{Spells}
+use Rattle.file_loads.specs.Answers.{longest}
 
 -- The status of a check of these bytes at the levels up to `most`, by what they are. The cases exclude one another.
 pub data IsDecided (most : ℕ) (bytes : List ℕ) (status : ℕ) : Type 0 where

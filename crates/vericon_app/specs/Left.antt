@@ -2,7 +2,7 @@
 use Rattle.std.specs.Prelude.{◌≡◌, ℕ, List, Option}
 use Rattle.vericon_edge.specs.Counts.{Rose}
 use Rattle.vericon_edge.specs.Written.{Grown, GrownByFront}
-use Rattle.vericon_app.specs.Lines.{memory_text}
+use Rattle.file_loads.specs.Lines.{memory_text}
 
 -- Of a relation of outputs and statuses, the bytes written before and after, the count of the sink's faults before and after, and the status: an output whole; or the line `memory`; or, after a fault of the sink, a front of one of these.
 pub data HasLeft (output : List ℕ → ℕ → Type 0) (old new : Option (List ℕ)) (before after status : ℕ) : Type 0 where

@@ -1,13 +1,4 @@
-pub mod Status
 pub mod Calls
-pub mod Refusals
-pub mod Programs
-pub mod Lines
-pub mod Sources
-pub mod Inputs
-pub mod Written
-pub mod Loads
-pub mod LoadGives
 pub mod Check
 pub mod Show
 pub mod Eval
@@ -15,6 +6,7 @@ pub mod Conditions
 pub mod Trace
 pub mod Frames
 pub mod Clauses
+pub mod Make
 pub mod Output
 pub mod Left
 pub mod Quiet

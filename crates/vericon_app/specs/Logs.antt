@@ -4,7 +4,7 @@ use Rattle.csdn_core.specs.declared.program.Parts.{Parts}
 use Rattle.answer_listing.specs.Logs.{IsLogOf}
 use Rattle.vericon_edge.specs.FileAnswers.{NowHolds}
 use Rattle.vericon_edge.specs.Told.{Told, MayHold}
-use Rattle.vericon_app.specs.Programs.{Spells}
+use Rattle.csdn_read.specs.Programs.{Spells}
 
 -- Of what was told of the program's file, and of the log's before and after: the program's bytes spell a program, and the log's file now holds a log of it, at a level of at most `most`.
 pub record IsLogged (most : ℕ) (program before after : Told) : Type 0 where

@@ -1,13 +1,15 @@
 -- The output of `trace`.
-use Rattle.std.specs.Prelude.{◌≡◌, ℕ, List}
+use Rattle.std.specs.Prelude.{◌≡◌, ℕ, List, Option}
 use Rattle.csdn_core.specs.declared.program.Parts.{Parts}
 use Rattle.net_structs.specs.declared.case.Case.{Case}
 use Rattle.journal_text.specs.declared.note.Note.{Note}
 use Rattle.trace_listing.specs.declared.trace.Ending.{Ending}
 use Rattle.trace_listing.specs.declared.trace.Ending.TheVariants.{Unbroken, Broken, Stopped}
 use Rattle.trace_listing.specs.Traces.{IsTrace, start_of}
-use Rattle.vericon_app.specs.Inputs.{Inputs}
-use Rattle.vericon_app.specs.Loads.{WithProgram, WithCase, WithNotes}
+use Rattle.file_loads.specs.Answers.{Answer}
+use Rattle.file_loads.specs.Writes.{Write}
+use Rattle.file_loads.specs.Outputs.{Then}
+use Rattle.file_loads.specs.Loads.{WithProgram, WithCase, WithNotes}
 
 abbrev pub status_of : Ending → ℕ
 status_of Unbroken = 0
@@ -21,5 +23,5 @@ pub record NotesOutput (P : Parts) (kase : Case) (notes : List Note) (text : Lis
   pub status_is : status ≡ status_of ending
 
 -- `trace PROGRAM NET JOURNAL`
-abbrev pub TraceOutput : Inputs → List ℕ → List ℕ → List ℕ → List ℕ → ℕ → Type 0
-TraceOutput given name net journal = WithProgram given name (λ P. WithCase given P net (λ kase. WithNotes given journal (NotesOutput P kase)))
+abbrev pub TraceOutput : List ℕ → List ℕ → List ℕ → List Answer → Option Write → List ℕ → ℕ → Type 0
+TraceOutput name net journal = WithProgram name (λ P. WithCase P net (λ kase. WithNotes journal (λ notes. Then (NotesOutput P kase notes))))

@@ -4,7 +4,7 @@ use Rattle.csdn_core.specs.declared.program.Parts.{Parts}
 use Rattle.csdn_core.specs.Network.{Network}
 use Rattle.csdn_core.specs.Holds.{IsTopology, IsInductive, Holds}
 use Rattle.vericon_edge.specs.Told.{Told, MayHold}
-use Rattle.vericon_app.specs.Programs.{Spells}
+use Rattle.csdn_read.specs.Programs.{Spells}
 
 -- The file's bytes spell a program that is inductive at a level of at most `most`, and that holds each invariant in every network and every run. Some network meets its topology invariants.
 pub record IsVerified (most : ℕ) (told : Told) : Type 0 where

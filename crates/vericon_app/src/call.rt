@@ -1,45 +1,56 @@
 //! The call of a command that uses no network.
-ghost use Rattle.std.specs.Prelude.{◌≡◌, ◌≤◌, ◌+◌, ◌⊎◌, ℕ, false, List, map, string_bytes, IfOk};
-ghost use Rattle.vericon_app.specs.Status.{code_of};
+ghost use Rattle.std.specs.Prelude.{◌≡◌, ◌≤◌, ◌+◌, ◌⊎◌, ℕ, false, List, length, map, string_bytes, IfOk};
 ghost use Rattle.command_words.specs.Calls.{asked_call};
-ghost use Rattle.vericon_app.specs.Calls.{IsCheck, files_of, files_named, level_of, level_named, log_name, log_named};
-ghost use Rattle.vericon_app.specs.Lines.{memory_text};
-ghost use Rattle.vericon_app.specs.Inputs.{inputs_of, changes_of};
+ghost use Rattle.file_loads.specs.Status.{code_of};
+ghost use Rattle.file_loads.specs.Lines.{memory_text};
+ghost use Rattle.file_loads.specs.Views.{Touches, Writes, change_of};
+ghost use Rattle.file_loads.specs.Explained.{IsExplained};
+ghost use Rattle.vericon_app.specs.Calls.{IsCheck, files_of, files_named, level_named, log_named, number_or_zero, strength, written_name, written_named};
 ghost use Rattle.vericon_app.specs.Output.{CommandOutput, Output};
 ghost use Rattle.vericon_app.specs.Left.{HasLeft, Finishes};
 ghost use Rattle.vericon_app.specs.Verified.{IsVerified};
 ghost use Rattle.vericon_app.specs.Broken.{IsShownBroken};
 ghost use Rattle.vericon_app.specs.Logs.{IsLogged};
-ghost use Rattle.vericon_app.specs.Written.{WritesLog};
-ghost use Rattle.vericon_app.specs.Quiet.{IsUndisturbed, Answers};
+ghost use Rattle.vericon_app.specs.Quiet.{IsUndisturbed, IsAnswered};
 ghost use Rattle.vericon_app.specs.Decided.{IsDecided};
 ghost use Rattle.vericon_edge.specs.Told.{holds};
 
 use crate::check::check;
 use crate::clauses::clauses;
 use crate::conditions::conditions;
-use crate::eval::eval_call;
+use crate::eval::eval;
 use crate::frames::frames;
-use crate::lines::usage;
-use crate::outcome::{Outcome, Status};
+use crate::make::make;
 use crate::show::show;
 use crate::trace::trace;
 use command_words::request::Request;
 use command_words::request_of;
 use command_words::table::Command;
 use csdn_conditions::laws::start_is_initial;
+use file_loads::lines::usage;
+use file_loads::outcome::{Outcome, Status};
 use std::alloc::{AllocError, Global};
 use vericon_edge::files::Files;
 use vericon_edge::sink::{Sink, write_piece};
 
-/// The highest level that a call tries: the number behind `--strengthen`, and 0 where it isn't given.
-fn highest_level(request: &Request) -> u8
-    ensures level { result ≡ level_of request.now }
+/// A number as a level, at most 9; 0 where it isn't given.
+fn level_in(number: Option<u32>) -> u8
+    ensures level { result ≡ strength number }
     ensures within { result ≤ 9 }
 {
-    match request.option_number("--strengthen") {
+    match number {
         None => 0,
         Some(level) => level.min(9) as u8,
+    }
+}
+
+/// A number, and 0 where there is none.
+fn count_in(number: Option<u32>) -> u64
+    ensures { result ≡ number_or_zero number }
+{
+    match number {
+        None => 0,
+        Some(count) => u64::from(count),
     }
 }
 
@@ -49,25 +60,25 @@ fn run_request<F: Files>(
     request: &Request,
     files: &mut F,
 ) -> Result<Outcome, AllocError>
-    ensures output { IfOk result (λ outcome. CommandOutput request.now.command request.now (inputs_of F.told F.read_faults files.old files.new) (changes_of F.told F.write_faults files.old files.new) outcome.text.items (code_of outcome.status)) }
-    ensures writes { WritesLog (F.told files.old) (F.told files.new) (log_name request.now.command request.now) (F.write_faults files.old) (F.write_faults files.new) (F.write_calls files.old) (F.write_calls files.new) }
-    ensures later { F.read_faults files.old ≤ F.read_faults files.new }
-    ensures reads { F.read_calls files.new ≤ F.read_calls files.old + files_of request.now.command }
+    ensures output { IfOk result (λ outcome. IsExplained (change_of F.told F.read_calls F.write_calls F.read_faults F.write_faults files.old files.new) (files_of request.now.command request.now) (CommandOutput request.now.command request.now) outcome.text.items (code_of outcome.status)) }
+    ensures touches { Touches (length (files_of request.now.command request.now)) (written_name request.now.command request.now) (change_of F.told F.read_calls F.write_calls F.read_faults F.write_faults files.old files.new) }
 {
     let file = request.operand(0);
     let net = request.operand(1);
     let journal = request.operand(2);
+    let condition_level = level_in(request.number(2));
     let index = request.number(3);
     let log = request.option("--log");
-    let most = highest_level(request);
+    let most = level_in(request.option_number("--strengthen"));
     match request.command() {
         Command::Check => check(alloc, files, most, log, file),
         Command::Show => show(alloc, files, file),
-        Command::Eval => eval_call(alloc, files, file, net, index),
+        Command::Eval => eval(alloc, files, file, net, condition_level, index),
         Command::Trace => trace(alloc, files, file, net, journal),
-        Command::Conditions => conditions(alloc, files, file),
+        Command::Conditions => conditions(alloc, files, file, most),
         Command::Clauses => clauses(alloc, files, file),
         Command::Frames => frames(alloc, files, file),
+        Command::Make => make(alloc, files, count_in(request.number(0)), net),
     }
 }
 
@@ -77,10 +88,8 @@ fn run_words<F: Files>(
     words: &[String],
     files: &mut F,
 ) -> Result<Outcome, AllocError>
-    ensures output { IfOk result (λ outcome. Output (asked_call (map string_bytes words.now)) (inputs_of F.told F.read_faults files.old files.new) (changes_of F.told F.write_faults files.old files.new) outcome.text.items (code_of outcome.status)) }
-    ensures writes { WritesLog (F.told files.old) (F.told files.new) (log_named (asked_call (map string_bytes words.now))) (F.write_faults files.old) (F.write_faults files.new) (F.write_calls files.old) (F.write_calls files.new) }
-    ensures later { F.read_faults files.old ≤ F.read_faults files.new }
-    ensures reads { F.read_calls files.new ≤ F.read_calls files.old + files_named (asked_call (map string_bytes words.now)) }
+    ensures output { IfOk result (λ outcome. IsExplained (change_of F.told F.read_calls F.write_calls F.read_faults F.write_faults files.old files.new) (files_named (asked_call (map string_bytes words.now))) (Output (asked_call (map string_bytes words.now))) outcome.text.items (code_of outcome.status)) }
+    ensures touches { Touches (length (files_named (asked_call (map string_bytes words.now)))) (written_named (asked_call (map string_bytes words.now))) (change_of F.told F.read_calls F.write_calls F.read_faults F.write_faults files.old files.new) }
 {
     match request_of(words) {
         None => usage(alloc),
@@ -110,7 +119,7 @@ pub fn no_memory<S: Sink>(out: &mut S) -> u8
 }
 
 /// Serves the command that the words name, and gives its status. It writes its lines to the sink, and no file but
-/// the log that `check` was asked for.
+/// the log that `check` was asked for, or the program that `make` makes.
 ///
 /// | status | meaning |
 /// |---|---|
@@ -122,7 +131,7 @@ pub fn no_memory<S: Sink>(out: &mut S) -> u8
 /// | 5 | the file is missing, or was not read |
 /// | 6 | the words have no stated form |
 /// | 7 | there was no memory |
-/// | 8 | the sink failed, or the log was not written |
+/// | 8 | the sink failed, or the log or the made program was not written |
 pub fn check_call<F: Files, S: Sink>(
     alloc: Global,
     words: &[String],
@@ -130,8 +139,8 @@ pub fn check_call<F: Files, S: Sink>(
     out: &mut S,
 ) -> u8
     requires { S.has_failed out.old ≡ false }
-    // what is written, and its status
-    ensures output { HasLeft (Output (asked_call (map string_bytes words.now)) (inputs_of F.told F.read_faults files.old files.new) (changes_of F.told F.write_faults files.old files.new)) (S.written out.old) (S.written out.new) (S.faults out.old) (S.faults out.new) result }
+    // what is written, and its status: an output that goes with some answers of the files that are named, and with some write, which the files explain
+    ensures output { HasLeft (IsExplained (change_of F.told F.read_calls F.write_calls F.read_faults F.write_faults files.old files.new) (files_named (asked_call (map string_bytes words.now))) (Output (asked_call (map string_bytes words.now)))) (S.written out.old) (S.written out.new) (S.faults out.old) (S.faults out.new) result }
     // a yes: the program is inductive, and holds its invariants in every network and every run, and there is a network
     ensures yes { (name : List ℕ) → IsCheck (asked_call (map string_bytes words.now)) name → result ≡ 0 → IsVerified (level_named (asked_call (map string_bytes words.now))) (F.told files.old name) }
     // a counterexample: what is written shows a case of the condition that it names, and reads back; where that is of the start, some run breaks the invariant
@@ -139,12 +148,12 @@ pub fn check_call<F: Files, S: Sink>(
     // .. and where a log was asked for, its file holds a block for each condition, whose clauses are tied to the condition's sentence and refuted
     ensures logged { (name log : List ℕ) → IsCheck (asked_call (map string_bytes words.now)) name → log_named (asked_call (map string_bytes words.now)) ≡ Some log → result ≡ 0 → IsLogged (level_named (asked_call (map string_bytes words.now))) (F.told files.old name) (F.told files.old log) (F.told files.new log) }
     // where no fault was counted, want of memory is the only excuse
-    ensures answered { IsUndisturbed (inputs_of F.told F.read_faults files.old files.new) (changes_of F.told F.write_faults files.old files.new) (S.faults out.old) (S.faults out.new) → Answers (asked_call (map string_bytes words.now)) (F.told files.old) (F.told files.new) (S.written out.old) (S.written out.new) result }
+    ensures answered { IsUndisturbed (change_of F.told F.read_calls F.write_calls F.read_faults F.write_faults files.old files.new) (S.faults out.old) (S.faults out.new) → IsAnswered (asked_call (map string_bytes words.now)) (change_of F.told F.read_calls F.write_calls F.read_faults F.write_faults files.old files.new) (S.written out.old) (S.written out.new) result }
     // so what `check` is told fixes its status
-    ensures decided { (name bytes : List ℕ) → IsCheck (asked_call (map string_bytes words.now)) name → F.told files.old name ≡ holds bytes → IsUndisturbed (inputs_of F.told F.read_faults files.old files.new) (changes_of F.told F.write_faults files.old files.new) (S.faults out.old) (S.faults out.new) → IsDecided (level_named (asked_call (map string_bytes words.now))) bytes result ⊎ (result ≡ 7) }
-    // each file that is named is read once at most; and none is written but the log, which is written once at most
-    ensures once { F.read_calls files.new ≤ F.read_calls files.old + files_named (asked_call (map string_bytes words.now)) }
-    ensures writes { WritesLog (F.told files.old) (F.told files.new) (log_named (asked_call (map string_bytes words.now))) (F.write_faults files.old) (F.write_faults files.new) (F.write_calls files.old) (F.write_calls files.new) }
+    ensures decided { (name bytes : List ℕ) → IsCheck (asked_call (map string_bytes words.now)) name → F.told files.old name ≡ holds bytes → IsUndisturbed (change_of F.told F.read_calls F.write_calls F.read_faults F.write_faults files.old files.new) (S.faults out.old) (S.faults out.new) → IsDecided (level_named (asked_call (map string_bytes words.now))) bytes result ⊎ (result ≡ 7) }
+    // each file that is named is read once at most; and none is written but the log or the made program, once at most
+    ensures once { F.read_calls files.new ≤ F.read_calls files.old + length (files_named (asked_call (map string_bytes words.now))) }
+    ensures writes { Writes (written_named (asked_call (map string_bytes words.now))) (change_of F.told F.read_calls F.write_calls F.read_faults F.write_faults files.old files.new) }
     ensures reads { F.read_faults files.old ≤ F.read_faults files.new }
     ensures faults { S.faults out.old ≤ S.faults out.new }
 {

@@ -1,26 +1,36 @@
-//! `check [--log FILE] PROGRAM`: whether a program holds its invariants.
-ghost use Rattle.std.specs.Prelude.{◌≡◌, ◌+◌, ◌≤◌, IfOk, [], drop, option_map, true, false};
-ghost use Rattle.vericon_app.specs.Status.{code_of};
-ghost use Rattle.vericon_app.specs.Inputs.{inputs_of, changes_of};
+//! `check [--strengthen N] [--log FILE] PROGRAM`: whether a program holds its invariants.
+ghost use Rattle.std.specs.Prelude.{◌≡◌, ◌≤◌, [], ◌∷◌, IfOk, drop, option_map};
 ghost use Rattle.csdn_conditions.specs.Conditions.{conditions};
-ghost use Rattle.vericon_decide.specs.Levels.{AreProofsOf};
+ghost use Rattle.vericon_decide.specs.Levels.{AreProofsOf, IsUnmet};
 ghost use Rattle.vericon_decide.specs.Answers.{IsYes, IsCounter, IsUnknown};
-ghost use Rattle.answer_listing.specs.Words.{IsUnprovenLine};
-ghost use Rattle.answer_listing.specs.Counterexamples.{IsCounterexampleText};
-ghost use Rattle.vericon_app.specs.Check.{YesOutput, ProgramOutput, BytesOutput, CheckOutput};
-ghost use Rattle.vericon_app.specs.Written.{HasWritten, WritesLog};
+ghost use Rattle.file_loads.specs.declared.read.FileKind.TheVariants.{Program as ProgramFile};
+ghost use Rattle.file_loads.specs.Status.{code_of};
+ghost use Rattle.file_loads.specs.Views.{Touches, change_of};
+ghost use Rattle.file_loads.specs.Explained.{IsExplained};
+ghost use Rattle.vericon_app.specs.Check.{IsYesLine, YesOutput, IsNotProven, IsFinding, ProgramOutput, CheckOutput};
 
-use crate::lines::{no_network, refused, yes};
-use crate::outcome::{Outcome, Status};
-use crate::program::{ProgramRefusal, read_program};
-use crate::source::{FileKind, Source, read_file};
-use answer_listing::{counterexample_of, log_of, unproven_line};
+use answer_listing::{counterexample_of, log_of, no_network_line, unproven_line, yes_line};
 use csdn_core::program::Program;
+use file_loads::load::load_program;
+use file_loads::outcome::{Outcome, Status};
+use file_loads::read::Load;
+use file_loads::write::write_before;
 use net_structs::case::Case;
 use std::alloc::{AllocError, Global};
 use vericon_decide::answer::{Answer, Why, decide};
 use vericon_decide::verdict::Proof;
-use vericon_edge::files::{FileFault, Files};
+use vericon_edge::files::Files;
+
+/// `yes level LEVEL`
+pub fn yes(alloc: Global, level: u8) -> Result<Outcome, AllocError>
+    ensures { IfOk result (λ outcome. IsYesLine level outcome.text.items (code_of outcome.status)) }
+{
+    let text = yes_line(alloc, level)?;
+    Ok(Outcome {
+        text,
+        status: Status::Done,
+    })
+}
 
 /// `counterexample level N condition I KIND`, and the case.
 fn say_broken(
@@ -33,8 +43,7 @@ fn say_broken(
 ) -> Result<Outcome, AllocError>
     requires within { most ≤ 9 }
     requires broken { IsCounter program.now most level index case.now }
-    ensures text { IfOk result (λ outcome. IsCounterexampleText program.now level index case.now outcome.text.items) }
-    ensures status { IfOk result (λ outcome. code_of outcome.status ≡ 1) }
+    ensures { IfOk result (λ outcome. IsNotProven most program.now outcome.text.items (code_of outcome.status)) }
 {
     let text = counterexample_of(alloc, program, level, index, case)?;
     Ok(Outcome {
@@ -54,8 +63,7 @@ fn say_undecided(
 ) -> Result<Outcome, AllocError>
     requires within { most ≤ 9 }
     requires unknown { IsUnknown program.now most level index why }
-    ensures text { IfOk result (λ outcome. IsUnprovenLine program.now level index why outcome.text.items) }
-    ensures status { IfOk result (λ outcome. code_of outcome.status ≡ 2) }
+    ensures { IfOk result (λ outcome. IsNotProven most program.now outcome.text.items (code_of outcome.status)) }
 {
     let text = unproven_line(alloc, program, level, index, why)?;
     Ok(Outcome {
@@ -64,36 +72,65 @@ fn say_undecided(
     })
 }
 
-/// Writes a text to a file, and says whether it was written.
-fn write<F: Files>(
+/// `no network`, by a proof that none meets the topology invariants.
+fn say_unmet(
     alloc: Global,
-    files: &mut F,
-    name: &str,
-    text: &[u8],
-) -> Result<bool, AllocError>
-    ensures written { IfOk result (HasWritten (F.told files.old name.now) (F.told files.new name.now) text.now (F.write_faults files.old) (F.write_faults files.new)) }
-    ensures writes { WritesLog (F.told files.old) (F.told files.new) (Some name.now) (F.write_faults files.old) (F.write_faults files.new) (F.write_calls files.old) (F.write_calls files.new) }
-    ensures faults { F.read_faults files.new ≡ F.read_faults files.old }
-    ensures no_read { F.read_calls files.new ≡ F.read_calls files.old }
+    program: &Program,
+    most: u8,
+    proof: &Proof,
+) -> Result<Outcome, AllocError>
+    requires { IsUnmet program.now proof.now }
+    ensures { IfOk result (λ outcome. IsNotProven most program.now outcome.text.items (code_of outcome.status)) }
 {
-    match files.write_all(alloc, name, text) {
-        Ok(()) => Ok(true),
-        Err(FileFault::Memory) => Err(AllocError),
-        Err(FileFault::Failed) => Ok(false),
-        // No other fault comes of a write.
-        Err(FileFault::Missing) => Ok(false),
-        Err(FileFault::TooLong) => Ok(false),
+    let text = no_network_line(alloc)?;
+    Ok(Outcome {
+        text,
+        status: Status::NoNetwork,
+    })
+}
+
+/// What was found of a program.
+#[derive(Drop)]
+pub enum Finding {
+    /// It is proven at this level, by these proofs.
+    Proven { level: u8, proofs: Vec<Proof> },
+    /// It is not, and this is said of it.
+    Told(Outcome),
+}
+
+/// What is found of a program at the levels up to `most`.
+pub fn find(alloc: Global, program: &Program, most: u8) -> Result<Finding, AllocError>
+    requires { most ≤ 9 }
+    ensures { IfOk result (IsFinding most program.now) }
+{
+    match decide(alloc, program, most)? {
+        Answer::Yes { level, proofs } => Ok(Finding::Proven { level, proofs }),
+        Answer::Counter { level, index, case } => {
+            let told = say_broken(alloc, program, most, level, index, &case)?;
+            Ok(Finding::Told(told))
+        }
+        Answer::Unknown { level, index, why } => {
+            let told = say_undecided(alloc, program, most, level, index, why)?;
+            Ok(Finding::Told(told))
+        }
+        Answer::NoNetwork { proof } => {
+            let told = say_unmet(alloc, program, most, &proof)?;
+            Ok(Finding::Told(told))
+        }
     }
 }
 
-/// Nothing, since a file was not written.
-fn not_written(alloc: Global) -> Outcome
-    ensures text { result.text.items ≡ [] }
-    ensures status { code_of result.status ≡ 8 }
+/// What is said of a program at the levels up to `most`, where no log is asked for.
+pub fn verdict(alloc: Global, program: &Program, most: u8) -> Result<Outcome, AllocError>
+    requires { most ≤ 9 }
+    ensures { IfOk result (λ outcome. ProgramOutput most None program.now [] None outcome.text.items (code_of outcome.status)) }
 {
-    Outcome {
-        text: Vec::new(alloc),
-        status: Status::WriteFault,
+    match find(alloc, program, most)? {
+        Finding::Proven {
+            level,
+            proofs: _proofs,
+        } => yes(alloc, level),
+        Finding::Told(outcome) => Ok(outcome),
     }
 }
 
@@ -108,17 +145,12 @@ fn log_proofs<F: Files>(
 ) -> Result<Outcome, AllocError>
     requires within { level ≤ 9 }
     requires proofs { AreProofsOf program.now (drop 1 (conditions program.now level)) proofs.items }
-    ensures output { IfOk result (λ outcome. YesOutput (F.told files.old) (changes_of F.told F.write_faults files.old files.new) (Some name.now) program.now level outcome.text.items (code_of outcome.status)) }
-    ensures writes { WritesLog (F.told files.old) (F.told files.new) (Some name.now) (F.write_faults files.old) (F.write_faults files.new) (F.write_calls files.old) (F.write_calls files.new) }
-    ensures faults { F.read_faults files.new ≡ F.read_faults files.old }
-    ensures no_read { F.read_calls files.new ≡ F.read_calls files.old }
+    ensures output { IfOk result (λ outcome. IsExplained (change_of F.told F.read_calls F.write_calls F.read_faults F.write_faults files.old files.new) [] (YesOutput (Some name.now) program.now level) outcome.text.items (code_of outcome.status)) }
+    ensures touches { Touches 0 (Some name.now) (change_of F.told F.read_calls F.write_calls F.read_faults F.write_faults files.old files.new) }
 {
     let text = log_of(alloc, program, level, proofs)?;
-    if write(alloc, files, name, text.as_slice())? {
-        yes(alloc, level)
-    } else {
-        Ok(not_written(alloc))
-    }
+    let outcome = yes(alloc, level)?;
+    write_before(alloc, files, name, text.as_slice(), outcome)
 }
 
 /// What is said of a program that these proofs prove. Where a log is asked for, it is written first.
@@ -133,10 +165,8 @@ fn proven<F: Files>(
 ) -> Result<Outcome, AllocError>
     requires within { most ≤ 9 }
     requires proven { IsYes program.now most level proofs.items }
-    ensures output { IfOk result (λ outcome. YesOutput (F.told files.old) (changes_of F.told F.write_faults files.old files.new) (option_map (λ name. name.now) log.entry) program.now level outcome.text.items (code_of outcome.status)) }
-    ensures writes { WritesLog (F.told files.old) (F.told files.new) (option_map (λ name. name.now) log.entry) (F.write_faults files.old) (F.write_faults files.new) (F.write_calls files.old) (F.write_calls files.new) }
-    ensures faults { F.read_faults files.new ≡ F.read_faults files.old }
-    ensures no_read { F.read_calls files.new ≡ F.read_calls files.old }
+    ensures output { IfOk result (λ outcome. IsExplained (change_of F.told F.read_calls F.write_calls F.read_faults F.write_faults files.old files.new) [] (YesOutput (option_map (λ name. name.now) log.entry) program.now level) outcome.text.items (code_of outcome.status)) }
+    ensures touches { Touches 0 (option_map (λ name. name.now) log.entry) (change_of F.told F.read_calls F.write_calls F.read_faults F.write_faults files.old files.new) }
 {
     match log {
         None => yes(alloc, level),
@@ -153,42 +183,14 @@ fn check_program<F: Files>(
     program: &Program,
 ) -> Result<Outcome, AllocError>
     requires { most ≤ 9 }
-    ensures output { IfOk result (λ outcome. ProgramOutput (F.told files.old) (changes_of F.told F.write_faults files.old files.new) most (option_map (λ name. name.now) log.entry) program.now outcome.text.items (code_of outcome.status)) }
-    ensures writes { WritesLog (F.told files.old) (F.told files.new) (option_map (λ name. name.now) log.entry) (F.write_faults files.old) (F.write_faults files.new) (F.write_calls files.old) (F.write_calls files.new) }
-    ensures faults { F.read_faults files.new ≡ F.read_faults files.old }
-    ensures no_read { F.read_calls files.new ≡ F.read_calls files.old }
+    ensures output { IfOk result (λ outcome. IsExplained (change_of F.told F.read_calls F.write_calls F.read_faults F.write_faults files.old files.new) [] (ProgramOutput most (option_map (λ name. name.now) log.entry) program.now) outcome.text.items (code_of outcome.status)) }
+    ensures touches { Touches 0 (option_map (λ name. name.now) log.entry) (change_of F.told F.read_calls F.write_calls F.read_faults F.write_faults files.old files.new) }
 {
-    match decide(alloc, program, most)? {
-        Answer::Yes { level, proofs } => proven(alloc, files, log, program, most, level, proofs),
-        Answer::Counter { level, index, case } => {
-            say_broken(alloc, program, most, level, index, &case)
+    match find(alloc, program, most)? {
+        Finding::Proven { level, proofs } => {
+            proven(alloc, files, log, program, most, level, proofs)
         }
-        Answer::Unknown { level, index, why } => {
-            say_undecided(alloc, program, most, level, index, why)
-        }
-        Answer::NoNetwork { proof: _proof } => no_network(alloc),
-    }
-}
-
-/// What is said of the bytes of a program.
-fn check_bytes<F: Files>(
-    alloc: Global,
-    files: &mut F,
-    most: u8,
-    log: Option<&str>,
-    name: &str,
-    bytes: &[u8],
-) -> Result<Outcome, AllocError>
-    requires { most ≤ 9 }
-    ensures output { IfOk result (λ outcome. BytesOutput (F.told files.old) (changes_of F.told F.write_faults files.old files.new) most (option_map (λ name. name.now) log.entry) name.now bytes.now outcome.text.items (code_of outcome.status)) }
-    ensures writes { WritesLog (F.told files.old) (F.told files.new) (option_map (λ name. name.now) log.entry) (F.write_faults files.old) (F.write_faults files.new) (F.write_calls files.old) (F.write_calls files.new) }
-    ensures faults { F.read_faults files.new ≡ F.read_faults files.old }
-    ensures no_read { F.read_calls files.new ≡ F.read_calls files.old }
-{
-    match read_program(alloc, bytes) {
-        Ok(program) => check_program(alloc, files, most, log, &program),
-        Err(ProgramRefusal::At { at, why }) => refused(alloc, name, at, why),
-        Err(ProgramRefusal::Memory) => Err(AllocError),
+        Finding::Told(outcome) => Ok(outcome),
     }
 }
 
@@ -201,13 +203,11 @@ pub fn check<F: Files>(
     name: &str,
 ) -> Result<Outcome, AllocError>
     requires { most ≤ 9 }
-    ensures output { IfOk result (λ outcome. CheckOutput (inputs_of F.told F.read_faults files.old files.new) (changes_of F.told F.write_faults files.old files.new) most (option_map (λ name. name.now) log.entry) name.now outcome.text.items (code_of outcome.status)) }
-    ensures writes { WritesLog (F.told files.old) (F.told files.new) (option_map (λ name. name.now) log.entry) (F.write_faults files.old) (F.write_faults files.new) (F.write_calls files.old) (F.write_calls files.new) }
-    ensures later { F.read_faults files.old ≤ F.read_faults files.new }
-    ensures reads { F.read_calls files.new ≤ F.read_calls files.old + 1 }
+    ensures output { IfOk result (λ outcome. IsExplained (change_of F.told F.read_calls F.write_calls F.read_faults F.write_faults files.old files.new) (record { kind = ProgramFile; name = name.now } ∷ []) (CheckOutput most (option_map (λ name. name.now) log.entry) name.now) outcome.text.items (code_of outcome.status)) }
+    ensures touches { Touches 1 (option_map (λ name. name.now) log.entry) (change_of F.told F.read_calls F.write_calls F.read_faults F.write_faults files.old files.new) }
 {
-    match read_file(alloc, files, FileKind::Program, name)? {
-        Source::Bytes(bytes) => check_bytes(alloc, files, most, log, name, &bytes),
-        Source::Refused(outcome) => Ok(outcome),
+    match load_program(alloc, files, name)? {
+        Load::Loaded(program) => check_program(alloc, files, most, log, &program),
+        Load::Refused(outcome) => Ok(outcome),
     }
 }

@@ -1,13 +1,15 @@
 //! `clauses FILE`: whether the logs of a file are accepted, and answers to clauses without a log.
-ghost use Rattle.std.specs.Prelude.{◌≡◌, ◌+◌, ◌≤◌, IfOk, if◌then◌else◌};
-ghost use Rattle.vericon_app.specs.Status.{code_of};
-ghost use Rattle.vericon_app.specs.Inputs.{inputs_of};
+ghost use Rattle.std.specs.Prelude.{◌≡◌, [], ◌∷◌, IfOk, if◌then◌else◌};
+ghost use Rattle.file_loads.specs.declared.read.FileKind.TheVariants.{Logs};
+ghost use Rattle.file_loads.specs.Status.{code_of};
+ghost use Rattle.file_loads.specs.Views.{OnlyReads, change_of};
+ghost use Rattle.file_loads.specs.Explained.{IsExplained};
 ghost use Rattle.vericon_app.specs.Clauses.{BlocksOutput, ClausesOutput};
 
-use crate::lines::refused_line;
-use crate::outcome::{Outcome, Status};
-use crate::source::{FileKind, Source, read_file};
 use clause_listing::{Listing, list};
+use file_loads::lines::refused_line;
+use file_loads::outcome::{Outcome, Status};
+use file_loads::read::{FileKind, Load, read_file};
 use log_text::LogRefusal;
 use std::alloc::{AllocError, Global};
 use vericon_edge::files::Files;
@@ -41,15 +43,11 @@ fn list_blocks(alloc: Global, name: &str, bytes: &[u8]) -> Result<Outcome, Alloc
 
 /// What `clauses` says of a file.
 pub fn clauses<F: Files>(alloc: Global, files: &mut F, name: &str) -> Result<Outcome, AllocError>
-    ensures output { IfOk result (λ outcome. ClausesOutput (inputs_of F.told F.read_faults files.old files.new) name.now outcome.text.items (code_of outcome.status)) }
-    ensures told { F.told files.new ≡ F.told files.old }
-    ensures later { F.read_faults files.old ≤ F.read_faults files.new }
-    ensures writes { F.write_faults files.new ≡ F.write_faults files.old }
-    ensures reads { F.read_calls files.new ≤ F.read_calls files.old + 1 }
-    ensures no_write { F.write_calls files.new ≡ F.write_calls files.old }
+    ensures output { IfOk result (λ outcome. IsExplained (change_of F.told F.read_calls F.write_calls F.read_faults F.write_faults files.old files.new) (record { kind = Logs; name = name.now } ∷ []) (ClausesOutput name.now) outcome.text.items (code_of outcome.status)) }
+    ensures reads { OnlyReads 1 (change_of F.told F.read_calls F.write_calls F.read_faults F.write_faults files.old files.new) }
 {
     match read_file(alloc, files, FileKind::Logs, name)? {
-        Source::Bytes(bytes) => list_blocks(alloc, name, &bytes),
-        Source::Refused(outcome) => Ok(outcome),
+        Load::Loaded(bytes) => list_blocks(alloc, name, &bytes),
+        Load::Refused(outcome) => Ok(outcome),
     }
 }

@@ -1,38 +1,44 @@
 //! `conditions PROGRAM`: what has to be decided of a program, and which of it can be.
-ghost use Rattle.std.specs.Prelude.{◌≡◌, ◌+◌, ◌≤◌, IfOk};
-ghost use Rattle.vericon_app.specs.Status.{code_of};
-ghost use Rattle.vericon_app.specs.Inputs.{inputs_of};
+ghost use Rattle.std.specs.Prelude.{◌≡◌, ◌≤◌, [], ◌∷◌, IfOk};
+ghost use Rattle.file_loads.specs.declared.read.FileKind.TheVariants.{Program as ProgramFile};
+ghost use Rattle.file_loads.specs.Status.{code_of};
+ghost use Rattle.file_loads.specs.Views.{OnlyReads, change_of};
+ghost use Rattle.file_loads.specs.Explained.{IsExplained};
 ghost use Rattle.vericon_app.specs.Conditions.{ClassesOutput, ConditionsOutput};
 
-use crate::load::{Load, load_program};
-use crate::outcome::{Outcome, Status};
 use condition_listing::list;
 use csdn_core::program::Program;
+use file_loads::load::load_program;
+use file_loads::outcome::{Outcome, Status};
+use file_loads::read::Load;
 use std::alloc::{AllocError, Global};
 use vericon_edge::files::Files;
 
-/// The classes of a program's conditions.
-fn class_lines(alloc: Global, program: &Program) -> Result<Outcome, AllocError>
-    ensures { IfOk result (λ outcome. ClassesOutput program.now outcome.text.items (code_of outcome.status)) }
+/// The classes of a program's conditions at a level.
+fn class_lines(alloc: Global, program: &Program, level: u8) -> Result<Outcome, AllocError>
+    requires { level ≤ 9 }
+    ensures { IfOk result (λ outcome. ClassesOutput level program.now outcome.text.items (code_of outcome.status)) }
 {
-    let text = list(alloc, program, 0)?;
+    let text = list(alloc, program, level)?;
     Ok(Outcome {
         text,
         status: Status::Done,
     })
 }
 
-/// What `conditions` says of a program.
-pub fn conditions<F: Files>(alloc: Global, files: &mut F, name: &str) -> Result<Outcome, AllocError>
-    ensures output { IfOk result (λ outcome. ConditionsOutput (inputs_of F.told F.read_faults files.old files.new) name.now outcome.text.items (code_of outcome.status)) }
-    ensures told { F.told files.new ≡ F.told files.old }
-    ensures later { F.read_faults files.old ≤ F.read_faults files.new }
-    ensures writes { F.write_faults files.new ≡ F.write_faults files.old }
-    ensures reads { F.read_calls files.new ≤ F.read_calls files.old + 1 }
-    ensures no_write { F.write_calls files.new ≡ F.write_calls files.old }
+/// What `conditions` says of a program at a level.
+pub fn conditions<F: Files>(
+    alloc: Global,
+    files: &mut F,
+    name: &str,
+    level: u8,
+) -> Result<Outcome, AllocError>
+    requires { level ≤ 9 }
+    ensures output { IfOk result (λ outcome. IsExplained (change_of F.told F.read_calls F.write_calls F.read_faults F.write_faults files.old files.new) (record { kind = ProgramFile; name = name.now } ∷ []) (ConditionsOutput level name.now) outcome.text.items (code_of outcome.status)) }
+    ensures reads { OnlyReads 1 (change_of F.told F.read_calls F.write_calls F.read_faults F.write_faults files.old files.new) }
 {
     match load_program(alloc, files, name)? {
-        Load::Loaded(program) => class_lines(alloc, &program),
+        Load::Loaded(program) => class_lines(alloc, &program, level),
         Load::Refused(outcome) => Ok(outcome),
     }
 }

@@ -1,19 +1,21 @@
-//! `eval PROGRAM NET`: which invariants are true in a network. `eval PROGRAM NET 0 INDEX`: and whether a condition is.
-ghost use Rattle.std.specs.Prelude.{◌≡◌, ◌+◌, ◌<◌, ◌≤◌, IfOk, if◌then◌else◌, length};
+//! `eval PROGRAM NET`: which invariants are true in a network. `eval PROGRAM NET LEVEL INDEX`: and whether a condition is.
+ghost use Rattle.std.specs.Prelude.{◌≡◌, ◌<◌, ◌≤◌, [], ◌∷◌, IfOk, if◌then◌else◌, length};
 ghost use Rattle.csdn_conditions.specs.Kinds.{kinds};
-ghost use Rattle.vericon_app.specs.Status.{code_of};
-ghost use Rattle.vericon_app.specs.Inputs.{inputs_of};
-ghost use Rattle.vericon_app.specs.Loads.{WithCase};
-ghost use Rattle.vericon_app.specs.Eval.{TruthOutput, EvalOutput};
-ghost use Rattle.vericon_app.specs.Output.{EvalCallOutput};
-ghost use Rattle.vericon_app.specs.Conditions.{ConditionOutput, EvalConditionOutput, IsTold};
+ghost use Rattle.file_loads.specs.declared.read.FileKind.TheVariants.{Program as ProgramFile, Network as NetworkFile};
+ghost use Rattle.file_loads.specs.Status.{code_of};
+ghost use Rattle.file_loads.specs.Views.{OnlyReads, change_of};
+ghost use Rattle.file_loads.specs.Explained.{IsExplained};
+ghost use Rattle.file_loads.specs.Outputs.{Then};
+ghost use Rattle.file_loads.specs.Loads.{WithCase};
+ghost use Rattle.vericon_app.specs.Eval.{TruthOutput, IsTold, ConditionOutput, CaseOutput, EvalOutput};
 
-use crate::lines::usage;
-use crate::load::{Load, load_case, load_program};
-use crate::outcome::{Outcome, Status};
 use condition_listing::judge;
 use csdn_conditions::kinds::condition_count;
 use csdn_core::program::Program;
+use file_loads::lines::usage;
+use file_loads::load::{load_case, load_program};
+use file_loads::outcome::{Outcome, Status};
+use file_loads::read::Load;
 use net_listing::list;
 use net_structs::case::Case;
 use net_structs::state::State;
@@ -21,7 +23,7 @@ use std::alloc::{AllocError, Global};
 use vericon_edge::files::Files;
 
 /// The truth of a program's invariants in a case.
-fn case_lines(alloc: Global, program: &Program, case: &Case) -> Result<Outcome, AllocError>
+fn truths(alloc: Global, program: &Program, case: &Case) -> Result<Outcome, AllocError>
     ensures { IfOk result (λ outcome. TruthOutput program.now case.now outcome.text.items (code_of outcome.status)) }
 {
     let text = list(alloc, program, case)?;
@@ -29,46 +31,6 @@ fn case_lines(alloc: Global, program: &Program, case: &Case) -> Result<Outcome, 
         text,
         status: Status::Done,
     })
-}
-
-/// What is said of a program and the file of a network.
-fn eval_program<F: Files>(
-    alloc: Global,
-    files: &mut F,
-    net: &str,
-    program: &Program,
-) -> Result<Outcome, AllocError>
-    ensures output { IfOk result (λ outcome. WithCase (inputs_of F.told F.read_faults files.old files.new) program.now net.now (TruthOutput program.now) outcome.text.items (code_of outcome.status)) }
-    ensures told { F.told files.new ≡ F.told files.old }
-    ensures later { F.read_faults files.old ≤ F.read_faults files.new }
-    ensures writes { F.write_faults files.new ≡ F.write_faults files.old }
-    ensures reads { F.read_calls files.new ≤ F.read_calls files.old + 1 }
-    ensures no_write { F.write_calls files.new ≡ F.write_calls files.old }
-{
-    match load_case(alloc, files, program, net)? {
-        Load::Loaded(case) => case_lines(alloc, program, &case),
-        Load::Refused(outcome) => Ok(outcome),
-    }
-}
-
-/// What `eval` says of a program and a network.
-fn eval<F: Files>(
-    alloc: Global,
-    files: &mut F,
-    name: &str,
-    net: &str,
-) -> Result<Outcome, AllocError>
-    ensures output { IfOk result (λ outcome. EvalOutput (inputs_of F.told F.read_faults files.old files.new) name.now net.now outcome.text.items (code_of outcome.status)) }
-    ensures told { F.told files.new ≡ F.told files.old }
-    ensures later { F.read_faults files.old ≤ F.read_faults files.new }
-    ensures writes { F.write_faults files.new ≡ F.write_faults files.old }
-    ensures reads { F.read_calls files.new ≤ F.read_calls files.old + 2 }
-    ensures no_write { F.write_calls files.new ≡ F.write_calls files.old }
-{
-    match load_program(alloc, files, name)? {
-        Load::Loaded(program) => eval_program(alloc, files, net, &program),
-        Load::Refused(outcome) => Ok(outcome),
-    }
 }
 
 fn status_of(is_small: bool) -> Status
@@ -87,13 +49,15 @@ fn condition_lines(
     program: &Program,
     case: &Case,
     state: &State,
+    level: u8,
     index: u32,
 ) -> Result<Outcome, AllocError>
-    requires { index < length (kinds program.now 0) }
-    ensures { IfOk result (λ outcome. IsTold program.now index case.now state.now outcome.text.items (code_of outcome.status)) }
+    requires level { level ≤ 9 }
+    requires index { index < length (kinds program.now level) }
+    ensures { IfOk result (λ outcome. IsTold program.now level index case.now state.now outcome.text.items (code_of outcome.status)) }
 {
     let mut text = list(alloc, program, case)?;
-    let told = judge(alloc, program, &case.network, state, 0, index)?;
+    let told = judge(alloc, program, &case.network, state, level, index)?;
     text.extend_from_slice(&told.text)?;
     Ok(Outcome {
         text,
@@ -106,78 +70,73 @@ fn condition_in(
     alloc: Global,
     program: &Program,
     case: &Case,
+    level: u8,
     index: u32,
 ) -> Result<Outcome, AllocError>
-    ensures { IfOk result (λ outcome. ConditionOutput program.now index case.now outcome.text.items (code_of outcome.status)) }
+    requires { level ≤ 9 }
+    ensures { IfOk result (λ outcome. ConditionOutput program.now level index case.now outcome.text.items (code_of outcome.status)) }
 {
-    if index >= condition_count(program, 0) {
+    if index >= condition_count(program, level) {
         return usage(alloc);
     }
     match &case.state {
         None => usage(alloc),
-        Some(state) => condition_lines(alloc, program, case, state, index),
+        Some(state) => condition_lines(alloc, program, case, state, level, index),
     }
 }
 
-/// What is said of a condition of a program and the file of a network.
-fn eval_condition_in<F: Files>(
+/// What is said of a program and a case, and of a condition, where its number is given.
+fn case_lines(
     alloc: Global,
-    files: &mut F,
-    net: &str,
-    index: u32,
     program: &Program,
-) -> Result<Outcome, AllocError>
-    ensures output { IfOk result (λ outcome. WithCase (inputs_of F.told F.read_faults files.old files.new) program.now net.now (ConditionOutput program.now index) outcome.text.items (code_of outcome.status)) }
-    ensures told { F.told files.new ≡ F.told files.old }
-    ensures later { F.read_faults files.old ≤ F.read_faults files.new }
-    ensures writes { F.write_faults files.new ≡ F.write_faults files.old }
-    ensures reads { F.read_calls files.new ≤ F.read_calls files.old + 1 }
-    ensures no_write { F.write_calls files.new ≡ F.write_calls files.old }
-{
-    match load_case(alloc, files, program, net)? {
-        Load::Loaded(case) => condition_in(alloc, program, &case, index),
-        Load::Refused(outcome) => Ok(outcome),
-    }
-}
-
-/// What `eval` says of a program, a network and the number of a condition.
-fn eval_condition<F: Files>(
-    alloc: Global,
-    files: &mut F,
-    name: &str,
-    net: &str,
-    index: u32,
-) -> Result<Outcome, AllocError>
-    ensures output { IfOk result (λ outcome. EvalConditionOutput (inputs_of F.told F.read_faults files.old files.new) name.now net.now index outcome.text.items (code_of outcome.status)) }
-    ensures told { F.told files.new ≡ F.told files.old }
-    ensures later { F.read_faults files.old ≤ F.read_faults files.new }
-    ensures writes { F.write_faults files.new ≡ F.write_faults files.old }
-    ensures reads { F.read_calls files.new ≤ F.read_calls files.old + 2 }
-    ensures no_write { F.write_calls files.new ≡ F.write_calls files.old }
-{
-    match load_program(alloc, files, name)? {
-        Load::Loaded(program) => eval_condition_in(alloc, files, net, index, &program),
-        Load::Refused(outcome) => Ok(outcome),
-    }
-}
-
-/// What `eval` says of a program and a network, and of a condition, where its number is given.
-pub fn eval_call<F: Files>(
-    alloc: Global,
-    files: &mut F,
-    name: &str,
-    net: &str,
+    case: &Case,
+    level: u8,
     index: Option<u32>,
 ) -> Result<Outcome, AllocError>
-    ensures output { IfOk result (λ outcome. EvalCallOutput index (inputs_of F.told F.read_faults files.old files.new) name.now net.now outcome.text.items (code_of outcome.status)) }
-    ensures told { F.told files.new ≡ F.told files.old }
-    ensures later { F.read_faults files.old ≤ F.read_faults files.new }
-    ensures writes { F.write_faults files.new ≡ F.write_faults files.old }
-    ensures reads { F.read_calls files.new ≤ F.read_calls files.old + 2 }
-    ensures no_write { F.write_calls files.new ≡ F.write_calls files.old }
+    requires { level ≤ 9 }
+    ensures { IfOk result (λ outcome. CaseOutput level index program.now case.now outcome.text.items (code_of outcome.status)) }
 {
     match index {
-        None => eval(alloc, files, name, net),
-        Some(index) => eval_condition(alloc, files, name, net, index),
+        None => truths(alloc, program, case),
+        Some(index) => condition_in(alloc, program, case, level, index),
+    }
+}
+
+/// What is said of a program and the file of a network.
+fn eval_program<F: Files>(
+    alloc: Global,
+    files: &mut F,
+    net: &str,
+    program: &Program,
+    level: u8,
+    index: Option<u32>,
+) -> Result<Outcome, AllocError>
+    requires { level ≤ 9 }
+    ensures output { IfOk result (λ outcome. IsExplained (change_of F.told F.read_calls F.write_calls F.read_faults F.write_faults files.old files.new) (record { kind = NetworkFile; name = net.now } ∷ []) (WithCase program.now net.now (λ kase. Then (CaseOutput level index program.now kase))) outcome.text.items (code_of outcome.status)) }
+    ensures reads { OnlyReads 1 (change_of F.told F.read_calls F.write_calls F.read_faults F.write_faults files.old files.new) }
+{
+    match load_case(alloc, files, program, net)? {
+        Load::Loaded(case) => case_lines(alloc, program, &case, level, index),
+        Load::Refused(outcome) => Ok(outcome),
+    }
+}
+
+/// What `eval` says of a program and a network, and of the condition with this number at this level, where the number
+/// is given.
+pub fn eval<F: Files>(
+    alloc: Global,
+    files: &mut F,
+    name: &str,
+    net: &str,
+    level: u8,
+    index: Option<u32>,
+) -> Result<Outcome, AllocError>
+    requires { level ≤ 9 }
+    ensures output { IfOk result (λ outcome. IsExplained (change_of F.told F.read_calls F.write_calls F.read_faults F.write_faults files.old files.new) (record { kind = ProgramFile; name = name.now } ∷ record { kind = NetworkFile; name = net.now } ∷ []) (EvalOutput level index name.now net.now) outcome.text.items (code_of outcome.status)) }
+    ensures reads { OnlyReads 2 (change_of F.told F.read_calls F.write_calls F.read_faults F.write_faults files.old files.new) }
+{
+    match load_program(alloc, files, name)? {
+        Load::Loaded(program) => eval_program(alloc, files, net, &program, level, index),
+        Load::Refused(outcome) => Ok(outcome),
     }
 }

@@ -1,11 +1,13 @@
 //! `frames FILE`: what OpenFlow messages a file holds.
-ghost use Rattle.std.specs.Prelude.{◌≡◌, ◌+◌, ◌≤◌, IfOk};
-ghost use Rattle.vericon_app.specs.Status.{code_of};
-ghost use Rattle.vericon_app.specs.Inputs.{inputs_of};
+ghost use Rattle.std.specs.Prelude.{◌≡◌, [], ◌∷◌, IfOk};
+ghost use Rattle.file_loads.specs.declared.read.FileKind.TheVariants.{Frames as FramesFile};
+ghost use Rattle.file_loads.specs.Status.{code_of};
+ghost use Rattle.file_loads.specs.Views.{OnlyReads, change_of};
+ghost use Rattle.file_loads.specs.Explained.{IsExplained};
 ghost use Rattle.vericon_app.specs.Frames.{ListingOutput, FramesOutput};
 
-use crate::outcome::{Outcome, Status};
-use crate::source::{FileKind, Source, read_file};
+use file_loads::outcome::{Outcome, Status};
+use file_loads::read::{FileKind, Load, read_file};
 use of10_listing::list;
 use std::alloc::{AllocError, Global};
 use vericon_edge::files::Files;
@@ -28,15 +30,11 @@ fn list_bytes(alloc: Global, bytes: &[u8]) -> Result<Outcome, AllocError>
 
 /// What `frames` says of a file.
 pub fn frames<F: Files>(alloc: Global, files: &mut F, name: &str) -> Result<Outcome, AllocError>
-    ensures output { IfOk result (λ outcome. FramesOutput (inputs_of F.told F.read_faults files.old files.new) name.now outcome.text.items (code_of outcome.status)) }
-    ensures told { F.told files.new ≡ F.told files.old }
-    ensures later { F.read_faults files.old ≤ F.read_faults files.new }
-    ensures writes { F.write_faults files.new ≡ F.write_faults files.old }
-    ensures reads { F.read_calls files.new ≤ F.read_calls files.old + 1 }
-    ensures no_write { F.write_calls files.new ≡ F.write_calls files.old }
+    ensures output { IfOk result (λ outcome. IsExplained (change_of F.told F.read_calls F.write_calls F.read_faults F.write_faults files.old files.new) (record { kind = FramesFile; name = name.now } ∷ []) (FramesOutput name.now) outcome.text.items (code_of outcome.status)) }
+    ensures reads { OnlyReads 1 (change_of F.told F.read_calls F.write_calls F.read_faults F.write_faults files.old files.new) }
 {
     match read_file(alloc, files, FileKind::Frames, name)? {
-        Source::Bytes(bytes) => list_bytes(alloc, &bytes),
-        Source::Refused(outcome) => Ok(outcome),
+        Load::Loaded(bytes) => list_bytes(alloc, &bytes),
+        Load::Refused(outcome) => Ok(outcome),
     }
 }

@@ -1,8 +1,9 @@
 //! The commands: from words and files to lines and a status.
 //!
 //! Each command is a function from files to its whole output and status. One function writes it. What a
-//! command may print is one relation between its words, what the files tell, its text and its status
-//! (`specs/`, docs/DEFINITIONS.md); `check_call` promises it for every byte and every status.
+//! command may print is one relation between its words, what its reads answered, what it wrote to a file, its text and
+//! its status (`specs/`, docs/DEFINITIONS.md); `check_call` promises it for every byte and every status, of answers and a
+//! write that the files explain.
 #![tactic(auto)]
 
 pub mod call;
@@ -11,12 +12,7 @@ mod clauses;
 mod conditions;
 mod eval;
 mod frames;
-pub mod laws;
-mod lines;
-mod load;
-mod outcome;
+mod make;
 pub mod process;
-mod program;
 mod show;
-mod source;
 mod trace;

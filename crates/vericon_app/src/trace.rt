@@ -1,13 +1,17 @@
 //! `trace PROGRAM NET JOURNAL`: what a journal's notes lead to.
-ghost use Rattle.std.specs.Prelude.{◌≡◌, ◌+◌, ◌≤◌, IfOk};
-ghost use Rattle.vericon_app.specs.Status.{code_of};
-ghost use Rattle.vericon_app.specs.Inputs.{inputs_of};
-ghost use Rattle.vericon_app.specs.Loads.{WithCase, WithNotes};
+ghost use Rattle.std.specs.Prelude.{◌≡◌, [], ◌∷◌, IfOk};
+ghost use Rattle.file_loads.specs.declared.read.FileKind.TheVariants.{Program as ProgramFile, Network as NetworkFile, Journal as JournalFile};
+ghost use Rattle.file_loads.specs.Status.{code_of};
+ghost use Rattle.file_loads.specs.Views.{OnlyReads, change_of};
+ghost use Rattle.file_loads.specs.Explained.{IsExplained};
+ghost use Rattle.file_loads.specs.Outputs.{Then};
+ghost use Rattle.file_loads.specs.Loads.{WithCase, WithNotes};
 ghost use Rattle.vericon_app.specs.Trace.{NotesOutput, TraceOutput, status_of as status_number};
 
-use crate::load::{Load, load_case, load_notes, load_program};
-use crate::outcome::{Outcome, Status};
 use csdn_core::program::Program;
+use file_loads::load::{load_case, load_notes, load_program};
+use file_loads::outcome::{Outcome, Status};
+use file_loads::read::Load;
 use journal_text::Note;
 use net_structs::case::Case;
 use std::alloc::{AllocError, Global};
@@ -48,12 +52,8 @@ fn trace_case<F: Files>(
     program: &Program,
     case: Case,
 ) -> Result<Outcome, AllocError>
-    ensures output { IfOk result (λ outcome. WithNotes (inputs_of F.told F.read_faults files.old files.new) journal.now (NotesOutput program.now case) outcome.text.items (code_of outcome.status)) }
-    ensures told { F.told files.new ≡ F.told files.old }
-    ensures later { F.read_faults files.old ≤ F.read_faults files.new }
-    ensures writes { F.write_faults files.new ≡ F.write_faults files.old }
-    ensures reads { F.read_calls files.new ≤ F.read_calls files.old + 1 }
-    ensures no_write { F.write_calls files.new ≡ F.write_calls files.old }
+    ensures output { IfOk result (λ outcome. IsExplained (change_of F.told F.read_calls F.write_calls F.read_faults F.write_faults files.old files.new) (record { kind = JournalFile; name = journal.now } ∷ []) (WithNotes journal.now (λ notes. Then (NotesOutput program.now case notes))) outcome.text.items (code_of outcome.status)) }
+    ensures reads { OnlyReads 1 (change_of F.told F.read_calls F.write_calls F.read_faults F.write_faults files.old files.new) }
 {
     match load_notes(alloc, files, journal)? {
         Load::Loaded(notes) => trace_notes(alloc, program, case, notes.as_slice()),
@@ -69,12 +69,8 @@ fn trace_program<F: Files>(
     journal: &str,
     program: &Program,
 ) -> Result<Outcome, AllocError>
-    ensures output { IfOk result (λ outcome. WithCase (inputs_of F.told F.read_faults files.old files.new) program.now net.now (λ case. WithNotes (inputs_of F.told F.read_faults files.old files.new) journal.now (NotesOutput program.now case)) outcome.text.items (code_of outcome.status)) }
-    ensures told { F.told files.new ≡ F.told files.old }
-    ensures later { F.read_faults files.old ≤ F.read_faults files.new }
-    ensures writes { F.write_faults files.new ≡ F.write_faults files.old }
-    ensures reads { F.read_calls files.new ≤ F.read_calls files.old + 2 }
-    ensures no_write { F.write_calls files.new ≡ F.write_calls files.old }
+    ensures output { IfOk result (λ outcome. IsExplained (change_of F.told F.read_calls F.write_calls F.read_faults F.write_faults files.old files.new) (record { kind = NetworkFile; name = net.now } ∷ record { kind = JournalFile; name = journal.now } ∷ []) (WithCase program.now net.now (λ kase. WithNotes journal.now (λ notes. Then (NotesOutput program.now kase notes)))) outcome.text.items (code_of outcome.status)) }
+    ensures reads { OnlyReads 2 (change_of F.told F.read_calls F.write_calls F.read_faults F.write_faults files.old files.new) }
 {
     match load_case(alloc, files, program, net)? {
         Load::Loaded(case) => trace_case(alloc, files, journal, program, case),
@@ -90,12 +86,8 @@ pub fn trace<F: Files>(
     net: &str,
     journal: &str,
 ) -> Result<Outcome, AllocError>
-    ensures output { IfOk result (λ outcome. TraceOutput (inputs_of F.told F.read_faults files.old files.new) name.now net.now journal.now outcome.text.items (code_of outcome.status)) }
-    ensures told { F.told files.new ≡ F.told files.old }
-    ensures later { F.read_faults files.old ≤ F.read_faults files.new }
-    ensures writes { F.write_faults files.new ≡ F.write_faults files.old }
-    ensures reads { F.read_calls files.new ≤ F.read_calls files.old + 3 }
-    ensures no_write { F.write_calls files.new ≡ F.write_calls files.old }
+    ensures output { IfOk result (λ outcome. IsExplained (change_of F.told F.read_calls F.write_calls F.read_faults F.write_faults files.old files.new) (record { kind = ProgramFile; name = name.now } ∷ record { kind = NetworkFile; name = net.now } ∷ record { kind = JournalFile; name = journal.now } ∷ []) (TraceOutput name.now net.now journal.now) outcome.text.items (code_of outcome.status)) }
+    ensures reads { OnlyReads 3 (change_of F.told F.read_calls F.write_calls F.read_faults F.write_faults files.old files.new) }
 {
     match load_program(alloc, files, name)? {
         Load::Loaded(program) => trace_program(alloc, files, net, journal, &program),

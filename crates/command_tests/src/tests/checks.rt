@@ -14,8 +14,22 @@ const ARMED_LATER: &[u8] =
     b"rel armed(); safety A: not armed(); pktIn(s, src->dst, i) { armed.insert(); }";
 
 /// No invariant says that `p` stays false, which it does.
-const LATER: &[u8] =
+pub(crate) const LATER: &[u8] =
     b"rel p(); rel q(); safety A: not q(); pktIn(s, src->dst, i) { if p() { q.insert(); } }";
+
+/// The firewall lets all packets through.
+const OPEN_WALL: &[u8] = b"rel tr(SW, HO);
+safety guarded: forall S:SW, A:HO, B:HO. S.sent(A->B, prt(2)->prt(1)) -> tr(S, A);
+pktIn(s, src->dst, prt(1)) {
+  s.forward(src->dst, prt(1)->prt(2));
+  tr.insert(s, dst);
+  s.install(src->dst, prt(1)->prt(2));
+}
+pktIn(s, src->dst, prt(2)) {
+  s.forward(src->dst, prt(2)->prt(1));
+  s.install(src->dst, prt(2)->prt(1));
+}
+";
 
 const ONE_PORT_AT_LEAST: &[u8] = b"rel conn(SW, PR, HO);
 trans no_black_hole: forall S:SW, A:HO, B:HO, I:PR. S.rcv_this(A->B, I) -> (exists O:PR. S.sent(A->B, I->O));
@@ -169,6 +183,12 @@ const LEVELS: &[Call] = &[
         &[LATER],
         b"yes level 1\n",
         0,
+    ),
+    (
+        &["check", "--strengthen", "1", "p"],
+        &[OPEN_WALL],
+        b"counterexample level 1 condition 2 init 1 guarded\n",
+        1,
     ),
     (
         &["check", "--strengthen", "10", "p"],

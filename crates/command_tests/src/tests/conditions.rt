@@ -1,4 +1,5 @@
 //! Whole outputs of `conditions` and of `eval` with a condition, worked by hand from the documents of the commands.
+use super::checks::LATER;
 use super::*;
 
 const LEARNING: &[u8] = b"rel conn(SW, PR, HO);
@@ -14,6 +15,8 @@ const WITH_STATE: &[u8] = b"vericon-net 1\nsw 1\nho 1 2\npr 1\nstate\nt r 1\nend
 const NO_STATE: &[u8] = b"vericon-net 1\nsw 1\nho 1 2\npr 1\nend\n";
 
 const TWO_HOLD: &[u8] = b"vericon-net 1\nsw 1\nho 1 2\npr 1\nstate\nt r 1\nt r 2\nend\n";
+
+const ONE_HOST: &[u8] = b"vericon-net 1\nsw 1\nho 1\npr 1\nstate\nt r 1\nend\n";
 
 const EMPTY_STATE: &[u8] = b"vericon-net 1\nsw 1\nho 1 2\npr 1 2\nstate\nend\n";
 
@@ -52,6 +55,18 @@ const CLASSES: &[Call] = &[
         &[b""],
         b"p refused at 0: Unexpected\n",
         3,
+    ),
+    (
+        &["conditions", "--strengthen", "0", "p"],
+        &[LATER],
+        b"0 network inside\n1 init 0 A inside\n2 step A pktIn inside\n3 step A pktFlow inside\n",
+        0,
+    ),
+    (
+        &["conditions", "--strengthen", "1", "p"],
+        &[LATER],
+        b"0 network inside\n1 init 0 A inside\n2 init 1 A inside\n3 step A pktIn inside\n4 step A pktFlow inside\n",
+        0,
     ),
 ];
 
@@ -113,9 +128,58 @@ fn a_condition_is_looked_at_in_a_state(rt: HostRuntime) -> Result<(), Fail> {
     prints(&rt, rt.alloc(), LOOKS)
 }
 
-const SPELLINGS: &[Call] = &[
+/// At level 1 of `ONE` the conditions are those of the network, `init 0`, `init 1`, and the steps of a packet and of a flow.
+const LOOKS_HIGHER: &[Call] = &[
     (
         &["eval", "p", "n", "1", "0"],
+        &[ONE, WITH_STATE],
+        b"safety one true\nhypothesis true\ngoal false\n",
+        0,
+    ),
+    // this is not the initial state, and a packet from host 2 would be the second
+    (
+        &["eval", "p", "n", "1", "2"],
+        &[ONE, WITH_STATE],
+        b"safety one true\nhypothesis false\ngoal false\n",
+        0,
+    ),
+    // so not every run of one event keeps the invariant
+    (
+        &["eval", "p", "n", "1", "3"],
+        &[ONE, WITH_STATE],
+        b"safety one true\nhypothesis false\ngoal false\n",
+        0,
+    ),
+    // there is no rule by which a packet flows
+    (
+        &["eval", "p", "n", "1", "4"],
+        &[ONE, WITH_STATE],
+        b"safety one true\nhypothesis false\ngoal true\n",
+        0,
+    ),
+    // of one host there is no second
+    (
+        &["eval", "p", "n", "1", "3"],
+        &[ONE, ONE_HOST],
+        b"safety one true\nhypothesis true\ngoal true\n",
+        0,
+    ),
+    (
+        &["eval", "p", "n", "1", "5"],
+        &[ONE, WITH_STATE],
+        b"usage\n",
+        6,
+    ),
+];
+
+#[test]
+fn a_condition_of_a_level_is_looked_at_in_a_state(rt: HostRuntime) -> Result<(), Fail> {
+    prints(&rt, rt.alloc(), LOOKS_HIGHER)
+}
+
+const SPELLINGS: &[Call] = &[
+    (
+        &["eval", "p", "n", "10", "0"],
         &[ONE, WITH_STATE],
         b"usage\n",
         6,
@@ -157,6 +221,14 @@ const SPELLINGS: &[Call] = &[
         b"usage\n",
         6,
     ),
+    (
+        &["conditions", "--strengthen", "01", "p"],
+        &[ONE, WITH_STATE],
+        b"usage\n",
+        6,
+    ),
+    (&["make", "0", "q"], &[ONE], b"usage\n", 6),
+    (&["make", "61", "q"], &[ONE], b"usage\n", 6),
 ];
 
 #[test]

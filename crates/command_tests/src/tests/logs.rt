@@ -1,4 +1,4 @@
-//! Logs that `check` writes.
+//! Logs that `check` writes, and programs that `make` does.
 use super::checks::{ONE_KEPT, TWO_PORTS_AT_LEAST};
 use super::conditions::LINKED;
 use super::*;
@@ -75,6 +75,37 @@ const LOGGED: &[Steps] = &[
     ),
 ];
 
+const MADE: &[Steps] = &[
+    (
+        ARMED,
+        &["make", "2", "l"],
+        b"made 2 bytes 126\nconditions 4\nyes level 0\n",
+        0,
+        &["show", "l"],
+        b"rel r1(HO);\nrel r2(HO);\nsafety s2: forall X:HO. r2(X) -> r1(X);\npktIn(s, src->dst, i) {\n  r1.insert(src);\n  r2.insert(src);\n}\n",
+        0,
+    ),
+    // another file is left as it was
+    (
+        ARMED,
+        &["make", "1", "l"],
+        b"made 1 bytes 56\nconditions 1\nyes level 0\n",
+        0,
+        &["check", "p"],
+        b"yes level 0\n",
+        0,
+    ),
+    (
+        ARMED,
+        &["make", "60", "p"],
+        b"made 60 bytes 4440\nconditions 178\nyes level 0\n",
+        0,
+        &["eval", "p", "n", "0", "178"],
+        b"missing n\n",
+        5,
+    ),
+];
+
 // Each call prints what stands in its row.
 fn prints_in_turn(rt: &impl Abort, alloc: Global, rows: &[Steps]) -> Result<(), Fail> {
     for (
@@ -111,14 +142,23 @@ fn a_yes_leaves_a_log_that_is_accepted(rt: HostRuntime) -> Result<(), Fail> {
 }
 
 #[test]
-fn a_log_that_is_not_written_leaves_no_yes(rt: HostRuntime) -> Result<(), Fail> {
+fn a_made_program_stands_in_its_file(rt: HostRuntime) -> Result<(), Fail> {
+    prints_in_turn(&rt, rt.alloc(), MADE)
+}
+
+const WRITERS: &[&[&str]] = &[&["check", "--log", "l", "p"], &["make", "2", "l"]];
+
+#[test]
+fn where_a_file_is_not_written_nothing_is_said(rt: HostRuntime) -> Result<(), Fail> {
     let alloc = rt.alloc();
-    let writes = FaultPlan::new(vec![in alloc; 1]?);
-    let mut files = MemFiles::new(alloc, FaultPlan::none(alloc), writes);
-    files.write_all(alloc, "p", ARMED)?;
-    let mut out = MemSink::new(alloc, 1000, FaultPlan::none(alloc));
-    let words = words_of(alloc, &["check", "--log", "l", "p"])?;
-    assert_eq!(rt; check_call(alloc, &words, &mut files, &mut out), 8);
-    assert_eq!(rt; out.bytes(), b"".as_slice());
+    for words in WRITERS {
+        let writes = FaultPlan::new(vec![in alloc; 1]?);
+        let mut files = MemFiles::new(alloc, FaultPlan::none(alloc), writes);
+        files.write_all(alloc, "p", ARMED)?;
+        let mut out = MemSink::new(alloc, 1000, FaultPlan::none(alloc));
+        let words = words_of(alloc, words)?;
+        assert_eq!(rt; check_call(alloc, &words, &mut files, &mut out), 8);
+        assert_eq!(rt; out.bytes(), b"".as_slice());
+    }
     Ok(())
 }

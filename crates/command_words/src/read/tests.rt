@@ -8,8 +8,8 @@ use std::test::Fail;
 /// The words of a call, and what they ask for.
 type Case = (&'static [&'static str], &'static str);
 
-/// Commands with options that are served later.
-const LATER: [CommandRow; 3] = [
+/// Commands with numbers among their options and operands.
+const NUMBERED: [CommandRow; 3] = [
     (
         "check",
         Command::Check,
@@ -113,7 +113,8 @@ const TODAY: &[Case] = &[
     (&["eval", "p", "n"], "Eval p n"),
     (&["eval", "p", "n", "0"], "usage"),
     (&["eval", "p", "n", "0", "12"], "Eval p n 0 12"),
-    (&["eval", "p", "n", "1", "12"], "usage"),
+    (&["eval", "p", "n", "9", "12"], "Eval p n 9 12"),
+    (&["eval", "p", "n", "10", "12"], "usage"),
     (&["eval", "p", "n", "00", "12"], "usage"),
     (&["eval", "p", "n", "0", "01"], "usage"),
     (&["eval", "p", "n", "0", "+1"], "usage"),
@@ -128,12 +129,19 @@ const TODAY: &[Case] = &[
     (&["trace", "p", "n"], "usage"),
     (&["conditions", "p"], "Conditions p"),
     (&["conditions", "--strengthen"], "usage"),
+    (
+        &["conditions", "--strengthen", "9", "p"],
+        "Conditions --strengthen=9 p",
+    ),
     (&["conditions", "--log"], "Conditions --log"),
     (&["clauses", "c"], "Clauses c"),
     (&["frames", "f"], "Frames f"),
     (&["frames", ""], "Frames"),
     (&["run", "p", "n"], "usage"),
-    (&["make", "2", "f"], "usage"),
+    (&["make", "2", "f"], "Make 2 f"),
+    (&["make", "0", "f"], "usage"),
+    (&["make", "61", "f"], "usage"),
+    (&["make", "2"], "usage"),
 ];
 
 #[test]
@@ -185,7 +193,7 @@ const OPTIONS: &[Case] = &[
 
 #[test]
 fn options_and_numbers_are_read_by_the_table(rt: HostRuntime) -> Result<(), Fail> {
-    ask_for(&rt, rt.alloc(), &LATER, OPTIONS)
+    ask_for(&rt, rt.alloc(), &NUMBERED, OPTIONS)
 }
 
 // The number that an operand of a call is, and the one that the value of an option is.
@@ -196,7 +204,7 @@ fn numbers(
     option: &str,
 ) -> Result<(Option<u32>, Option<u32>), Fail> {
     let owned = words_of(alloc, words)?;
-    match read_call(&LATER, &owned) {
+    match read_call(&NUMBERED, &owned) {
         Some(request) => Ok((request.number(index), request.option_number(option))),
         None => Ok((None, None)),
     }

@@ -1,7 +1,7 @@
 use Rattle.std.proofs.Common.{ℕ, List, sym, subst}
 use Rattle.clause_listing.specs.Listings.{IsListing}
+use Rattle.file_loads.proofs.Explaining.{if_ok}
 use Rattle.vericon_app.specs.Clauses.{is_listing, is_refused}
-use Rattle.vericon_app.proofs.Outputs.{if_ok_both}
 use Rattle.vericon_app.proofs.clauses.list_blocks.Goals as goal
 
 pub returns-in-Ok : goal.returns-in-Ok
@@ -10,4 +10,4 @@ returns-in-Ok c =
 
 pub returns-in-Err-Line : goal.returns-in-Err-Line
 returns-in-Err-Line c =
-    if_ok_both c.refused_line.result _ _ _ (λ outcome text_is status_is. is_refused c.in-Err-Line.number (rw c.in-Err-Line.field-0-is at c.in-Err-Line.ensures) text_is status_is) c.refused_line.ensures.text c.refused_line.ensures.status
+    if_ok c.refused_line.result _ _ (λ outcome says. is_refused c.in-Err-Line.number (rw c.in-Err-Line.field-0-is at c.in-Err-Line.ensures) says.0 says.1) c.refused_line.ensures

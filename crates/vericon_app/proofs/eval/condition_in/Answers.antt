@@ -1,5 +1,5 @@
-use Rattle.vericon_app.specs.Conditions.{has_both}
-use Rattle.vericon_app.proofs.Outputs.{if_ok}
+use Rattle.file_loads.proofs.Explaining.{if_ok}
+use Rattle.vericon_app.specs.Eval.{has_both}
 use Rattle.vericon_app.proofs.eval.condition_in.Goals as goal
 
 pub returns-in-Some : goal.returns-in-Some
