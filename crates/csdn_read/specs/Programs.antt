@@ -27,7 +27,7 @@ pub record Keeps (bytes : List ℕ) (tree : RawProgram) : Type 0 where
 -- The bytes spell no program: they are refused at this place, for this reason.
 pub data IsNoProgram (bytes : List ℕ) (at : ℕ) (why : ProgramWhy) : Type 0 where
   -- they are no text of the grammar
-  has_no_tree : (refusal : TextRefusal) → IsRefusedText bytes refusal → At at why ≡ told_text refusal → IsNoProgram bytes at why
+  has_no_tree : (refusal : TextRefusal) → ((tree : RawProgram) → Reads bytes tree → ⊥) → IsRefusedText bytes refusal → At at why ≡ told_text refusal → IsNoProgram bytes at why
   -- the tree breaks a rule, and this is the first
   breaks_a_rule : (tree : RawProgram) (refusal : SortRefusal) → Reads bytes tree → IsLeast (broken_rules tree) refusal → At at why ≡ told_sorts refusal → IsNoProgram bytes at why
 

@@ -21,7 +21,7 @@ use Rattle.vericon_app.specs.Left.{HasLeft, whole, no_memory, cut, cut_memory}
 use Rattle.vericon_app.specs.Quiet.{IsUndisturbed, IsAnswered, answers, wants_memory}
 use Rattle.vericon_app.specs.Decided as ends
 use Rattle.vericon_app.specs.Decided.{IsDecided, is_yes, is_counterexample, is_unknown, spells_none, is_too_long}
-use Rattle.vericon_app.proofs.Spelled.{none_spelled}
+use Rattle.csdn_read.proofs.Exact.{none_spelled}
 use Rattle.vericon_app.proofs.Checks.{CheckEnds, of_program, of_no_program, of_none, checked}
 
 -- a count that stands where it stood, and could have risen, didn't rise

@@ -5,5 +5,4 @@ mod Starts
 mod Broken
 mod Answered
 mod Yes
-mod Spelled
 mod Exact
