@@ -9,3 +9,4 @@ pub mod Rows
 pub mod Answers
 pub mod Calls
 pub mod Endings
+pub mod Replied

@@ -67,11 +67,11 @@ entries_own q h e is =
 cons_not_nil : (x : Entry) (xs : List Entry) → x ∷ xs ≡ [] → ⊥
 cons_not_nil x xs is = let n : length (x ∷ xs) ≡ 0 = ap (λ (l : List Entry). length l) is in absurd (omega arith)
 
-entries_later : (t : Bool) (b : ℕ) (e : Entry) (h : List Entry) → (seat_of e == b) ≡ t → entries_by b (e ∷ h) ≡ [] → entries_by b h ≡ []
+pub entries_later : (t : Bool) (b : ℕ) (e : Entry) (h : List Entry) → (seat_of e == b) ≡ t → entries_by b (e ∷ h) ≡ [] → entries_by b h ≡ []
 entries_later false b e h is whole = let same : entries_by b (e ∷ h) ≡ entries_by b h = rw is refl in sym same ∙ whole
 entries_later true b e h is whole = let same : entries_by b (e ∷ h) ≡ e ∷ entries_by b h = rw is refl in absurd (cons_not_nil e (entries_by b h) (sym same ∙ whole))
 
-entries_first : (e : Entry) (h : List Entry) → entries_by (seat_of e) (e ∷ h) ≡ [] → ⊥
+pub entries_first : (e : Entry) (h : List Entry) → entries_by (seat_of e) (e ∷ h) ≡ [] → ⊥
 entries_first e h whole =
     let same : entries_by (seat_of e) (e ∷ h) ≡ e ∷ entries_by (seat_of e) h = rw (eq-eqb (seat_of e) (seat_of e) refl) refl in
     cons_not_nil e (entries_by (seat_of e) h) (sym same ∙ whole)

@@ -3,3 +3,4 @@ pub mod Rules
 pub mod Plays
 pub mod Turns
 pub mod Halls
+pub mod Told
