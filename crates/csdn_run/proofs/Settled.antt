@@ -101,6 +101,7 @@ grown r kept new entry items stands declared below is more = record {
   count = ap (λ (w : Standing). w.count) is ∙ counted r.program r.network (standing_of kept) entry ∙ ap (λ n. n + 1) stands.count ∙ longer;
   room = let e : length r.history + 1 ≡ length items = longer in omega (arith, e, below);
   most = stands.most;
+  network = stands.network;
   servable = stands.servable;
 }
   where

@@ -1,7 +1,7 @@
 -- What a runtime is seen as, and which entries it refuses.
 use Rattle.std.specs.Prelude.{◌≡◌, ℕ, ◌≤◌, if◌then◌else◌, List, length, nat_lt, Option, Some, None, Result, Ok, Err}
 use Rattle.csdn_core.specs.declared.program.Parts.{Parts}
-use Rattle.csdn_core.specs.Network.{Network}
+use Rattle.csdn_core.specs.Network.{IsNetwork, Network}
 use Rattle.net_structs.specs.Networks.{IsServable}
 use Rattle.csdn_history.specs.declared.entry.Entry.{Entry}
 use Rattle.csdn_run.specs.declared.runtime.RunRefusal.{RunRefusal}
@@ -30,6 +30,7 @@ pub record Stands (r : Running) (kept : Kept) : Type 0 where
   pub count : kept.count ≡ length r.history
   pub room : length r.history ≤ r.room
   pub most : r.room ≤ 4194304
+  pub network : IsNetwork r.program r.network
   pub servable : IsServable r.network
 
 -- why an entry is refused, where it is not for want of memory

@@ -5,3 +5,6 @@ pub mod Replies
 pub mod Histories
 pub mod Sights
 pub mod Joins
+pub mod OfNetwork
+pub mod Happenings
+pub mod Sessions

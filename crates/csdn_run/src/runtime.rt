@@ -2,6 +2,7 @@
 ghost use Rattle.std.specs.Prelude.{◌≡◌, ◌↔◌, ◌<◌, ◌≤◌, ◌++◌, [], ◌∷◌, true, false, length, IfOk, OnOk, OnErr, Err as ErrIs};
 ghost use Rattle.net_structs.specs.Networks.{IsServable};
 ghost use Rattle.csdn_core.specs.Network.{IsNetwork};
+ghost use Rattle.csdn_core.specs.WellSorted.{IsWellSorted};
 ghost use Rattle.csdn_run.specs.Histories.{with_history, IsRunAnswer, first_refusal};
 ghost use Rattle.csdn_run.specs.Replies.{reply as reply_of};
 ghost use Rattle.csdn_run.specs.Standings.{is_declared as is_declared_in};
@@ -122,6 +123,30 @@ impl Runtime {
             }
             Err(_) => Err(RunRefusal::Memory),
         }
+    }
+
+    /// What is known of the program and the network of a runtime. It costs nothing.
+    pub fn stands(&self)
+        ensures sorted { IsWellSorted self.now.program }
+        ensures network { IsNetwork self.now.program self.now.network }
+        ensures servable { IsServable self.now.network }
+    {
+        // a program's parts are well-sorted
+        let _parts = self.program.parts();
+    }
+
+    /// The program.
+    pub fn program(&self) -> &Program
+        ensures { result.now ≡ self.now.program }
+    {
+        &self.program
+    }
+
+    /// The network.
+    pub fn network(&self) -> &Network
+        ensures { result.now ≡ self.now.network }
+    {
+        &self.network
     }
 
     /// The entries so far, in their order.

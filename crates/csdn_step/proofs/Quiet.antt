@@ -166,7 +166,7 @@ module _ (P : Parts) (N : Network) (x : State) where
       ap (flooded_on Left (elements N Pr) (quieted x w)) (values-left w.state e ts)
       ∙ ap (λ y. made y (flooded_on Kept (elements N Pr) w (tuple P N ts e w.state))) (flood-Sent x w.state (elements N Pr) (tuple P N ts e w.state))
 
-  handled-left : (h : Option Handler) → ((g : Handler) → h ≡ Some g → IsHandler (signature P) g) → (s a b i : ℕ) (w : Course) → handled P N Left h s a b i (quieted x w) ≡ quieted x (handled P N Kept h s a b i w)
+  pub handled-left : (h : Option Handler) → ((g : Handler) → h ≡ Some g → IsHandler (signature P) g) → (s a b i : ℕ) (w : Course) → handled P N Left h s a b i (quieted x w) ≡ quieted x (handled P N Kept h s a b i w)
   handled-left None sorted s a b i w = refl
   handled-left (Some g) sorted s a b i w = executed-left (own_packet g) (scope_of (handler_binds g)) g.body (for_packet g s a b i) w (sorted g refl).command
 

@@ -303,7 +303,7 @@ node_named m whole zero l k = absurd (omega arith)
 node_named m whole (suc x) l k = ap (λ b. cond b (Leaf true (m.fact_at (suc x))) (get_or (nodes whole) (suc x - m.first) (Known true))) (le-ltb (suc x) m.first k)
 
 module _ (voc : Vocabulary) (n : Sort → ℕ) (m : Naming) (o : IsNaming voc n m) (whole : Copy) where
-  ready : IsVocabulary voc → ((s : Sort) → known voc s ≤ n s) → IsReady n voc (name_of m whole) m.num
+  pub ready : IsVocabulary voc → ((s : Sort) → known voc s ≤ n s) → IsReady n voc (name_of m whole) m.num
   ready vocabulary few = record {
     facts = λ f i.
         (let e = fact_named m whole (m.num f) (o.some f) (o.below f i) in
@@ -312,7 +312,7 @@ module _ (voc : Vocabulary) (n : Sort → ℕ) (m : Naming) (o : IsNaming voc n 
     vocabulary = vocabulary;
   }
 
-  whole_named : 0 < m.first → AreNodes (name_of m whole) m.first whole
+  pub whole_named : 0 < m.first → AreNodes (name_of m whole) m.first whole
   whole_named l =
       nodes_named (name_of m whole) m.first whole (λ i k.
       let back : m.first + i - m.first ≡ i = omega arith in

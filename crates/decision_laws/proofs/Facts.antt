@@ -15,7 +15,7 @@ use Rattle.decision_laws.specs.Numbers.{Block, Equations, Tuples, arguments, blo
 use Rattle.decision_laws.specs.Vocabulary.{Vocabulary}
 use Rattle.csdn_core.specs.Members.{IsIn}
 
-tuple_number-below : (n : Sort → ℕ) (ss : List Sort) (xs : List ℕ) → AreBelow n ss xs → tuple_number n ss xs < tuple_count n ss
+pub tuple_number-below : (n : Sort → ℕ) (ss : List Sort) (xs : List ℕ) → AreBelow n ss xs → tuple_number n ss xs < tuple_count n ss
 tuple_number-below n [] [] h = omega arith
 tuple_number-below n [] (x ∷ xs) h = elim h [ ]
 tuple_number-below n (s ∷ ss) [] h = elim h [ ]
@@ -24,7 +24,7 @@ tuple_number-below n (s ∷ ss) (x ∷ xs) h =
     let scaled : suc (tuple_number n ss xs) * n s ≤ tuple_count n ss * n s = mul-le-mul_right (n s) (omega arith) in
     omega (arith, scaled, suc-mul (tuple_number n ss xs) (n s), h.0)
 
-tuple_of-number : (n : Sort → ℕ) (ss : List Sort) (xs : List ℕ) → AreBelow n ss xs → tuple_of n ss (tuple_number n ss xs) ≡ xs
+pub tuple_of-number : (n : Sort → ℕ) (ss : List Sort) (xs : List ℕ) → AreBelow n ss xs → tuple_of n ss (tuple_number n ss xs) ≡ xs
 tuple_of-number n [] [] h = refl
 tuple_of-number n [] (x ∷ xs) h = elim h [ ]
 tuple_of-number n (s ∷ ss) [] h = elim h [ ]

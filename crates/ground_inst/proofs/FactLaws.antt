@@ -72,7 +72,7 @@ flat_same f g [] h = refl
 flat_same f g (x ∷ xs) h = ap₂ (λ a b. a ++ b) (h x (inl refl)) (flat_same f g xs (λ y i. h y (inr i)))
 
 module _ (P : Parts) (F : Formula) (facts : Facts) (are : AreFactsOf P F facts) where
-  constants_are : count_of facts.counts ≡ counts P F
+  pub constants_are : count_of facts.counts ≡ counts P F
   constants_are = fun_ext are.constants
 
   -- the number of a fact is that of its atom
@@ -85,10 +85,10 @@ module _ (P : Parts) (F : Formula) (facts : Facts) (are : AreFactsOf P F facts) 
       ∙ ap₂ (λ us k. suc (tuple_place (counts P F) us k r xs)) are.relations are.count
       ∙ ap suc (tuple_number_of (counts P F) (words P F) r xs)
 
-  relations_are : map (λ u. u.relation) facts.relations ≡ (words P F).relations
+  pub relations_are : map (λ u. u.relation) facts.relations ≡ (words P F).relations
   relations_are = ap (map (λ u. u.relation)) are.relations ∙ relations_numbered (counts P F) (words P F) (equation_count (counts P F)) (words P F).relations
 
-  sorts_are : (r : Pred) → IsIn r (words P F).relations → sorts_in facts.relations r ≡ (words P F).columns r
+  pub sorts_are : (r : Pred) → IsIn r (words P F).relations → sorts_in facts.relations r ≡ (words P F).columns r
   sorts_are r i = ap (λ us. sorts_in us r) are.relations ∙ sorts_numbered (counts P F) (words P F) (equation_count (counts P F)) (words P F).relations r i
 
   module _ (num : Fact → ℕ) (n : Sort → ℕ) where

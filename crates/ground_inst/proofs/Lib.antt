@@ -1,8 +1,8 @@
 pub mod FactSteps
 pub mod FactLaws
-mod Scopes
-mod Steps
-mod Turns
-mod Wholes
-mod WholeClauses
-mod NamesLemmas
+pub mod Scopes
+pub mod Steps
+pub mod Turns
+pub mod Wholes
+pub mod WholeClauses
+pub mod NamesLemmas

@@ -14,7 +14,7 @@ use Rattle.decision_laws.specs.Clauses.{yes, size, sum_from, top, node_clauses, 
 use Rattle.ground_inst.specs.Walk.{Ways, State, tuple_fact, literal_of, numbered, copies_at, each_at, AddsCopies, AddsMember, AddsBound, AddsEach}
 
 -- the copies where an earlier part was added
-moved : (m : Ways) (f g : Form) (old mid : State) → mid.env ≡ old.env → ((s : Sort) → mid.base s ≡ old.base s + need f s) → copies_at m g mid ≡ copies m.voc m.count g old.env (λ t. old.base t + need f t)
+pub moved : (m : Ways) (f g : Form) (old mid : State) → mid.env ≡ old.env → ((s : Sort) → mid.base s ≡ old.base s + need f s) → copies_at m g mid ≡ copies m.voc m.count g old.env (λ t. old.base t + need f t)
 moved m f g old mid e b = ap₂ (λ x y. copies m.voc m.count g x y) e (fun_ext b)
 
 pub both_added : (m : Ways) (f g : Form) (old mid new : State) → AddsMember m f (numbered old) mid old.next → AddsMember m g mid new old.next → AddsCopies m (And f g) old new (yes old.next)
@@ -81,7 +81,7 @@ pub record AddsRow (m : Ways) (f : Form) (v : VarId) (s : Sort) (i : ℕ) (old n
   pub next : now.next ≡ suc old.next + sum_from (λ h. size (copies m.voc m.count f ((v.0, (s, h)) ∷ old.env) old.base)) 0 i
   pub env : now.env ≡ old.env
 
-sum-more : (g : ℕ → ℕ) (i m : ℕ) → sum_from g i (suc m) ≡ sum_from g i m + g (i + m)
+pub sum-more : (g : ℕ → ℕ) (i m : ℕ) → sum_from g i (suc m) ≡ sum_from g i m + g (i + m)
 sum-more g i zero = omega (arith, ap g (add-zero i))
 sum-more g i (suc m) =
     let deep = sum-more g (suc i) m in
@@ -120,7 +120,7 @@ row_more m f v s i old now from new l outs r fe fb fn fo h eo w we wn wo =
       env = we ∙ h.env ∙ fe ∙ r.env;
     }
 
-each_by : (k : ℕ) (c : ℕ → Copy) → (k ≡ 1 → ⊥) → (k ≡ 0 → ⊥) → each k c ≡ Each k c
+pub each_by : (k : ℕ) (c : ℕ → Copy) → (k ≡ 1 → ⊥) → (k ≡ 0 → ⊥) → each k c ≡ Each k c
 each_by zero c h z = absurd (z refl)
 each_by (suc zero) c h z = absurd (h refl)
 each_by (suc (suc k)) c h z = refl

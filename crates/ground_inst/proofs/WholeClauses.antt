@@ -22,7 +22,7 @@ use Rattle.ground_inst.proofs.Wholes.{copies_same}
 
 module _ (P : Parts) (F : Formula) (facts : Facts) (are : AreFactsOf P F facts) (simple : Form) (is_simple : simple ≡ simplified (form_of F)) where
   -- the copies of the simplified form are those of the sentence
-  copies_are : copies_over P (count_of facts.counts) simple ≡ sentence_copies P F
+  pub copies_are : copies_over P (count_of facts.counts) simple ≡ sentence_copies P F
   copies_are =
       ap₂ (λ n f. copies_over P n f) (fun_ext are.constants) is_simple
       ∙ copies_same P (simplified (form_of F)) (form_of F) (counts P F) (simplified (form_of F)) [] (known (words P F))

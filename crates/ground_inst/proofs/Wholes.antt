@@ -51,12 +51,12 @@ module _ (P : Parts) (rs us : List Pred) (cs ds : Pred → List Sort) where
 pub copies_same : (P : Parts) (f g : Form) (n : Sort → ℕ) (h : Form) (env : Scope) (base : Sort → ℕ) → copies (vocabulary P f) n h env base ≡ copies (vocabulary P g) n h env base
 copies_same P f g n h env base = same_copies P (vocabulary P f).relations (vocabulary P g).relations (vocabulary P f).columns (vocabulary P g).columns n h env base
 
-copies_of_facts : (P : Parts) (facts : Facts) (f : Form) (n : Sort → ℕ) (h : Form) (env : Scope) (base : Sort → ℕ) → copies (vocabulary_of P facts) n h env base ≡ copies (vocabulary P f) n h env base
+pub copies_of_facts : (P : Parts) (facts : Facts) (f : Form) (n : Sort → ℕ) (h : Form) (env : Scope) (base : Sort → ℕ) → copies (vocabulary_of P facts) n h env base ≡ copies (vocabulary P f) n h env base
 copies_of_facts P facts f n h env base = same_copies P (vocabulary_of P facts).relations (vocabulary P f).relations (vocabulary_of P facts).columns (vocabulary P f).columns n h env base
 
 -- Whether copies are a truth value.
 
-abbrev value_in : Copy → Option Bool
+abbrev pub value_in : Copy → Option Bool
 value_in (Known b) = Some b
 value_in (Leaf sign fact) = None
 value_in (Both p q) = None
@@ -101,7 +101,7 @@ whole-named num k (Either p q) h = refl
 whole-named num k (Each n c) h = refl
 
 module _ (P : Parts) (n : Sort → ℕ) (num : Fact → ℕ) (k : ℕ) (f : Form) where
-  value_over : value_in (copies_over P n f) ≡ copied_value n f
+  pub value_over : value_in (copies_over P n f) ≡ copied_value n f
   value_over = value-copies (vocabulary P f) n f [] (known (vocabulary P f))
 
   pub whole_true : copied_value n f ≡ Some true → whole_clauses num k (copies_over P n f) ≡ []

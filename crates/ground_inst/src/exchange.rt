@@ -172,8 +172,8 @@ fn write_exchange(
     }
 }
 
-// The atom of a tuple in which another constant stands at a place.
-fn exchanged_atom(
+/// The atom of a tuple in which another constant stands at a place. The places are the same at the end; it takes no memory.
+pub fn exchanged_atom(
     facts: &Facts,
     relation: Pred,
     at: usize,

@@ -132,8 +132,8 @@ fn tuple_number(counts: &Counts, sorts: &[Sort], places: &[u64]) -> Result<u64, 
     }
 }
 
-// How many tuples of constants of these sorts there are.
-fn tuple_count(counts: &Counts, sorts: &[Sort]) -> Result<u64, AllocError>
+/// How many tuples of constants of these sorts there are. It takes no memory; `AllocError` where there are 2^64.
+pub fn tuple_count(counts: &Counts, sorts: &[Sort]) -> Result<u64, AllocError>
     ensures { IfOk result (λ count. count ≡ count_of_tuples (count_of counts.now) sorts.now) }
 {
     match sorts {

@@ -3,17 +3,17 @@
 //! [`making::ground`] makes them. `specs/` says what they are, on the definitions of decision_laws.
 #![tactic(auto)]
 
-mod bases;
-mod constants;
+pub mod bases;
+pub mod constants;
 pub mod equality;
-mod exchange;
+pub mod exchange;
 pub mod facts;
 pub mod making;
 pub mod name_places;
-mod places;
+pub mod places;
 pub mod room;
 pub mod rows;
 pub mod sentence;
 pub mod simplify;
 pub mod walk;
-mod weights;
+pub mod weights;

@@ -62,8 +62,8 @@ pub fn clauses_of(
     Ok(rows.into_clauses(atoms))
 }
 
-// How many atoms the clauses of a formula's copies have.
-fn atoms_with(facts: &Facts, formula: &Formula) -> Result<u64, AllocError>
+/// How many atoms the clauses of a formula's copies have. It takes no memory; `AllocError` where they are 2^62 or more.
+pub fn atoms_with(facts: &Facts, formula: &Formula) -> Result<u64, AllocError>
     ensures value { IfOk result (λ atoms. atoms ≡ facts.now.count + weight_of (count_of facts.now.counts) (form_of formula.now)) }
     ensures small { IfOk result (λ atoms. atoms < 2 ^ 62) }
 {

@@ -54,8 +54,8 @@ pub fn write_copies(
     }
 }
 
-// Which truth value the copies of a formula are, if they are one; for the sign `false` those of its negation.
-fn copied_value(counts: &Counts, formula: &Formula, sign: bool) -> Option<bool>
+/// Which truth value the copies of a formula are, if they are one; for the sign `false` those of its negation. It takes no memory.
+pub fn copied_value(counts: &Counts, formula: &Formula, sign: bool) -> Option<bool>
     ensures { result ≡ value_copied (count_of counts.now) (normal_form sign formula.now) }
 {
     match view(formula, sign) {
@@ -70,8 +70,8 @@ fn copied_value(counts: &Counts, formula: &Formula, sign: bool) -> Option<bool>
     }
 }
 
-// How many names each sort has: behind them stand the free constants.
-fn known_of(parts: &Parts) -> Counts
+/// How many names each sort has: behind them stand the free constants. It takes no memory.
+pub fn known_of(parts: &Parts) -> Counts
     ensures { (t : AnySort) → count_of result t ≡ length (names_of parts.now t) }
 {
     Counts {
@@ -102,8 +102,8 @@ fn write_nodes(
     rows.push(&[top])
 }
 
-// Takes the number of a conjunction or disjunction.
-fn number(work: &mut Work) -> Result<u64, AllocError>
+/// Takes the number of a conjunction or disjunction. It takes no memory; `AllocError` where the next one is no u64.
+pub fn number(work: &mut Work) -> Result<u64, AllocError>
     ensures number { IfOk result (λ x. x ≡ (state_of work.old).next) }
     ensures taken { OnOk result (state_of work.new ≡ numbered (state_of work.old)) }
 {
@@ -112,16 +112,16 @@ fn number(work: &mut Work) -> Result<u64, AllocError>
     Ok(x)
 }
 
-// The clause of a member of the conjunction with this number.
-fn push_member(rows: &mut Rows, x: u64, a: Lit) -> Result<(), AllocError>
+/// Appends the clause of a member of the conjunction with this number.
+pub fn push_member(rows: &mut Rows, x: u64, a: Lit) -> Result<(), AllocError>
     ensures { OnOk result (rows.new ≡ rows.old ++ member_clause x a ∷ []) }
 {
     let not_x = literal(false, x)?;
     rows.push(&[not_x, a])
 }
 
-// The clauses of the disjunction with this number.
-fn push_either(rows: &mut Rows, x: u64, a: Lit, b: Lit) -> Result<(), AllocError>
+/// Appends the clauses of the disjunction with this number.
+pub fn push_either(rows: &mut Rows, x: u64, a: Lit, b: Lit) -> Result<(), AllocError>
     ensures { OnOk result (rows.new ≡ rows.old ++ either_clauses x a b) }
 {
     let not_x = literal(false, x)?;
@@ -134,7 +134,8 @@ fn push_either(rows: &mut Rows, x: u64, a: Lit, b: Lit) -> Result<(), AllocError
     }
 }
 
-fn bind(env: &mut Vec<Binding>, binding: Binding) -> Result<(), AllocError>
+/// Binds a variable, which is the innermost then.
+pub fn bind(env: &mut Vec<Binding>, binding: Binding) -> Result<(), AllocError>
     ensures { OnOk result (env.new.items ≡ env.old.items ++ binding ∷ []) }
 {
     env.push(binding).map_err(AllocError::from)?;

@@ -1,4 +1,4 @@
-//! Texts of journals: what a controller's history records, and packets that rules sent.
+//! Texts of journals: entries of a controller's history, and packets that rules sent.
 //!
 //! docs/FORMATS.md gives the format. `specs/Notes.antt` says what a line's words mean, and `specs/JournalText.antt` the
 //! order of lines and how notes are spelled.
@@ -11,7 +11,7 @@ mod print;
 mod read;
 
 pub use laws::journals_read_back;
-pub use note::{Note, Notes};
+pub use note::{Note, Notes, Version};
 pub use print::print_journal;
 pub use read::{JournalRefusal, read_journal};
 

@@ -1,9 +1,10 @@
 //! The words of a journal's lines.
 ghost use Rattle.std.specs.Prelude.{◌≡◌, ◌≤◌, IfSome, IsSome, ◌↔◌, IsTrue};
 ghost use Rattle.text_lines.specs.Numbers.{number_at};
-ghost use Rattle.journal_text.specs.Notes.{flow_of, header_of, is_end as is_end_line, join_of, most, most_seat, note_of, packet_of};
+ghost use Rattle.journal_text.specs.Notes.{expire_of, flow_of, has_ends as has_ends_in, header_of, is_end as is_end_line, join_of, most, most_seat, note_of, packet_of, version_named as named};
 
-use crate::note::Note;
+use crate::note::{Note, Version};
+use csdn_history::entry::Entry;
 use text_lines::Words;
 
 const MOST: u64 = 0xffff_ffff_ffff_ffff;
@@ -18,23 +19,48 @@ fn seat_number<'a>(words: Words<'a>) -> Option<(u32, Words<'a>)>
     Some((n as u32, words))
 }
 
-#[tactic(auto, unfolding(crate::specs::Notes::header_of))]
-pub fn header(words: Words) -> Option<()>
-    ensures { result ≡ header_of words.entry }
+// The version that a word names.
+fn version_named(word: &[u8]) -> Option<Version>
+    ensures { result ≡ named word.now }
 {
-    let (name, words) = words.next()?;
-    let (version, words) = words.next()?;
-    if name == b"vericon-journal".as_slice() && version == b"1".as_slice() {
-        words.end()
+    if word == b"1".as_slice() {
+        Some(Version::First)
+    } else if word == b"2".as_slice() {
+        Some(Version::Second)
     } else {
         None
     }
 }
 
-// The note of a line's words.
+/// The version that the words of a journal's first line name.
+#[tactic(auto, unfolding(crate::specs::Notes::header_of))]
+pub fn header(words: Words) -> Option<Version>
+    ensures { result ≡ header_of words.entry }
+{
+    let (name, words) = words.next()?;
+    let (word, words) = words.next()?;
+    words.end()?;
+    if name == b"vericon-journal".as_slice() {
+        version_named(word)
+    } else {
+        None
+    }
+}
+
+// Whether a text of the version may say of flow rules that they ended.
+fn has_ends(version: Version) -> bool
+    ensures { result ≡ has_ends_in version }
+{
+    match version {
+        Version::First => false,
+        Version::Second => true,
+    }
+}
+
+/// The note of a line's words, in a text of this version.
 #[tactic(auto, unfolding(crate::specs::Notes::note_of))]
-pub fn note(words: Words) -> Option<Note>
-    ensures { result ≡ note_of words.entry }
+pub fn note(version: Version, words: Words) -> Option<Note>
+    ensures { result ≡ note_of version words.entry }
 {
     let (key, words) = words.next()?;
     if key == b"join".as_slice() {
@@ -43,6 +69,8 @@ pub fn note(words: Words) -> Option<Note>
         packet(words)
     } else if key == b"flow".as_slice() {
         flow(words)
+    } else if key == b"expire".as_slice() && has_ends(version) {
+        expire(words)
     } else {
         None
     }
@@ -57,7 +85,7 @@ fn join(words: Words) -> Option<Note>
     let (session, words) = seat_number(words)?;
     let (s, words) = words.number(MOST)?;
     words.end()?;
-    Some(Note::Join { seat, session, s })
+    Some(Note::Kept(Entry::Join { seat, session, s }))
 }
 
 // `packet SEAT SESSION S A B I`, from the words behind `packet`.
@@ -72,14 +100,38 @@ fn packet(words: Words) -> Option<Note>
     let (b, words) = words.number(MOST)?;
     let (i, words) = words.number(MOST)?;
     words.end()?;
-    Some(Note::Packet {
+    Some(Note::Kept(Entry::Packet {
         seat,
         session,
         s,
         a,
         b,
         i,
-    })
+    }))
+}
+
+// `expire SEAT SESSION S A B I COOKIE`, from the words behind `expire`.
+#[tactic(auto, unfolding(crate::specs::Notes::expire_of))]
+fn expire(words: Words) -> Option<Note>
+    ensures { result ≡ expire_of words.entry }
+{
+    let (seat, words) = seat_number(words)?;
+    let (session, words) = seat_number(words)?;
+    let (s, words) = words.number(MOST)?;
+    let (a, words) = words.number(MOST)?;
+    let (b, words) = words.number(MOST)?;
+    let (i, words) = words.number(MOST)?;
+    let (cookie, words) = words.number(MOST)?;
+    words.end()?;
+    Some(Note::Kept(Entry::Expire {
+        seat,
+        session,
+        s,
+        a,
+        b,
+        i,
+        cookie,
+    }))
 }
 
 // `flow S A B I O`, from the words behind `flow`.

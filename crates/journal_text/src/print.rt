@@ -1,17 +1,18 @@
 //! The printer of journal texts.
 ghost use Rattle.std.specs.Prelude.{◌≡◌, ◌++◌, ◌∷◌, [], IfOk, Ok, OnOk, map, true};
-ghost use Rattle.std.specs.List.{flat_map};
+ghost use Rattle.std.specs.List.{flat_map, list_any};
 ghost use Rattle.text_lines.specs.Machine.{reading};
 ghost use Rattle.text_lines.specs.Printed.{line_text};
-ghost use Rattle.journal_text.specs.JournalText.{are_notes, header, is_note, journal_format, journal_text, note_words};
+ghost use Rattle.journal_text.specs.JournalText.{are_notes, entry_words, header, is_end_of_rules as is_end_in, is_entry, is_note, journal_format, journal_text, note_words, version_of as version_in, version_word as word_of};
 
-use crate::note::{Note, Notes};
+use crate::note::{Note, Notes, Version};
 use csdn_core::program::Text;
+use csdn_history::entry::Entry;
 use sqlite_items::Items;
 use std::alloc::{AllocError, Global};
 use text_lines::{put_line, put_line_end, put_next_word, put_word};
 
-/// The text of the notes. Reading it gives the notes again.
+/// The text of the notes: of the second version exactly where one says that flow rules ended. Reading it gives the notes again.
 pub fn print_journal(alloc: Global, notes: &Notes) -> Result<Text, AllocError>
     ensures text { IfOk result (λ text. text ≡ journal_text notes.now) }
     ensures again { IfOk result (λ text. reading journal_format text ≡ Ok notes.now) }
@@ -25,17 +26,54 @@ fn text_of(alloc: Global, notes: &[Note]) -> Result<Vec<u8>, AllocError>
     ensures limits { OnOk result (are_notes notes.now ≡ true) }
 {
     let mut out = Vec::new(alloc);
-    put_header(&mut out)?;
+    put_header(&mut out, version_of(notes))?;
     put_notes(&mut out, notes)?;
     put_line(&mut out, b"end", &[])?;
     Ok(out)
 }
 
-fn put_header(out: &mut Vec<u8>) -> Result<(), AllocError>
-    ensures { OnOk result (out.new.items ≡ out.old.items ++ line_text header) }
+// Whether a note says that flow rules ended.
+fn is_end_of_rules(note: &Note) -> bool
+    ensures { result ≡ is_end_in note.now }
+{
+    match note {
+        Note::Kept(Entry::Expire { .. }) => true,
+        _ => false,
+    }
+}
+
+// Whether one of the notes says so.
+fn says_end_of_rules(notes: &[Note]) -> bool
+    ensures { result ≡ list_any is_end_in notes.now }
+{
+    notes.iter().any(|note| is_end_of_rules(note))
+}
+
+// The version of the text of notes.
+fn version_of(notes: &[Note]) -> Version
+    ensures { result ≡ version_in notes.now }
+{
+    if says_end_of_rules(notes) {
+        Version::Second
+    } else {
+        Version::First
+    }
+}
+
+fn version_word(version: Version) -> &'static [u8]
+    ensures { result.now ≡ word_of version }
+{
+    match version {
+        Version::First => b"1",
+        Version::Second => b"2",
+    }
+}
+
+fn put_header(out: &mut Vec<u8>, version: Version) -> Result<(), AllocError>
+    ensures { OnOk result (out.new.items ≡ out.old.items ++ line_text (header version)) }
 {
     put_word(out, b"vericon-journal")?;
-    put_next_word(out, b"1")?;
+    put_next_word(out, version_word(version))?;
     put_line_end(out)
 }
 
@@ -56,10 +94,20 @@ fn put_note(out: &mut Vec<u8>, note: Note) -> Result<(), AllocError>
     ensures limits { is_note note ≡ true }
 {
     match note {
-        Note::Join { seat, session, s } => {
+        Note::Kept(entry) => put_entry(out, entry),
+        Note::Flow { s, a, b, i, o } => put_line(out, b"flow", &[s, a, b, i, o]),
+    }
+}
+
+fn put_entry(out: &mut Vec<u8>, entry: Entry) -> Result<(), AllocError>
+    ensures text { OnOk result (out.new.items ≡ out.old.items ++ line_text (entry_words entry)) }
+    ensures limits { is_entry entry ≡ true }
+{
+    match entry {
+        Entry::Join { seat, session, s } => {
             put_line(out, b"join", &[u64::from(seat), u64::from(session), s])
         }
-        Note::Packet {
+        Entry::Packet {
             seat,
             session,
             s,
@@ -71,6 +119,18 @@ fn put_note(out: &mut Vec<u8>, note: Note) -> Result<(), AllocError>
             b"packet",
             &[u64::from(seat), u64::from(session), s, a, b, i],
         ),
-        Note::Flow { s, a, b, i, o } => put_line(out, b"flow", &[s, a, b, i, o]),
+        Entry::Expire {
+            seat,
+            session,
+            s,
+            a,
+            b,
+            i,
+            cookie,
+        } => put_line(
+            out,
+            b"expire",
+            &[u64::from(seat), u64::from(session), s, a, b, i, cookie],
+        ),
     }
 }

@@ -7,7 +7,7 @@ ghost use Rattle.journal_text.specs.Gives.{Gives, Stepped};
 ghost use Rattle.journal_text.specs.declared.read.Place.TheVariants.{Inside};
 
 use crate::line::{header, is_end, note};
-use crate::note::Notes;
+use crate::note::{Notes, Version};
 use sqlite_items::Items;
 use std::alloc::Global;
 use text_lines::{Lines, Next, Words};
@@ -34,7 +34,7 @@ pub enum Stop {
 #[derive(Clone, Copy, Debug)]
 pub enum Place {
     Header,
-    Inside,
+    Inside(Version),
     Ended,
 }
 
@@ -68,24 +68,24 @@ fn take(place: Place, notes: &mut Notes, line: &[u8]) -> Result<Place, Stop>
 {
     match place {
         Place::Header => match header(Words::new(line)) {
-            Some(()) => Ok(Place::Inside),
+            Some(version) => Ok(Place::Inside(version)),
             None => Err(Stop::Refused),
         },
-        Place::Inside => take_inside(notes, line),
+        Place::Inside(version) => take_inside(version, notes, line),
         Place::Ended => Err(Stop::Refused),
     }
 }
 
-fn take_inside(notes: &mut Notes, line: &[u8]) -> Result<Place, Stop>
-    ensures { Stepped result (step Inside notes.old (words_of line.now)) notes.new }
+fn take_inside(version: Version, notes: &mut Notes, line: &[u8]) -> Result<Place, Stop>
+    ensures { Stepped result (step (Inside version) notes.old (words_of line.now)) notes.new }
 {
     if is_end(Words::new(line)) {
         return Ok(Place::Ended);
     }
-    match note(Words::new(line)) {
+    match note(version, Words::new(line)) {
         None => Err(Stop::Refused),
         Some(note) => match notes.push(note) {
-            Ok(()) => Ok(Place::Inside),
+            Ok(()) => Ok(Place::Inside(version)),
             Err(_) => Err(Stop::Memory),
         },
     }

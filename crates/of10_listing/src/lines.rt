@@ -42,7 +42,7 @@ fn type_name(kind: u8) -> &'static [u8]
 
 /// The name of a rule that bytes break.
 #[tactic(auto, unfolding(crate::specs::Lines::why_name))]
-fn why_name(why: WireWhy) -> &'static [u8]
+pub fn why_name(why: WireWhy) -> &'static [u8]
     ensures { result.now ≡ why_name why }
 {
     match why {

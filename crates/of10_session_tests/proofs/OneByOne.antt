@@ -11,18 +11,18 @@ use Rattle.of10_speech.specs.Hearings.{Following, Hears}
 use Rattle.of10_speech.proofs.Following.{following_next}
 use Rattle.of10_speech.proofs.Beginnings.{following_more}
 
-used_one : (t : Told) (k : ℕ) (f : Framing) (s : Progress) (b : ℕ) (g : Framing) (s' : Progress) (r : Hearing) (now after : List ℕ) → Hears t k f s (b ∷ []) g s' r now after → r.stop ≡ Goes → r.used ≡ 1
-used_one t k f s b g s' r now after (inl h) on = h.used
-used_one t k f s b g s' r now after (inr (inl h)) on = omega (arith, h.used, h.some)
-used_one t k f s b g s' r now after (inr (inr h)) on = absurd (ends_go (sym h.stop ∙ on))
+used_one : (o t : Told) (f : Framing) (s : Progress) (b : ℕ) (g : Framing) (s' : Progress) (r : Hearing) (now after : List ℕ) → Hears o t f s (b ∷ []) g s' r now after → r.stop ≡ Goes → r.used ≡ 1
+used_one o t f s b g s' r now after (inl h) on = h.used
+used_one o t f s b g s' r now after (inr (inl h)) on = omega (arith, h.used, h.some)
+used_one o t f s b g s' r now after (inr (inr h)) on = absurd (ends_go (sym h.stop ∙ on))
   where
     ends_go : Ends (Wire (f.start + h.e.at) h.e.why) ≡ Goes → ⊥
     ends_go e = cc
 
 pub one_byte : (t u : Told) (number : ℕ) (taken : List ℕ) (b : ℕ) (f : Framing) (s : Progress) (g : Framing) (s' : Progress) (r : Hearing) (before now after : List ℕ) → Further t u → Following t number taken (length taken) f s before now
-    → Hears u (length t.replies) f s (b ∷ []) g s' r now after → r.stop ≡ Goes → Following u number (taken ++ b ∷ []) (length (taken ++ b ∷ [])) g s' before after
+    → Hears t u f s (b ∷ []) g s' r now after → r.stop ≡ Goes → Following u number (taken ++ b ∷ []) (length (taken ++ b ∷ [])) g s' before after
 one_byte t u number taken b f s g s' r before now after further w h on =
     let whole : List ℕ = taken ++ b ∷ [] in
-    let there : Hears u (length t.replies) f s (drop (length taken) whole) g s' r now after = subst (λ (l : List ℕ). Hears u (length t.replies) f s l g s' r now after) (sym (drop_at taken (b ∷ []) (length taken) refl)) h in
-    let all : length taken + r.used ≡ length whole = omega (arith, length-append taken (b ∷ []), used_one u (length t.replies) f s b g s' r now after h on) in
+    let there : Hears t u f s (drop (length taken) whole) g s' r now after = subst (λ (l : List ℕ). Hears t u f s l g s' r now after) (sym (drop_at taken (b ∷ []) (length taken) refl)) h in
+    let all : length taken + r.used ≡ length whole = omega (arith, length-append taken (b ∷ []), used_one t u f s b g s' r now after h on) in
     subst (λ (n : ℕ). Following u number whole n g s' before after) all (following_next t u number whole (length taken) f s g s' r before now after further (following_more t number taken (b ∷ []) f s before now w) there on)

@@ -29,7 +29,8 @@ pub fn speak_bytewise<P: Answers>(
     program: &mut P,
     out: &mut Vec<u8>,
 ) -> Result<Spoken, Broken>
-    requires { P.given program.old ≡ [] }
+    requires given { P.given program.old ≡ [] }
+    requires asked { P.asked program.old ≡ [] }
 {
     let Ok((mut framer, mut session)) = begin(alloc, out) else {
         return Err(Broken::Memory);

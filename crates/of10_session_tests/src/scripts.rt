@@ -16,6 +16,7 @@ pub struct Script<'a> {
     steps: &'a [Step],
     expires: bool,
     given: Vec<Reply>,
+    asked: Vec<Ask>,
 }
 
 fn is_declared(expires: bool, ask: Ask) -> bool
@@ -31,13 +32,15 @@ fn is_declared(expires: bool, ask: Ask) -> bool
 impl<'a> Script<'a> {
     /// A script before its first step; its program's rules end, or don't.
     pub fn new(alloc: Global, steps: &'a [Step], expires: bool) -> Script<'a>
-        ensures { result.given.items ≡ [] }
+        ensures given { result.given.items ≡ [] }
+        ensures asked { result.asked.items ≡ [] }
     {
         Script {
             alloc,
             steps,
             expires,
             given: Vec::new(alloc),
+            asked: Vec::new(alloc),
         }
     }
 }
@@ -47,10 +50,17 @@ impl<'a> Answers for Script<'a> {
 
     ghost given = { λ s. s.given.items };
 
+    ghost asked = { λ s. s.asked.items };
+
+    ghost source = { λ s. tt };
+
     fn ask(&mut self, ask: Ask) -> Result<Reply, Unanswered> {
         if !is_declared(self.expires, ask) {
             return Err(Unanswered::Stranger);
         }
+        let Ok(()) = self.asked.push(ask) else {
+            return Err(Unanswered::Memory);
+        };
         let Some(step) = self.steps.get(self.given.len()) else {
             return Err(Unanswered::NoEntry);
         };

@@ -15,6 +15,7 @@ use Rattle.of10_stream.proofs.ReadLaws.{read-more}
 use Rattle.of10_stream.proofs.Once.{one}
 use Rattle.of10_session.specs.Progresses.{Progress, IsListening}
 use Rattle.of10_session.specs.Sessions.{spelled}
+use Rattle.of10_session.specs.declared.turn.Ask.{Ask}
 use Rattle.of10_speech.specs.declared.stops.Stop.TheVariants.{Goes, Waits, Ends}
 use Rattle.of10_speech.specs.declared.stops.SpokenEnd.TheVariants.{Wire}
 use Rattle.of10_speech.specs.declared.hearing.Hearing.{Hearing}
@@ -43,7 +44,7 @@ after_message t u number taken f s x further w m =
     ∙ ap (with_said x (frame_width m)) (λ i. said_to u (sym w.place i) (w.asks i) (sym w.session i) m)))
 
 pub follows_all : (t u : Told) (number : ℕ) (taken : List ℕ) (f : Framing) (s : Progress) (x : Speech) (piece : List ℕ) (g : Framing) (s' : Progress) (r : Hearing) (before after : List ℕ) → Further t u
-    → Follows t number taken f s x → TookAll u (length t.replies) f s piece g s' r before after → Follows u number (taken ++ piece) g s' x
+    → Follows t number taken f s x → TookAll t u f s piece g s' r before after → Follows u number (taken ++ piece) g s' x
 follows_all t u number taken f s x piece g s' r before after further w k = record {
   messages = w.messages;
   begins = subst (λ (h : Framing). IsRead (taken ++ piece) w.messages h.held) (sym k.held) (read-more w.messages taken f.held piece w.begins);
@@ -52,6 +53,7 @@ follows_all t u number taken f s x piece g s' r before after further w k = recor
   place = ap (λ (h : Framing). h.start) k.held ∙ w.place;
   goes = w.goes;
   asks = w.asks ∙ sym k.counts;
+  asked = w.asked ∙ sym k.asked;
   framer = k.framer;
 }
 
@@ -59,7 +61,7 @@ empty_open : (n : ℕ) → IsOpen (framing n [])
 empty_open n = record { wanting = (8, wants-short [] (omega arith)); on = refl }
 
 pub follows_message : (t u : Told) (number : ℕ) (taken : List ℕ) (f : Framing) (s : Progress) (x : Speech) (piece : List ℕ) (g : Framing) (s' : Progress) (r : Hearing) (before after : List ℕ) → Further t u
-    → Follows t number taken f s x → (k : TookMessage u (length t.replies) f s piece g s' r before after) → r.stop ≡ Goes
+    → Follows t number taken f s x → (k : TookMessage t u f s piece g s' r before after) → r.stop ≡ Goes
     → Follows u number (taken ++ take r.used piece) g s' (with_said x (frame_width k.message) (said_to u f.start (length t.replies) s k.message))
 follows_message t u number taken f s x piece g s' r before after further w k on = record {
   messages = w.messages ++ k.message ∷ [];
@@ -69,6 +71,7 @@ follows_message t u number taken f s x piece g s' r before after further w k on 
   place = ap (λ (h : Framing). h.start) k.held ∙ (λ i. w.place i + sym k.spelled_as.whole i);
   goes = sym k.says.stops ∙ on;
   asks = length-append x.asks (said_to u f.start (length t.replies) s k.message).asks ∙ (ap (λ (n : ℕ). n + length (said_to u f.start (length t.replies) s k.message).asks) w.asks ∙ sym (k.counts on));
+  asked = ap (λ (l : List Ask). l ++ (said_to u f.start (length t.replies) s k.message).asks) w.asked ∙ sym k.asked;
   framer = subst IsOpen (sym k.held) (empty_open (f.start + length (f.held ++ take r.used piece)));
 }
 
@@ -78,7 +81,7 @@ bytes_after x n y start before after b a = a ∙ (ap (λ (l : List ℕ). l ++ sp
 
 -- a message at which the session stops
 pub stops_message : (t u : Told) (number : ℕ) (taken : List ℕ) (f : Framing) (s : Progress) (x : Speech) (piece : List ℕ) (g : Framing) (s' : Progress) (r : Hearing) (before after : List ℕ) → Further t u
-    → Follows t number taken f s x → (k : TookMessage u (length t.replies) f s piece g s' r before after) → r.stop ≢ Goes
+    → Follows t number taken f s x → (k : TookMessage t u f s piece g s' r before after) → r.stop ≢ Goes
     → IsSpoken u number (taken ++ piece) (with_said x (frame_width k.message) (said_to u f.start (length t.replies) s k.message))
 stops_message t u number taken f s x piece g s' r before after further w k off =
     let all : (taken ++ take r.used piece) ++ drop r.used piece ≡ taken ++ piece = append_assoc taken (take r.used piece) (drop r.used piece) ∙ ap (λ (l : List ℕ). taken ++ l) (take-append-drop r.used piece) in
@@ -118,8 +121,8 @@ nothing_read : (held : List ℕ) → held ≡ [] → IsRead [] [] held
 unfolding IsRead
 nothing_read held e = sym e
 
-pub follows_nothing : (t : Told) (number : ℕ) (bytes : List ℕ) (f : Framing) (s : Progress) (before now : List ℕ) → t.replies ≡ [] → f ≡ framing 0 [] → s ≡ (opening number).session → now ≡ before ++ spelled (opening number).sent → Following t number bytes 0 f s before now
-follows_nothing t number bytes f s before now none f_is s_is now_is = record {
+pub follows_nothing : (t : Told) (number : ℕ) (bytes : List ℕ) (f : Framing) (s : Progress) (before now : List ℕ) → t.replies ≡ [] → t.asks ≡ [] → f ≡ framing 0 [] → s ≡ (opening number).session → now ≡ before ++ spelled (opening number).sent → Following t number bytes 0 f s before now
+follows_nothing t number bytes f s before now none no_asks f_is s_is now_is = record {
   inside = omega arith;
   speech_is = opening number;
   follows = record {
@@ -130,6 +133,7 @@ follows_nothing t number bytes f s before now none f_is s_is now_is = record {
     place = ap (λ (h : Framing). h.start) f_is;
     goes = refl;
     asks = sym (ap (λ (l : List Reply). length l) none);
+    asked = sym no_asks;
     framer = subst IsOpen (sym f_is) (empty_open 0);
   };
   written = now_is;
@@ -142,7 +146,7 @@ taken_more : (bytes : List ℕ) (at n : ℕ) → take at bytes ++ take n (drop a
 taken_more bytes at n = sym (take-add at n bytes)
 
 pub following_all : (t u : Told) (number : ℕ) (bytes : List ℕ) (at : ℕ) (f : Framing) (s : Progress) (g : Framing) (s' : Progress) (r : Hearing) (before now after : List ℕ) → Further t u
-    → Following t number bytes at f s before now → TookAll u (length t.replies) f s (drop at bytes) g s' r now after → Following u number bytes (at + r.used) g s' before after
+    → Following t number bytes at f s before now → TookAll t u f s (drop at bytes) g s' r now after → Following u number bytes (at + r.used) g s' before after
 following_all t u number bytes at f s g s' r before now after further w k =
     let n = length-drop at bytes in
     let whole : take at bytes ++ drop at bytes ≡ take (at + r.used) bytes = rw (k.used) (ap (λ (l : List ℕ). take at bytes ++ l) (sym (take-length (drop at bytes))) ∙ taken_more bytes at (length (drop at bytes))) in
@@ -157,7 +161,7 @@ following_all t u number bytes at f s g s' r before now after further w k =
     }
 
 pub following_message : (t u : Told) (number : ℕ) (bytes : List ℕ) (at : ℕ) (f : Framing) (s : Progress) (g : Framing) (s' : Progress) (r : Hearing) (before now after : List ℕ) → Further t u
-    → Following t number bytes at f s before now → TookMessage u (length t.replies) f s (drop at bytes) g s' r now after → r.stop ≡ Goes → Following u number bytes (at + r.used) g s' before after
+    → Following t number bytes at f s before now → TookMessage t u f s (drop at bytes) g s' r now after → r.stop ≡ Goes → Following u number bytes (at + r.used) g s' before after
 following_message t u number bytes at f s g s' r before now after further w k on =
     let n = length-drop at bytes in
     let y = said_to u f.start (length t.replies) s k.message in
@@ -174,7 +178,7 @@ following_message t u number bytes at f s g s' r before now after further w k on
     }
 
 pub following_next : (t u : Told) (number : ℕ) (bytes : List ℕ) (at : ℕ) (f : Framing) (s : Progress) (g : Framing) (s' : Progress) (r : Hearing) (before now after : List ℕ) → Further t u
-    → Following t number bytes at f s before now → Hears u (length t.replies) f s (drop at bytes) g s' r now after → r.stop ≡ Goes → Following u number bytes (at + r.used) g s' before after
+    → Following t number bytes at f s before now → Hears t u f s (drop at bytes) g s' r now after → r.stop ≡ Goes → Following u number bytes (at + r.used) g s' before after
 following_next t u number bytes at f s g s' r before now after further w (inl k) on = following_all t u number bytes at f s g s' r before now after further w k
 following_next t u number bytes at f s g s' r before now after further w (inr (inl k)) on = following_message t u number bytes at f s g s' r before now after further w k on
 following_next t u number bytes at f s g s' r before now after further w (inr (inr k)) on = absurd (ends_go (sym k.stop ∙ on))
@@ -182,16 +186,16 @@ following_next t u number bytes at f s g s' r before now after further w (inr (i
     ends_go : Ends (Wire (f.start + k.e.at) k.e.why) ≡ Goes → ⊥
     ends_go e = cc
 
-pub hears_some : (u : Told) (k at : ℕ) (bytes : List ℕ) (f : Framing) (s : Progress) (g : Framing) (s' : Progress) (r : Hearing) (now after : List ℕ) → at < length bytes → Hears u k f s (drop at bytes) g s' r now after → r.stop ≡ Goes → 0 < r.used
-hears_some u k at bytes f s g s' r now after more (inl h) on = omega (arith, h.used, length-drop at bytes)
-hears_some u k at bytes f s g s' r now after more (inr (inl h)) on = h.some
-hears_some u k at bytes f s g s' r now after more (inr (inr h)) on = absurd (ends_go (sym h.stop ∙ on))
+pub hears_some : (o u : Told) (at : ℕ) (bytes : List ℕ) (f : Framing) (s : Progress) (g : Framing) (s' : Progress) (r : Hearing) (now after : List ℕ) → at < length bytes → Hears o u f s (drop at bytes) g s' r now after → r.stop ≡ Goes → 0 < r.used
+hears_some o u at bytes f s g s' r now after more (inl h) on = omega (arith, h.used, length-drop at bytes)
+hears_some o u at bytes f s g s' r now after more (inr (inl h)) on = h.some
+hears_some o u at bytes f s g s' r now after more (inr (inr h)) on = absurd (ends_go (sym h.stop ∙ on))
   where
     ends_go : Ends (Wire (f.start + h.e.at) h.e.why) ≡ Goes → ⊥
     ends_go e = cc
 
 pub following_stops : (t u : Told) (number : ℕ) (bytes : List ℕ) (at : ℕ) (f : Framing) (s : Progress) (g : Framing) (s' : Progress) (r : Hearing) (before now after : List ℕ) → Further t u
-    → Following t number bytes at f s before now → Hears u (length t.replies) f s (drop at bytes) g s' r now after → r.stop ≢ Goes → IsAnswer u number bytes before after (record { stop = r.stop; ignored = s'.ignored })
+    → Following t number bytes at f s before now → Hears t u f s (drop at bytes) g s' r now after → r.stop ≢ Goes → IsAnswer u number bytes before after (record { stop = r.stop; ignored = s'.ignored })
 following_stops t u number bytes at f s g s' r before now after further w (inl k) off = absurd (off k.goes)
 following_stops t u number bytes at f s g s' r before now after further w (inr (inl k)) off = record {
   speech_is = with_said w.speech_is (frame_width k.message) (said_to u f.start (length t.replies) s k.message);
@@ -199,6 +203,7 @@ following_stops t u number bytes at f s g s' r before now after further w (inr (
       (stops_message t u number (take at bytes) f s w.speech_is (drop at bytes) g s' r now after further w.follows k off);
   stop = k.says.stops;
   ignored = ap (λ (x : Progress). x.ignored) k.says.goes_on;
+  asked = ap (λ (l : List Ask). l ++ (said_to u f.start (length t.replies) s k.message).asks) w.follows.asked ∙ sym k.asked;
   written = bytes_after w.speech_is (frame_width k.message) (said_to u f.start (length t.replies) s k.message) before now after w.written k.says.bytes;
 }
 following_stops t u number bytes at f s g s' r before now after further w (inr (inr k)) off = record {
@@ -206,6 +211,7 @@ following_stops t u number bytes at f s g s' r before now after further w (inr (
   spoken = subst (λ (l : List ℕ). IsSpoken u number l (refused_speech w.speech_is k.e)) (take-append-drop at bytes) (stops_refused t u number (take at bytes) f s w.speech_is (drop at bytes) k.e further w.follows k.next);
   stop = k.stop ∙ ap (λ (n : ℕ). Ends (Wire (n + k.e.at) k.e.why)) w.follows.place;
   ignored = ap (λ (x : Progress). x.ignored) (k.session ∙ w.follows.session);
+  asked = w.follows.asked ∙ sym k.asked;
   written = k.bytes ∙ w.written;
 }
 
@@ -215,10 +221,11 @@ following_closed t number bytes at f s before now w all = record {
   spoken = subst (λ (l : List ℕ). IsSpoken t number l w.speech_is) (take_all at bytes all) (stops_closed t number (take at bytes) f s w.speech_is w.follows);
   stop = sym w.follows.goes;
   ignored = ap (λ (x : Progress). x.ignored) w.follows.session;
+  asked = w.follows.asked;
   written = w.written;
 }
 
-pub hears_inside : (u : Told) (k at : ℕ) (bytes : List ℕ) (f : Framing) (s : Progress) (g : Framing) (s' : Progress) (r : Hearing) (now after : List ℕ) → at ≤ length bytes → Hears u k f s (drop at bytes) g s' r now after → at + r.used ≤ length bytes
-hears_inside u k at bytes f s g s' r now after h (inl x) = omega (arith, x.used, length-drop at bytes)
-hears_inside u k at bytes f s g s' r now after h (inr (inl x)) = omega (arith, x.used, length-drop at bytes)
-hears_inside u k at bytes f s g s' r now after h (inr (inr x)) = omega (arith, x.used, length-drop at bytes)
+pub hears_inside : (o u : Told) (at : ℕ) (bytes : List ℕ) (f : Framing) (s : Progress) (g : Framing) (s' : Progress) (r : Hearing) (now after : List ℕ) → at ≤ length bytes → Hears o u f s (drop at bytes) g s' r now after → at + r.used ≤ length bytes
+hears_inside o u at bytes f s g s' r now after h (inl x) = omega (arith, x.used, length-drop at bytes)
+hears_inside o u at bytes f s g s' r now after h (inr (inl x)) = omega (arith, x.used, length-drop at bytes)
+hears_inside o u at bytes f s g s' r now after h (inr (inr x)) = omega (arith, x.used, length-drop at bytes)

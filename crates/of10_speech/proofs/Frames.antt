@@ -27,9 +27,9 @@ some_taken f piece zero is_open frame =
     let no : Wants is_open.wanting.0 ≡ Frame (length (f.held ++ [])) = sym is_open.wanting.1 ∙ (ap opening_of (sym (append-nil f.held)) ∙ frame) in absurd cc
 some_taken f piece (suc used) is_open frame = omega arith
 
-frame_heard : (t : Told) (k : ℕ) (f : Framing) (s : Progress) (piece : List ℕ) (used : ℕ) (g : Framing) (s' : Progress) (stop : Stop) (before after : List ℕ) → IsOpen f → used ≤ length piece → IsFrame (f.held ++ take used piece)
-    → HearsFrame t k (framing f.start (f.held ++ take used piece)) s g s' stop before after → Hears t k f s piece g s' (record { used = used; stop = stop }) before after
-frame_heard t k f s piece used g s' stop before after is_open within frame (inl h) = inr (inl (record {
+frame_heard : (o t : Told) (f : Framing) (s : Progress) (piece : List ℕ) (used : ℕ) (g : Framing) (s' : Progress) (stop : Stop) (before after : List ℕ) → IsOpen f → used ≤ length piece → IsFrame (f.held ++ take used piece)
+    → HearsFrame o t (framing f.start (f.held ++ take used piece)) s g s' stop before after → Hears o t f s piece g s' (record { used = used; stop = stop }) before after
+frame_heard o t f s piece used g s' stop before after is_open within frame (inl h) = inr (inl (record {
   used = within;
   some = some_taken f piece used is_open frame;
   message = h.message;
@@ -38,8 +38,9 @@ frame_heard t k f s piece used g s' stop before after is_open within frame (inl 
   says = h.says;
   held = h.held;
   counts = h.counts;
+  asked = h.asked;
 }))
-frame_heard t k f s piece used g s' stop before after is_open within frame (inr h) =
+frame_heard o t f s piece used g s' stop before after is_open within frame (inr h) =
     let all : (f.held ++ take used piece) ++ drop used piece ≡ f.held ++ piece = append_assoc f.held (take used piece) (drop used piece) ∙ ap (λ (l : List ℕ). f.held ++ l) (take-append-drop used piece) in
     let n : ℕ = length (f.held ++ take used piece) in
     let whole : take n (f.held ++ piece) ≡ f.held ++ take used piece = ap (λ (l : List ℕ). take n l) (sym all) ∙ take-append_seam (f.held ++ take used piece) (drop used piece) in
@@ -50,12 +51,13 @@ frame_heard t k f s piece used g s' stop before after is_open within frame (inr 
       stop = h.stops;
       session = h.session;
       bytes = h.bytes;
+      asked = h.asked;
     }))
 
-pub fed_frame : (t : Told) (k : ℕ) (f : Framing) (s : Progress) (piece : List ℕ) (mid : Framing) (fed : Fed) (g : Framing) (s' : Progress) (stop : Stop) (before after : List ℕ) → IsOpen f → Takes f piece mid fed → fed.ready ≡ true
-    → HearsFrame t k mid s g s' stop before after → Hears t k f s piece g s' (record { used = fed.used; stop = stop }) before after
-fed_frame t k f s piece mid fed g s' stop before after is_open takes ready h =
-    frame_heard t k f s piece fed.used g s' stop before after is_open takes.used (subst (λ (m : Framing). IsFrame m.held) takes.came (takes.ready ready)) (subst (λ (m : Framing). HearsFrame t k m s g s' stop before after) takes.came h)
+pub fed_frame : (o t : Told) (f : Framing) (s : Progress) (piece : List ℕ) (mid : Framing) (fed : Fed) (g : Framing) (s' : Progress) (stop : Stop) (before after : List ℕ) → IsOpen f → Takes f piece mid fed → fed.ready ≡ true
+    → HearsFrame o t mid s g s' stop before after → Hears o t f s piece g s' (record { used = fed.used; stop = stop }) before after
+fed_frame o t f s piece mid fed g s' stop before after is_open takes ready h =
+    frame_heard o t f s piece fed.used g s' stop before after is_open takes.used (subst (λ (m : Framing). IsFrame m.held) takes.came (takes.ready ready)) (subst (λ (m : Framing). HearsFrame o t m s g s' stop before after) takes.came h)
 
 pub was_true : (b : Bool) → not b ≡ false → b ≡ true
 was_true true h = refl

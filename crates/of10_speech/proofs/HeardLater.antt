@@ -38,13 +38,15 @@ stopped t x (m ∷ ms) h =
 
 -- ---- more entries
 
-entry-further : (t u : Told) (k : ℕ) → Further t u → (o : Option Reply) → slice_get t.replies k ≡ o → (s : Progress) (ask : Ask) → (on_entry (slice_get t.replies k) s ask).stop ≢ Waits → on_entry (slice_get u.replies k) s ask ≡ on_entry (slice_get t.replies k) s ask
-entry-further t u k f None e s ask goes = absurd (goes (rw e refl))
-entry-further t u k f (Some r) e s ask goes =
+pub reply-further : (t u : Told) (k : ℕ) → Further t u → (r : Reply) → slice_get t.replies k ≡ Some r → slice_get u.replies k ≡ Some r
+reply-further t u k f r e =
     let within : k < length t.replies = slice_get_within t.replies k r e in
     let all : k < length (t.replies ++ f.more) = omega (arith, length-append t.replies f.more) in
-    let same : slice_get u.replies k ≡ slice_get t.replies k = rw f.replies (slice_get-get_or (t.replies ++ f.more) k r all ∙ (ap (λ (x : Reply). Some x) (get_or_append_left t.replies f.more r k within) ∙ sym (slice_get-get_or t.replies k r within))) in
-    ap (λ (o : Option Reply). on_entry o s ask) same
+    rw f.replies (slice_get-get_or (t.replies ++ f.more) k r all ∙ (ap (λ (x : Reply). Some x) (get_or_append_left t.replies f.more r k within) ∙ (sym (slice_get-get_or t.replies k r within) ∙ e)))
+
+entry-further : (t u : Told) (k : ℕ) → Further t u → (o : Option Reply) → slice_get t.replies k ≡ o → (s : Progress) (ask : Ask) → (on_entry (slice_get t.replies k) s ask).stop ≢ Waits → on_entry (slice_get u.replies k) s ask ≡ on_entry (slice_get t.replies k) s ask
+entry-further t u k f None e s ask goes = absurd (goes (rw e refl))
+entry-further t u k f (Some r) e s ask goes = ap (λ (o : Option Reply). on_entry o s ask) (reply-further t u k f r e ∙ sym e)
 
 ask-further : (t u : Told) (k : ℕ) → Further t u → (s : Progress) (ask : Ask) → (on_ask t k s ask).stop ≢ Waits → on_ask u k s ask ≡ on_ask t k s ask
 unfolding on_ask
@@ -65,7 +67,7 @@ turn-further t u place k f s sent (AskFor ask) h = ask-further t u k f s ask h
 turn-further t u place k f s sent (End Incompatible) h = refl
 turn-further t u place k f s sent (End OutOfTurn) h = refl
 
-hear-further : (t u : Told) → Further t u → (x : Speech) (m : Message) (stop : Stop) → x.stop ≡ stop → (hear t x m).stop ≢ Waits → hear u x m ≡ hear t x m
+pub hear-further : (t u : Told) → Further t u → (x : Speech) (m : Message) (stop : Stop) → x.stop ≡ stop → (hear t x m).stop ≢ Waits → hear u x m ≡ hear t x m
 hear-further t u f x m Goes e h =
     let h' : (said_to t x.place (length x.asks) x.session m).stop ≢ Waits = rw e at h in
     rw e (ap (λ (y : Said). with_said x (frame_width m) y) (turn-further t u x.place (length x.asks) f (turn x.session m).session (turn x.session m).sent (turn x.session m).turn h'))

@@ -26,31 +26,34 @@ pub record Says (y : Said) (stop : Stop) (session : Progress) (before after : Li
   pub goes_on : session ≡ y.session
   pub bytes : after ≡ before ++ spelled y.sent
 
--- ---- one step
+-- ---- one step, from what was told before it to what is told then
 
 -- the frame that was ready is a message, and was heard
-pub record HeardFrame (t : Told) (k : ℕ) (f : Framing) (s : Progress) (g : Framing) (s' : Progress) (stop : Stop) (before after : List ℕ) : Type 0 where
+pub record HeardFrame (o t : Told) (f : Framing) (s : Progress) (g : Framing) (s' : Progress) (stop : Stop) (before after : List ℕ) : Type 0 where
   pub message : Message
   pub spelled_as : spells message f.held
-  pub says : Says (said_to t f.start k s message) stop s' before after
+  pub says : Says (said_to t f.start (length o.replies) s message) stop s' before after
   pub held : g ≡ framing (f.start + length f.held) []
-  pub counts : stop ≡ Goes → length t.replies ≡ k + length (said_to t f.start k s message).asks
+  pub counts : stop ≡ Goes → length t.replies ≡ length o.replies + length (said_to t f.start (length o.replies) s message).asks
+  pub asked : t.asks ≡ o.asks ++ (said_to t f.start (length o.replies) s message).asks
 
 -- .. or it is none
-pub record RefusedFrame (f : Framing) (s s' : Progress) (stop : Stop) (before after : List ℕ) : Type 0 where
+pub record RefusedFrame (o t : Told) (f : Framing) (s s' : Progress) (stop : Stop) (before after : List ℕ) : Type 0 where
   pub refusal : WireRefusal
   pub refused : Refuses f.held refusal
   pub stops : stop ≡ is_ended f.start refusal
   pub session : s' ≡ s
   pub bytes : after ≡ before
+  pub asked : t.asks ≡ o.asks
 
-abbrev pub HearsFrame : Told → ℕ → Framing → Progress → Framing → Progress → Stop → (before after : List ℕ) → Type 0
-HearsFrame t k f s g s' stop before after = HeardFrame t k f s g s' stop before after ⊎ RefusedFrame f s s' stop before after
+abbrev pub HearsFrame : (o t : Told) → Framing → Progress → Framing → Progress → Stop → (before after : List ℕ) → Type 0
+HearsFrame o t f s g s' stop before after = HeardFrame o t f s g s' stop before after ⊎ RefusedFrame o t f s s' stop before after
 
 -- all of the piece was taken, and no frame is whole
-pub record TookAll (t : Told) (k : ℕ) (f : Framing) (s : Progress) (piece : List ℕ) (g : Framing) (s' : Progress) (r : Hearing) (before after : List ℕ) : Type 0 where
+pub record TookAll (o t : Told) (f : Framing) (s : Progress) (piece : List ℕ) (g : Framing) (s' : Progress) (r : Hearing) (before after : List ℕ) : Type 0 where
   pub used : r.used ≡ length piece
-  pub counts : length t.replies ≡ k
+  pub counts : length t.replies ≡ length o.replies
+  pub asked : t.asks ≡ o.asks
   pub held : g ≡ framing f.start (f.held ++ piece)
   pub framer : IsOpen g
   pub session : s' ≡ s
@@ -58,31 +61,33 @@ pub record TookAll (t : Told) (k : ℕ) (f : Framing) (s : Progress) (piece : Li
   pub bytes : after ≡ before
 
 -- a message became whole, and was heard
-pub record TookMessage (t : Told) (k : ℕ) (f : Framing) (s : Progress) (piece : List ℕ) (g : Framing) (s' : Progress) (r : Hearing) (before after : List ℕ) : Type 0 where
+pub record TookMessage (o t : Told) (f : Framing) (s : Progress) (piece : List ℕ) (g : Framing) (s' : Progress) (r : Hearing) (before after : List ℕ) : Type 0 where
   pub used : r.used ≤ length piece
   pub some : 0 < r.used
   pub message : Message
   pub frame : IsFrame (f.held ++ take r.used piece)
   pub spelled_as : spells message (f.held ++ take r.used piece)
-  pub says : Says (said_to t f.start k s message) r.stop s' before after
+  pub says : Says (said_to t f.start (length o.replies) s message) r.stop s' before after
   pub held : g ≡ framing (f.start + length (f.held ++ take r.used piece)) []
-  pub counts : r.stop ≡ Goes → length t.replies ≡ k + length (said_to t f.start k s message).asks
+  pub counts : r.stop ≡ Goes → length t.replies ≡ length o.replies + length (said_to t f.start (length o.replies) s message).asks
+  pub asked : t.asks ≡ o.asks ++ (said_to t f.start (length o.replies) s message).asks
 
 -- what comes next is refused
-pub record TookRefusal (f : Framing) (s : Progress) (piece : List ℕ) (s' : Progress) (r : Hearing) (before after : List ℕ) : Type 0 where
+pub record TookRefusal (o t : Told) (f : Framing) (s : Progress) (piece : List ℕ) (s' : Progress) (r : Hearing) (before after : List ℕ) : Type 0 where
   pub used : r.used ≤ length piece
   pub e : WireRefusal
   pub next : IsTail (f.held ++ piece) (Broken e)
   pub stop : r.stop ≡ is_ended f.start e
   pub session : s' ≡ s
   pub bytes : after ≡ before
+  pub asked : t.asks ≡ o.asks
 
-abbrev pub Hears : Told → ℕ → Framing → Progress → List ℕ → Framing → Progress → Hearing → (before after : List ℕ) → Type 0
-Hears t k f s piece g s' r before after = TookAll t k f s piece g s' r before after ⊎ (TookMessage t k f s piece g s' r before after ⊎ TookRefusal f s piece s' r before after)
+abbrev pub Hears : (o t : Told) → Framing → Progress → List ℕ → Framing → Progress → Hearing → (before after : List ℕ) → Type 0
+Hears o t f s piece g s' r before after = TookAll o t f s piece g s' r before after ⊎ (TookMessage o t f s piece g s' r before after ⊎ TookRefusal o t f s piece s' r before after)
 
 -- ---- many steps
 
--- after these bytes the framer and the session stand where the speech is, and each ask so far has its reply
+-- after these bytes the framer and the session stand where the speech is, its asks are those that were told, and each has its reply
 pub record Follows (t : Told) (number : ℕ) (taken : List ℕ) (f : Framing) (s : Progress) (x : Speech) : Type 0 where
   pub messages : List Message
   pub begins : IsRead taken messages f.held
@@ -91,6 +96,7 @@ pub record Follows (t : Told) (number : ℕ) (taken : List ℕ) (f : Framing) (s
   pub place : f.start ≡ x.place
   pub goes : x.stop ≡ Goes
   pub asks : length x.asks ≡ length t.replies
+  pub asked : x.asks ≡ t.asks
   pub framer : IsOpen f
 
 -- what a loop over these bytes keeps, after as many as `at`
@@ -103,10 +109,11 @@ pub record Following (t : Told) (number : ℕ) (bytes : List ℕ) (at : ℕ) (f 
   pub few : s.ignored ≤ at
   pub taken : f.start + length f.held ≡ at
 
--- what a call answered and wrote is the session's answer to the bytes
+-- what a call answered and wrote is the session's answer to the bytes, and its asks are those that were told
 pub record IsAnswer (t : Told) (number : ℕ) (bytes before after : List ℕ) (r : Spoken) : Type 0 where
   pub speech_is : Speech
   pub spoken : IsSpoken t number bytes speech_is
   pub stop : r.stop ≡ speech_is.stop
   pub ignored : r.ignored ≡ speech_is.session.ignored
+  pub asked : speech_is.asks ≡ t.asks
   pub written : after ≡ before ++ spelled speech_is.sent

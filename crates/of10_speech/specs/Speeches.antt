@@ -22,13 +22,14 @@ use Rattle.of10_speech.specs.declared.stops.SpokenEnd.TheVariants.{Incompatible,
 
 -- ---- what answers the asks
 
--- which asks are declared, and the replies to the entries of the session
+-- which asks are declared, the replies to the entries of the session, and the asks so far that are declared
 pub record Told : Type 0 where
   pub declares : Ask → Bool
   pub replies : List Reply
+  pub asks : List Ask
 
-abbrev pub told : {P : Type 0} → (P → Ask → Bool) → (P → List Reply) → P → Told
-told declares given p = record { declares = declares p; replies = given p }
+abbrev pub told : {P : Type 0} → (P → Ask → Bool) → (P → List Reply) → (P → List Ask) → P → Told
+told declares given asked p = record { declares = declares p; replies = given p; asks = asked p }
 
 -- the same asks are declared, and there are further replies
 pub record Further (t u : Told) : Type 0 where

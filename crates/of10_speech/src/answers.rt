@@ -22,16 +22,25 @@ pub enum Unanswered {
 
 /// What answers a session's asks: a journal, or a seat of a hall.
 pub trait Answers {
+    /// What all its answers come from.
+    ghost Source: { Type 0 } = { Unit {0} };
+
+    ghost source: { Self → Self.Source };
     /// Whether an ask is declared.
     ghost declares: { Self → AnyAsk → Bool };
     /// The replies that this session was given so far.
     ghost given: { Self → List AnyReply };
+    /// The asks so far that are declared, the one that has no entry yet among them.
+    ghost asked: { Self → List AnyAsk };
 
     /// The reply to an ask, which is entered.
     fn ask(&mut self, ask: Ask) -> Result<Reply, Unanswered>
+        ensures source { source self.new ≡ source self.old }
         ensures same { declares self.new ≡ declares self.old }
         ensures reply { IfOk result (λ reply. (declares self.old ask ≡ true) × IsServable reply × (given self.new ≡ given self.old ++ reply ∷ [])) }
+        ensures asked { IfOk result (λ reply. asked self.new ≡ asked self.old ++ ask ∷ []) }
         ensures err { OnErr result (given self.new ≡ given self.old) }
-        ensures stranger { result ≡ Err Unanswered.Stranger → declares self.old ask ≡ false }
+        ensures stranger { result ≡ Err Unanswered.Stranger → (declares self.old ask ≡ false) × (asked self.new ≡ asked self.old) }
+        ensures waits { result ≡ Err Unanswered.NoEntry → asked self.new ≡ asked self.old ++ ask ∷ [] }
         ensures declared { IfErr result (λ e. e ≢ Unanswered.Stranger → declares self.old ask ≡ true) };
 }

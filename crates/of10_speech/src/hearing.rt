@@ -1,6 +1,6 @@
 //! One step of a session that hears a stream.
 
-ghost use Rattle.std.specs.Prelude.{◌≡◌, ◌≢◌, ◌+◌, ◌<◌, ◌^◌, length, IfOk, OnErr};
+ghost use Rattle.std.specs.Prelude.{◌≡◌, ◌≢◌, ◌+◌, ◌++◌, ◌<◌, ◌^◌, length, IfOk, OnErr};
 ghost use Rattle.of10_msgs.specs.Sending.{IsSendable};
 ghost use Rattle.of10_stream.specs.Framings.{IsOpen, IsReady};
 ghost use Rattle.of10_session.specs.Progresses.{IsListening};
@@ -25,10 +25,12 @@ fn settle<P: Answers>(
 ) -> Result<Stop, Broken>
     requires pending { session.old.pending ≢ Pending.Nothing }
     requires room { session.old.ignored + 1 < 2 ^ 64 }
-    ensures said { IfOk result (λ stop. Says (on_ask (told P.declares P.given program.new) (length (P.given program.old)) session.old ask) stop session.new out.old.items out.new.items) }
+    ensures said { IfOk result (λ stop. Says (on_ask (told P.declares P.given P.asked program.new) (length (P.given program.old)) session.old ask) stop session.new out.old.items out.new.items) }
     ensures err { OnErr result ((session.new ≡ session.old) × (out.new.items ≡ out.old.items)) }
-    ensures further { Further (told P.declares P.given program.old) (told P.declares P.given program.new) }
-    ensures counts { IfOk result (λ stop. stop ≡ Stop.Goes → length (P.given program.new) ≡ length (P.given program.old) + length (on_ask (told P.declares P.given program.new) (length (P.given program.old)) session.old ask).asks) }
+    ensures further { Further (told P.declares P.given P.asked program.old) (told P.declares P.given P.asked program.new) }
+    ensures source { P.source program.new ≡ P.source program.old }
+    ensures counts { IfOk result (λ stop. stop ≡ Stop.Goes → length (P.given program.new) ≡ length (P.given program.old) + length (on_ask (told P.declares P.given P.asked program.new) (length (P.given program.old)) session.old ask).asks) }
+    ensures asked { IfOk result (λ stop. P.asked program.new ≡ P.asked program.old ++ (on_ask (told P.declares P.given P.asked program.new) (length (P.given program.old)) session.old ask).asks) }
 {
     match program.ask(ask) {
         Ok(reply) => match session.answer(alloc, &reply, out) {
@@ -65,10 +67,12 @@ pub fn hear<P: Answers>(
     requires listening { IsListening session.old }
     requires room { session.old.ignored + 1 < 2 ^ 64 }
     requires sendable { IsSendable message }
-    ensures said { IfOk result (λ stop. Says (said_to (told P.declares P.given program.new) place (length (P.given program.old)) session.old message) stop session.new out.old.items out.new.items) }
+    ensures said { IfOk result (λ stop. Says (said_to (told P.declares P.given P.asked program.new) place (length (P.given program.old)) session.old message) stop session.new out.old.items out.new.items) }
     ensures err { OnErr result ((session.new.ignored ≡ session.old.ignored) × (out.new.items ≡ out.old.items)) }
-    ensures further { Further (told P.declares P.given program.old) (told P.declares P.given program.new) }
-    ensures counts { IfOk result (λ stop. stop ≡ Stop.Goes → length (P.given program.new) ≡ length (P.given program.old) + length (said_to (told P.declares P.given program.new) place (length (P.given program.old)) session.old message).asks) }
+    ensures further { Further (told P.declares P.given P.asked program.old) (told P.declares P.given P.asked program.new) }
+    ensures source { P.source program.new ≡ P.source program.old }
+    ensures counts { IfOk result (λ stop. stop ≡ Stop.Goes → length (P.given program.new) ≡ length (P.given program.old) + length (said_to (told P.declares P.given P.asked program.new) place (length (P.given program.old)) session.old message).asks) }
+    ensures asked { IfOk result (λ stop. P.asked program.new ≡ P.asked program.old ++ (said_to (told P.declares P.given P.asked program.new) place (length (P.given program.old)) session.old message).asks) }
 {
     match session.step(alloc, message, out) {
         Err(_) => Err(Broken::Memory),
@@ -115,9 +119,10 @@ pub fn hear_next<P: Answers>(
     requires room { (framer.old.start + length framer.old.held) + length piece.now < 2 ^ 64 }
     requires listening { IsListening session.old }
     requires count { session.old.ignored + 1 < 2 ^ 64 }
-    ensures hears { IfOk result (λ r. Hears (told P.declares P.given program.new) (length (P.given program.old)) framer.old session.old piece.now framer.new session.new r out.old.items out.new.items) }
+    ensures hears { IfOk result (λ r. Hears (told P.declares P.given P.asked program.old) (told P.declares P.given P.asked program.new) framer.old session.old piece.now framer.new session.new r out.old.items out.new.items) }
     ensures err { OnErr result ((session.new.ignored ≡ session.old.ignored) × (out.new.items ≡ out.old.items)) }
-    ensures further { Further (told P.declares P.given program.old) (told P.declares P.given program.new) }
+    ensures further { Further (told P.declares P.given P.asked program.old) (told P.declares P.given P.asked program.new) }
+    ensures source { P.source program.new ≡ P.source program.old }
 {
     match framer.feed(piece) {
         Err(refusal) => Ok(Hearing {
@@ -155,9 +160,10 @@ fn hear_frame<P: Answers>(
     requires room { framer.old.start + length framer.old.held < 2 ^ 64 }
     requires listening { IsListening session.old }
     requires count { session.old.ignored + 1 < 2 ^ 64 }
-    ensures hears { IfOk result (λ stop. HearsFrame (told P.declares P.given program.new) (length (P.given program.old)) framer.old session.old framer.new session.new stop out.old.items out.new.items) }
+    ensures hears { IfOk result (λ stop. HearsFrame (told P.declares P.given P.asked program.old) (told P.declares P.given P.asked program.new) framer.old session.old framer.new session.new stop out.old.items out.new.items) }
     ensures err { OnErr result ((session.new.ignored ≡ session.old.ignored) × (out.new.items ≡ out.old.items)) }
-    ensures further { Further (told P.declares P.given program.old) (told P.declares P.given program.new) }
+    ensures further { Further (told P.declares P.given P.asked program.old) (told P.declares P.given P.asked program.new) }
+    ensures source { P.source program.new ≡ P.source program.old }
 {
     let place = framer.start();
     match read_frame(alloc, framer.frame()) {

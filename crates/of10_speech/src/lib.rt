@@ -12,6 +12,6 @@ mod stops;
 
 pub use answers::{Answers, Unanswered};
 pub use hearing::{Hearing, hear, hear_next};
-pub use laws::{any_pieces, longer_histories, one_answer};
+pub use laws::{answers_grow, any_pieces, longer_histories, one_answer};
 pub use speaking::{Spoken, speak};
 pub use stops::{Broken, SpokenEnd, Stop};

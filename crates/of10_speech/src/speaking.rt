@@ -31,8 +31,11 @@ pub fn speak<P: Answers>(
     program: &mut P,
     out: &mut Vec<u8>,
 ) -> Result<Spoken, Broken>
-    requires { P.given program.old ≡ [] }
-    ensures { IfOk result (IsAnswer (told P.declares P.given program.new) number bytes.now out.old.items out.new.items) }
+    requires given { P.given program.old ≡ [] }
+    requires asked { P.asked program.old ≡ [] }
+    ensures answer { IfOk result (IsAnswer (told P.declares P.given P.asked program.new) number bytes.now out.old.items out.new.items) }
+    ensures declares { P.declares program.new ≡ P.declares program.old }
+    ensures source { P.source program.new ≡ P.source program.old }
 {
     let Ok(mut framer) = Framer::try_new(alloc) else {
         return Err(Broken::Memory);

@@ -1,4 +1,5 @@
 pub mod Runs
 mod Falses
 mod Ends
+mod Marking
 pub mod OneText

@@ -71,12 +71,12 @@ fn first_false<'a>(
     None
 }
 
-// That of the transition invariants, where there is a packet.
+// That of the transition invariants, where they are asked.
 fn first_false_transition<'a>(
     setting: &Setting<'a>,
     env: &mut Env,
     state: &State,
-    packet: &Packet,
+    packet: &Option<Packet>,
 ) -> Option<&'a [u8]>
     requires pairs { env.old.pairs ≡ [] }
     requires room { env.old.room ≡ 24 }
@@ -84,8 +84,8 @@ fn first_false_transition<'a>(
     ensures env { env.new ≡ env.old }
 {
     match packet {
-        Packet::Nothing => None,
-        Packet::At { .. } => first_false(setting, env, trans_of(setting.program), state, packet),
+        None => None,
+        Some(packet) => first_false(setting, env, trans_of(setting.program), state, packet),
     }
 }
 
@@ -106,13 +106,13 @@ fn first_false_safety<'a>(setting: &Setting<'a>, env: &mut Env, state: &State) -
 }
 
 /// The name of the first invariant that is false: of a safety invariant, and else of a transition invariant, which speaks of
-/// the packet.
+/// the packet, where there is something to ask it of.
 #[tactic(auto, unfolding(crate::specs::Traces::first_broken))]
 pub fn first_broken<'a>(
     setting: &Setting<'a>,
     env: &mut Env,
     state: &State,
-    packet: &Packet,
+    packet: &Option<Packet>,
 ) -> Option<&'a [u8]>
     requires pairs { env.old.pairs ≡ [] }
     requires room { env.old.room ≡ 24 }

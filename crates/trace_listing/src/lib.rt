@@ -6,6 +6,7 @@
 mod invariants;
 mod laws;
 mod notes;
+mod progress;
 mod trace;
 
 pub use laws::{traces_are_runs, traces_have_one_text};

@@ -3,10 +3,11 @@ ghost use Rattle.std.specs.Prelude.{◌≡◌, ◌≤◌, ◌<◌, ◌+◌, ◌+
 ghost use Rattle.std.specs.List.Sorted.{IsStrictlySortedBy};
 ghost use Rattle.net_structs.specs.Rows.{held, row_cmp};
 ghost use Rattle.net_text.specs.NetText.{net_text};
-ghost use Rattle.trace_listing.specs.Traces.{IsTrace, IsEnding, start_of, traced, last_case};
+ghost use Rattle.trace_listing.specs.Traces.{IsTrace, IsEnding, start_of, standing_of, traced, last_case};
 
 use crate::invariants::Setting;
-use crate::notes::{put_note, put_refusal, take};
+use crate::notes::{put_note, put_refusal};
+use crate::progress::{Progress, Taken, take};
 use csdn_core::event::Packet;
 use csdn_core::program::Program;
 use csdn_core::terms::MOST_VARIABLES;
@@ -89,12 +90,13 @@ fn list_from(
 ) -> Result<Trace, AllocError>
     ensures { IfOk result (λ trace. IsTrace program.now network (held state) notes.now trace.text.items trace.ending) }
 {
-    let mut state = state;
+    let mut progress = Progress::try_new(alloc, state)?;
     let mut text = Vec::new(alloc);
-    let ending = put_notes(alloc, &mut text, program, &network, &mut state, notes)?;
+    let ending = put_notes(alloc, &mut text, program, &network, &mut progress, notes)?;
     if ending.is_stopped() {
         return Ok(Trace { text, ending });
     }
+    let Progress { state, .. } = progress;
     put_last(alloc, &mut text, program, network, state)?;
     Ok(Trace { text, ending })
 }
@@ -120,17 +122,18 @@ fn put_last(
     out.extend_from_slice(text.as_slice())
 }
 
-// The lines of the notes.
+// The lines of the notes, the first of which has the number 1.
 fn put_notes(
     alloc: Global,
     out: &mut Vec<u8>,
     program: &Program,
     network: &Network,
-    state: &mut State,
+    progress: &mut Progress,
     notes: &[Note],
 ) -> Result<Ending, AllocError>
-    ensures text { OnOk result (out.new.items ≡ out.old.items ++ (traced program.now network.now 1 (held state.old) notes.now).text) }
-    ensures ending { IfOk result (λ ending. IsEnding (traced program.now network.now 1 (held state.old) notes.now) ending (held state.new)) }
+    requires { progress.old.count ≡ 0 }
+    ensures text { OnOk result (out.new.items ≡ out.old.items ++ (traced program.now network.now 1 (standing_of progress.old) notes.now).text) }
+    ensures ending { IfOk result (λ ending. IsEnding (traced program.now network.now 1 (standing_of progress.old) notes.now) ending (held progress.new.state)) }
 {
     let setting = Setting { program, network };
     let mut env = Env::try_new(alloc, MOST_VARIABLES)?;
@@ -138,12 +141,16 @@ fn put_notes(
     let mut number = 1;
     let mut rest = notes;
     'notes: while let [note, more @ ..] = rest {
-        if let Some(refusal) = take(alloc, &setting, state, note)? {
-            put_refusal(out, number, refusal)?;
-            return Ok(Ending::Stopped);
+        match take(alloc, &setting, progress, note)? {
+            Taken::Refused(refusal) => {
+                put_refusal(out, number, refusal)?;
+                return Ok(Ending::Stopped);
+            }
+            Taken::Happened(packet) => {
+                let is_true = put_note(out, &setting, &mut env, &progress.state, &packet, number)?;
+                unbroken &= is_true;
+            }
         }
-        let is_true = put_note(out, &setting, &mut env, state, note, number)?;
-        unbroken = unbroken && is_true;
         number += 1;
         rest = more;
     }

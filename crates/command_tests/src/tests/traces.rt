@@ -248,6 +248,185 @@ fn a_note_may_be_refused(rt: HostRuntime) -> Result<(), Fail> {
     prints(&rt, rt.alloc(), REFUSED)
 }
 
+/// A rule for each packet, which ends after a time without packets.
+const ENDING: &[u8] = b"timeout 30;
+trans answered: forall S:SW, A:HO, B:HO, I:PR. S.rcv_this(A->B, I) -> (exists O:PR. S.sent(A->B, I->O));
+pktIn(s, src->dst, i) { s.install(src->dst, i->prt(2)); s.forward(src->dst, i->prt(2)); }
+";
+
+const SEEN: &[u8] = b"timeout 5;
+rel seen(SW, HO, HO, PR);
+safety kept: forall S:SW, A:HO, B:HO, I:PR. seen(S, A, B, I) -> S.ft(A->B, I->prt(1));
+pktIn(s, src->dst, i) { seen.insert(s, src, dst, i); s.install(src->dst, i->prt(1)); }
+";
+
+/// Each packet takes its rule out, and puts it in again.
+const RESTORED: &[u8] = b"timeout 5;
+pktIn(s, src->dst, i) { s.uninstall(src->dst, i->prt(2)); s.install(src->dst, i->prt(2)); }
+";
+
+const NEVER: &[u8] = b"timeout 5; trans never: false;";
+
+const NO_PACKET: &[u8] =
+    b"timeout 5; trans none: forall S:SW, A:HO, B:HO, I:PR. not S.rcv_this(A->B, I);";
+
+const ENDS: &[Call] = &[
+    // the mark of a match is the number of the entry that gave it its rule; flows have no number
+    (
+        &["trace", "p", "n", "j"],
+        &[
+            ENDING,
+            TWO_PORTS,
+            b"vericon-journal 2\njoin 0 1 1\nflow 1 1 2 1 2\nend\n",
+        ],
+        b"1 ok\nentry 2: not enabled\n",
+        3,
+    ),
+    (
+        &["trace", "p", "n", "j"],
+        &[
+            ENDING,
+            TWO_PORTS,
+            b"vericon-journal 2\njoin 0 1 1\npacket 0 1 1 1 2 1\nflow 1 1 2 1 2\nexpire 0 1 1 1 2 1 2\nend\n",
+        ],
+        b"1 ok\n2 ok\n3 ok\n4 ok\nvericon-net 1\nsw 1\nho 1 2\npr 1 2\nstate\nsent 1 1 2 1 2\nend\n",
+        0,
+    ),
+    // with another cookie nothing ends
+    (
+        &["trace", "p", "n", "j"],
+        &[
+            ENDING,
+            TWO_PORTS,
+            b"vericon-journal 2\npacket 0 1 1 1 2 1\nflow 1 1 2 1 2\nexpire 0 1 1 1 2 1 2\nend\n",
+        ],
+        b"1 ok\n2 ok\n3 ok\nvericon-net 1\nsw 1\nho 1 2\npr 1 2\nstate\nft 1 1 2 1 2\nsent 1 1 2 1 2\nend\n",
+        0,
+    ),
+    // an end is a change of its match, and an end that does nothing has a number too
+    (
+        &["trace", "p", "n", "j"],
+        &[
+            ENDING,
+            TWO_PORTS,
+            b"vericon-journal 2\npacket 0 1 1 1 2 1\nexpire 0 1 1 1 2 1 1\nexpire 0 1 1 1 2 1 1\npacket 0 1 1 1 2 1\nexpire 0 1 1 1 2 1 2\nexpire 0 1 1 1 2 1 3\nend\n",
+        ],
+        b"1 ok\n2 ok\n3 ok\n4 ok\n5 ok\n6 ok\nvericon-net 1\nsw 1\nho 1 2\npr 1 2\nstate\nft 1 1 2 1 2\nsent 1 1 2 1 2\nend\n",
+        0,
+    ),
+    (
+        &["trace", "p", "n", "j"],
+        &[
+            ENDING,
+            TWO_PORTS,
+            b"vericon-journal 2\npacket 0 1 1 1 2 1\nexpire 0 1 1 1 2 1 1\nexpire 0 1 1 1 2 1 1\npacket 0 1 1 1 2 1\nexpire 0 1 1 1 2 1 4\nend\n",
+        ],
+        b"1 ok\n2 ok\n3 ok\n4 ok\n5 ok\nvericon-net 1\nsw 1\nho 1 2\npr 1 2\nstate\nsent 1 1 2 1 2\nend\n",
+        0,
+    ),
+    // a rule that was there before has the mark 0
+    (
+        &["trace", "p", "n", "j"],
+        &[
+            ENDING,
+            A_RULE,
+            b"vericon-journal 2\nexpire 0 1 1 2 1 2 0\nend\n",
+        ],
+        b"1 ok\nvericon-net 1\nsw 1\nho 1 2\npr 1 2\nstate\nend\n",
+        0,
+    ),
+    // a match that has its rule again keeps its mark
+    (
+        &["trace", "p", "n", "j"],
+        &[
+            RESTORED,
+            TWO_PORTS,
+            b"vericon-journal 2\npacket 0 1 1 1 2 1\npacket 0 1 1 1 2 1\nexpire 0 1 1 1 2 1 2\nend\n",
+        ],
+        b"1 ok\n2 ok\n3 ok\nvericon-net 1\nsw 1\nho 1 2\npr 1 2\nstate\nft 1 1 2 1 2\nend\n",
+        0,
+    ),
+    (
+        &["trace", "p", "n", "j"],
+        &[
+            RESTORED,
+            TWO_PORTS,
+            b"vericon-journal 2\npacket 0 1 1 1 2 1\npacket 0 1 1 1 2 1\nexpire 0 1 1 1 2 1 1\nend\n",
+        ],
+        b"1 ok\n2 ok\n3 ok\nvericon-net 1\nsw 1\nho 1 2\npr 1 2\nstate\nend\n",
+        0,
+    ),
+    // transitions are looked at where rules end: not without a rule, and not with another cookie
+    (
+        &["trace", "p", "n", "j"],
+        &[
+            NEVER,
+            A_RULE,
+            b"vericon-journal 2\nexpire 0 1 1 1 2 1 0\nexpire 0 1 1 2 1 2 7\nexpire 0 1 1 2 1 2 0\nexpire 0 1 1 2 1 2 3\nend\n",
+        ],
+        b"1 ok\n2 ok\n3 broken never\n4 ok\nvericon-net 1\nsw 1\nho 1 2\npr 1 2\nstate\nend\n",
+        1,
+    ),
+    // .. and then no packet is received
+    (
+        &["trace", "p", "n", "j"],
+        &[
+            NO_PACKET,
+            A_RULE,
+            b"vericon-journal 2\nflow 1 2 1 2 1\nexpire 0 1 1 2 1 2 0\nend\n",
+        ],
+        b"1 broken none\n2 ok\nvericon-net 1\nsw 1\nho 1 2\npr 1 2\nstate\nsent 1 2 1 2 1\nend\n",
+        1,
+    ),
+    (
+        &["trace", "p", "n", "j"],
+        &[
+            SEEN,
+            TWO_PORTS,
+            b"vericon-journal 2\npacket 0 1 1 1 2 1\nexpire 0 1 1 1 2 1 1\nend\n",
+        ],
+        b"1 ok\n2 broken kept\nvericon-net 1\nsw 1\nho 1 2\npr 1 2\nstate\nt seen 1 1 2 1\nend\n",
+        1,
+    ),
+    // a program whose rules don't end, and an element that the network lacks
+    (
+        &["trace", "p", "n", "j"],
+        &[
+            FIREWALL,
+            TWO_PORTS,
+            b"vericon-journal 2\npacket 0 1 1 1 2 1\nexpire 0 1 1 1 2 1 1\nend\n",
+        ],
+        b"1 ok\nentry 2: stranger\n",
+        3,
+    ),
+    (
+        &["trace", "p", "n", "j"],
+        &[
+            ENDING,
+            TWO_PORTS,
+            b"vericon-journal 2\nexpire 0 1 1 1 2 9 5\nend\n",
+        ],
+        b"entry 1: stranger\n",
+        3,
+    ),
+    // journals of the first version say of no rule that it ended
+    (
+        &["trace", "p", "n", "j"],
+        &[
+            ENDING,
+            TWO_PORTS,
+            b"vericon-journal 1\nexpire 0 1 1 1 2 1 1\nend\n",
+        ],
+        b"j refused line 2\n",
+        3,
+    ),
+];
+
+#[test]
+fn rules_end(rt: HostRuntime) -> Result<(), Fail> {
+    prints(&rt, rt.alloc(), ENDS)
+}
+
 const IN_ORDER: &[Call] = &[
     (
         &["trace", "p", "n", "j"],

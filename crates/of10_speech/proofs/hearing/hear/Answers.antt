@@ -23,7 +23,7 @@ settle-requires-clause-room g c =
 pub returns-in-Ok-Ask-clause-said : goal.returns-in-Ok-Ask-clause-said
 returns-in-Ok-Ask-clause-said g c =
     let asks : (turn c.args.session.now c.args.message).turn ≡ AskFor c.in-Ok-Ask.ask = sym c.in-Ok-Ask.ensures.turn.turn ∙ c.in-Ok-Ask.field-0-is in
-    IfOk-weaker c.settle.result _ _ (λ stop h. hear_says (told g.P.Answers.declares g.P.Answers.given c.settle.new.program) c.args.place (length (g.P.Answers.given c.args.program.now)) c.args.session.now c.args.message c.in-Ok-Ask.ask c.step.new.self c.settle.new.session stop c.args.out.now.items c.step.new.out.items c.settle.new.out.items c.requires.listening asks c.in-Ok-Ask.ensures.turn.session c.in-Ok-Ask.ensures.turn.bytes h) c.settle.ensures.said
+    IfOk-weaker c.settle.result _ _ (λ stop h. hear_says (told g.P.Answers.declares g.P.Answers.given g.P.Answers.asked c.settle.new.program) c.args.place (length (g.P.Answers.given c.args.program.now)) c.args.session.now c.args.message c.in-Ok-Ask.ask c.step.new.self c.settle.new.session stop c.args.out.now.items c.step.new.out.items c.settle.new.out.items c.requires.listening asks c.in-Ok-Ask.ensures.turn.session c.in-Ok-Ask.ensures.turn.bytes h) c.settle.ensures.said
 
 pub returns-in-Ok-Ask-clause-err : goal.returns-in-Ok-Ask-clause-err
 returns-in-Ok-Ask-clause-err g c =
@@ -37,5 +37,11 @@ returns-in-Ok-Ask-clause-err g c =
 pub returns-in-Ok-Ask-clause-counts : goal.returns-in-Ok-Ask-clause-counts
 returns-in-Ok-Ask-clause-counts g c =
     let asks : (turn c.args.session.now c.args.message).turn ≡ AskFor c.in-Ok-Ask.ask = sym c.in-Ok-Ask.ensures.turn.turn ∙ c.in-Ok-Ask.field-0-is in
-    let same = hear_same (told g.P.Answers.declares g.P.Answers.given c.settle.new.program) c.args.place (length (g.P.Answers.given c.args.program.now)) c.args.session.now c.args.message c.in-Ok-Ask.ask c.step.new.self asks c.in-Ok-Ask.ensures.turn.session in
+    let same = hear_same (told g.P.Answers.declares g.P.Answers.given g.P.Answers.asked c.settle.new.program) c.args.place (length (g.P.Answers.given c.args.program.now)) c.args.session.now c.args.message c.in-Ok-Ask.ask c.step.new.self asks c.in-Ok-Ask.ensures.turn.session in
     IfOk-weaker c.settle.result _ _ (λ stop h goes. h goes ∙ ap (λ (y : Said). length (g.P.Answers.given c.args.program.now) + length y.asks) (sym same)) c.settle.ensures.counts
+
+pub returns-in-Ok-Ask-clause-asked : goal.returns-in-Ok-Ask-clause-asked
+returns-in-Ok-Ask-clause-asked g c =
+    let asks : (turn c.args.session.now c.args.message).turn ≡ AskFor c.in-Ok-Ask.ask = sym c.in-Ok-Ask.ensures.turn.turn ∙ c.in-Ok-Ask.field-0-is in
+    let same = hear_same (told g.P.Answers.declares g.P.Answers.given g.P.Answers.asked c.settle.new.program) c.args.place (length (g.P.Answers.given c.args.program.now)) c.args.session.now c.args.message c.in-Ok-Ask.ask c.step.new.self asks c.in-Ok-Ask.ensures.turn.session in
+    IfOk-weaker c.settle.result _ _ (λ stop h. h ∙ ap (λ (y : Said). g.P.Answers.asked c.args.program.now ++ y.asks) (sym same)) c.settle.ensures.asked

@@ -1,0 +1,14 @@
+mod FindLaws
+mod FreeLaws
+mod JudgeSteps
+mod LookSteps
+mod NamedLaws
+pub mod Agree
+mod EqualityAtoms
+mod OnceLaws
+mod WholeFound
+mod OpenSteps
+mod TupleLaws
+mod ReadLaws
+mod OpenWhole
+mod AddLaws

@@ -1,0 +1,9 @@
+use Rattle.lazy_ground.proofs.FindLaws.{goes_next, goes_out}
+use Rattle.lazy_ground.proofs.ReadLaws.{flat_first, flat_last}
+use Rattle.lazy_ground.proofs.equalities.find_numerals_beside.Goals as goal
+
+pub others-preserved : goal.others-preserved
+others-preserved c = goes_next _ _ _ _ _ _ _ _ c.others.invariant (flat_first _ _ c.others.rest.now c.in-len1-up.len_at_least) c.in_ok-find_numeral_pair.ensures
+
+pub returns : goal.returns
+returns c = goes_out _ _ _ _ _ c.others.invariant (flat_last _ c.others.rest.now c.in_default.len_below)

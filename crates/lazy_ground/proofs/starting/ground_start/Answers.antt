@@ -1,0 +1,33 @@
+use Rattle.std.proofs.Common.{ap, subst, sym, ◌≡◌, ◌∙◌}
+use Rattle.decision_laws.specs.Laws.{atoms, name}
+use Rattle.decision_laws.proofs.Bridge.{part_models, part_tied}
+use Rattle.ground_inst.specs.Facts.{AreFactsOf}
+use Rattle.lazy_ground.specs.First.{AreFirst}
+use Rattle.lazy_ground.proofs.AddLaws.{first_part}
+use Rattle.lazy_ground.proofs.starting.ground_start.Goals as goal
+
+pub returns-clause-lazy : goal.returns-clause-lazy
+returns-clause-lazy c =
+    let P = c.args.program.now in
+    let F = c.args.sentence.now in
+    record {
+      sentence = c.in_ok-sentence.ensures;
+      facts = subst (λ Q. AreFactsOf Q F c.in_ok-facts.facts) c.parts-parts.ensures.value c.in_ok-facts.ensures;
+      simple = c.in_ok-simple.ensures;
+      atoms = c.in_ok-clauses.ensures.atoms ∙ ap (λ Q. atoms Q F) c.parts-parts.ensures.value;
+      part = first_part P F c.in_ok-clauses.clauses.clauses (subst (λ Q. AreFirst Q F c.in_ok-clauses.clauses.clauses) c.parts-parts.ensures.value c.in_ok-clauses.ensures.clauses);
+    }
+
+pub returns-clause-exact : goal.returns-clause-exact
+returns-clause-exact c =
+    (subst (λ Q. AreFirst Q c.args.sentence.now c.in_ok-clauses.clauses.clauses) c.parts-parts.ensures.value c.in_ok-clauses.ensures.clauses).all
+
+pub returns-clause-tied : goal.returns-clause-tied
+returns-clause-tied c =
+    let first = subst (λ Q. AreFirst Q c.args.sentence.now c.in_ok-clauses.clauses.clauses) c.parts-parts.ensures.value c.in_ok-clauses.ensures.clauses in
+    (name c.args.program.now c.args.sentence.now, part_tied c.args.program.now c.args.sentence.now c.requires c.in_ok-clauses.clauses.clauses (first_part c.args.program.now c.args.sentence.now c.in_ok-clauses.clauses.clauses first))
+
+pub returns-clause-models : goal.returns-clause-models
+returns-clause-models c =
+    let first = subst (λ Q. AreFirst Q c.args.sentence.now c.in_ok-clauses.clauses.clauses) c.parts-parts.ensures.value c.in_ok-clauses.ensures.clauses in
+    part_models c.args.program.now c.args.sentence.now c.requires c.in_ok-clauses.clauses.clauses (first_part c.args.program.now c.args.sentence.now c.in_ok-clauses.clauses.clauses first)

@@ -1,0 +1,397 @@
+//! The clauses of the copies of a sentence that a valuation breaks.
+//!
+//! Parts without a named node are not looked into: they count as what they are, so that their clauses are true. The others are
+//! walked through. A simplified formula has no truth value inside and no equivalence: `AllocError` for these.
+#![tactic(auto)]
+
+ghost use Rattle.std.specs.Prelude.{◌≡◌, ◌&&◌, not, true, IfOk, OnOk};
+ghost use Rattle.csdn_core.specs.declared.terms.Sort.{Sort as AnySort};
+ghost use Rattle.fol_forms.specs.Counts.{count_of};
+ghost use Rattle.fol_forms.specs.Forms.{And, Atom, ForAll, ForSome, Or, Same, normal_form};
+ghost use Rattle.decision_laws.specs.Weights.{weight as weight_of};
+ghost use Rattle.ground_inst.specs.Walk.{copies_at, scope, state_of, ways_of};
+ghost use Rattle.lazy_ground.specs.Judged.{judged_copies};
+ghost use Rattle.lazy_ground.specs.Readings.{IsFree, IsGiven, given_unless as given_by, makes_node, named_by, node_value};
+ghost use Rattle.lazy_ground.specs.Found.{Looks, LooksAt, LooksBound, LooksInto, LooksMember};
+
+use crate::judging::judge;
+use crate::needing::{past, sum};
+use crate::reading::{Reading, is_free, is_true};
+use clause_log::Lit;
+use csdn_core::syntax::Formula;
+use csdn_core::terms::{Pred, Sort, Term, Terms, VarId};
+use fol_forms::signed::{Signed, view};
+use ground_inst::bases::{larger, one_more};
+use ground_inst::places::{Binding, equation_literal, literal, tuple_literal};
+use ground_inst::walk::{Work, bind, number, push_either, push_member};
+use ground_inst::weights::weight;
+use std::alloc::AllocError;
+
+/// The literal of the whole of some copies, and what it is.
+#[derive(Clone, Copy)]
+pub struct Seen {
+    pub literal: Lit,
+    pub value: bool,
+}
+
+#[cycle(look)]
+/// Appends clauses of the copies of a formula, or for the sign `false` of its negation, that the completed valuation breaks, and
+/// answers the literal of the whole. Where its truth value is given, it is not looked for.
+pub fn look(
+    r: &Reading,
+    formula: &Formula,
+    sign: bool,
+    given: Option<bool>,
+    work: &mut Work,
+) -> Result<Seen, AllocError>
+    ensures { IfOk result (λ seen. Looks r.now (normal_form sign formula.now) given (state_of work.old) (state_of work.new) seen) }
+{
+    match view(formula, sign) {
+        Signed::Truth(_) => Err(AllocError),
+        Signed::Atom(sign, pred, terms) => look_tuple(r, sign, pred, terms, given, work),
+        Signed::Equal(sign, t, u) => look_equation(r, sign, t, u, given, work),
+        Signed::Both(_, _) => look_node(r, formula, sign, given, work),
+        Signed::Either(_, _) => look_node(r, formula, sign, given, work),
+        Signed::Cases(_, _) => Err(AllocError),
+        Signed::Forall(var, sort, p) => {
+            let count = r.names.facts.counts.of(sort);
+            if count > 1 {
+                return look_node(r, formula, sign, given, work);
+            }
+            look_only(r, var, sort, p.formula, p.sign, given, work)
+        }
+        Signed::Exists(var, sort, p) => { look_free(r, var, sort, p.formula, p.sign, given, work) }
+    }
+}
+
+// The literal of an atom, and what it is.
+fn look_tuple(
+    r: &Reading,
+    sign: bool,
+    relation: Pred,
+    terms: &Terms,
+    given: Option<bool>,
+    work: &mut Work,
+) -> Result<Seen, AllocError>
+    ensures { IfOk result (λ seen. Looks r.now (Atom sign relation terms.now) given (state_of work.old) (state_of work.new) seen) }
+{
+    let l = tuple_literal(&r.names, work.env.as_slice(), sign, relation, terms)?;
+    let value = is_true(r.trues, l);
+    Ok(Seen { literal: l, value })
+}
+
+// The literal of an equation, and what it is.
+fn look_equation(
+    r: &Reading,
+    sign: bool,
+    t: Term,
+    u: Term,
+    given: Option<bool>,
+    work: &mut Work,
+) -> Result<Seen, AllocError>
+    ensures { IfOk result (λ seen. Looks r.now (Same sign t u) given (state_of work.old) (state_of work.new) seen) }
+{
+    let l = equation_literal(&r.names, work.env.as_slice(), sign, t, u)?;
+    let value = is_true(r.trues, l);
+    Ok(Seen { literal: l, value })
+}
+
+// What the copies of a formula are, where that is not given.
+fn judge_unless(
+    r: &Reading,
+    formula: &Formula,
+    sign: bool,
+    given: Option<bool>,
+    work: &mut Work,
+) -> Result<bool, AllocError>
+    ensures value { IfOk result (λ b. IsGiven given (judged_copies r.now (normal_form sign formula.now) (state_of work.old).env (state_of work.old).base) → b ≡ judged_copies r.now (normal_form sign formula.now) (state_of work.old).env (state_of work.old).base) }
+    ensures same { OnOk result (state_of work.new ≡ state_of work.old) }
+{
+    match given {
+        Some(value) => Ok(value),
+        None => judge(r, formula, sign, &mut work.env, work.base),
+    }
+}
+
+// What the conjunction or disjunction that comes next counts as.
+fn value_at(r: &Reading, formula: &Formula, sign: bool, work: &mut Work) -> Result<bool, AllocError>
+    ensures value { IfOk result (λ b. b ≡ node_value r.now (state_of work.old).next (copies_at (ways_of r.now.names) (normal_form sign formula.now) (state_of work.old))) }
+    ensures same { OnOk result (state_of work.new ≡ state_of work.old) }
+{
+    if r.named.value(work.next) {
+        return Ok(r.trues.value(work.next));
+    }
+    judge(r, formula, sign, &mut work.env, work.base)
+}
+
+// Passes copies that are one conjunction or disjunction, of so many nodes of which none is named.
+fn skip(
+    r: &Reading,
+    formula: &Formula,
+    sign: bool,
+    count: u64,
+    given: Option<bool>,
+    work: &mut Work,
+) -> Result<Seen, AllocError>
+    ensures { IfOk result (λ seen. count ≡ weight_of (ways_of r.now.names).count (normal_form sign formula.now) → IsFree (named_by r.now) (state_of work.old).next count → makes_node (ways_of r.now.names).count (normal_form sign formula.now) ≡ true → Looks r.now (normal_form sign formula.now) given (state_of work.old) (state_of work.new) seen) }
+{
+    let value = judge_unless(r, formula, sign, given, work)?;
+    let top = literal(true, work.next)?;
+    work.next = sum(work.next, count)?;
+    work.base = past(formula, sign, work.base)?;
+    Ok(Seen {
+        literal: top,
+        value,
+    })
+}
+
+#[cycle(look)]
+// The same of copies that are one conjunction or disjunction.
+fn look_node(
+    r: &Reading,
+    formula: &Formula,
+    sign: bool,
+    given: Option<bool>,
+    work: &mut Work,
+) -> Result<Seen, AllocError>
+    ensures { IfOk result (λ seen. makes_node (ways_of r.now.names).count (normal_form sign formula.now) ≡ true → Looks r.now (normal_form sign formula.now) given (state_of work.old) (state_of work.new) seen) }
+{
+    let count = weight(&r.names.facts.counts, formula, sign)?;
+    if is_free(r.named, work.next, count) {
+        return skip(r, formula, sign, count, given, work);
+    }
+    let value = value_at(r, formula, sign, work)?;
+    let top = literal(true, work.next)?;
+    look_into(r, formula, sign, value, work)?;
+    Ok(Seen {
+        literal: top,
+        value,
+    })
+}
+
+#[cycle(look)]
+// The clauses of a conjunction or disjunction with this value, and of its parts.
+fn look_into(
+    r: &Reading,
+    formula: &Formula,
+    sign: bool,
+    value: bool,
+    work: &mut Work,
+) -> Result<(), AllocError>
+    ensures { OnOk result (LooksInto r.now (normal_form sign formula.now) value (state_of work.old) (state_of work.new)) }
+{
+    match view(formula, sign) {
+        Signed::Truth(_) => Err(AllocError),
+        Signed::Atom(_, _, _) => Err(AllocError),
+        Signed::Equal(_, _, _) => Err(AllocError),
+        Signed::Both(p, q) => {
+            look_into_both(r, p.formula, p.sign, q.formula, q.sign, value, work)
+        }
+        Signed::Either(p, q) => {
+            look_into_either(r, p.formula, p.sign, q.formula, q.sign, value, work)
+        }
+        Signed::Cases(_, _) => Err(AllocError),
+        Signed::Forall(var, sort, p) => {
+            look_into_all(r, var, sort, p.formula, p.sign, value, work)
+        }
+        Signed::Exists(_, _, _) => Err(AllocError),
+    }
+}
+
+// No value is given where it has to be known.
+fn given_unless(wanted: bool) -> Option<bool>
+    ensures { result ≡ given_by wanted }
+{
+    if wanted { None } else { Some(true) }
+}
+
+// Whether what has to be true is not.
+fn is_missing(wanted: bool, value: bool) -> bool
+    ensures { result ≡ (wanted && not value) }
+{
+    wanted && !value
+}
+
+#[cycle(look)]
+// The clauses of a member of the conjunction with this number, and its own clause. Answers whether members are still looked at.
+fn look_member(
+    r: &Reading,
+    formula: &Formula,
+    sign: bool,
+    x: u64,
+    asked: bool,
+    work: &mut Work,
+) -> Result<bool, AllocError>
+    ensures { IfOk result (λ still. LooksMember r.now (normal_form sign formula.now) x asked (state_of work.old) (state_of work.new) still) }
+{
+    let seen = look(r, formula, sign, given_unless(asked), work)?;
+    if is_missing(asked, seen.value) {
+        push_member(&mut work.rows, x, seen.literal)?;
+        return Ok(false);
+    }
+    Ok(asked)
+}
+
+#[cycle(look)]
+// The clauses of a conjunction of two.
+fn look_into_both(
+    r: &Reading,
+    p: &Formula,
+    p_sign: bool,
+    q: &Formula,
+    q_sign: bool,
+    value: bool,
+    work: &mut Work,
+) -> Result<(), AllocError>
+    ensures { OnOk result (LooksInto r.now (And (normal_form p_sign p.now) (normal_form q_sign q.now)) value (state_of work.old) (state_of work.new)) }
+{
+    let x = number(work)?;
+    look_member(r, p, p_sign, x, value, work)?;
+    look_member(r, q, q_sign, x, value, work)?;
+    Ok(())
+}
+
+#[cycle(look)]
+// The clauses of a disjunction. Both sides take the same free constants.
+fn look_into_either(
+    r: &Reading,
+    p: &Formula,
+    p_sign: bool,
+    q: &Formula,
+    q_sign: bool,
+    value: bool,
+    work: &mut Work,
+) -> Result<(), AllocError>
+    ensures { OnOk result (LooksInto r.now (Or (normal_form p_sign p.now) (normal_form q_sign q.now)) value (state_of work.old) (state_of work.new)) }
+{
+    let x = number(work)?;
+    let start = work.base;
+    let a = look(r, p, p_sign, given_unless(value), work)?;
+    let after = work.base;
+    work.base = start;
+    let wanted = is_missing(value, a.value);
+    let b = look(r, q, q_sign, given_unless(wanted), work)?;
+    work.base = larger(after, work.base);
+    if is_missing(wanted, b.value) {
+        return push_either(&mut work.rows, x, a.literal, b.literal);
+    }
+    Ok(())
+}
+
+#[cycle(look)]
+// The clauses of the copies of a body, its variable standing for this constant.
+fn look_at(
+    r: &Reading,
+    binding: Binding,
+    formula: &Formula,
+    sign: bool,
+    given: Option<bool>,
+    work: &mut Work,
+) -> Result<Seen, AllocError>
+    ensures { IfOk result (λ seen. LooksAt r.now (normal_form sign formula.now) binding.var binding.sort binding.place given (state_of work.old) (state_of work.new) seen) }
+{
+    bind(&mut work.env, binding)?;
+    let seen = look(r, formula, sign, given, work)?;
+    work.env.pop();
+    Ok(seen)
+}
+
+#[cycle(look)]
+// The clauses of a `forall` over one constant.
+fn look_only(
+    r: &Reading,
+    var: VarId,
+    sort: Sort,
+    formula: &Formula,
+    sign: bool,
+    given: Option<bool>,
+    work: &mut Work,
+) -> Result<Seen, AllocError>
+    ensures { IfOk result (λ seen. Looks r.now (ForAll var sort (normal_form sign formula.now)) given (state_of work.old) (state_of work.new) seen) }
+{
+    if r.names.facts.counts.of(sort) != 1 {
+        return Err(AllocError);
+    }
+    let start = work.base;
+    let binding = Binding {
+        var,
+        sort,
+        place: 0,
+    };
+    let seen = look_at(r, binding, formula, sign, given, work)?;
+    work.base = start;
+    Ok(seen)
+}
+
+#[cycle(look)]
+// The clauses of an `exists`: its variable stands for the first free constant.
+fn look_free(
+    r: &Reading,
+    var: VarId,
+    sort: Sort,
+    formula: &Formula,
+    sign: bool,
+    given: Option<bool>,
+    work: &mut Work,
+) -> Result<Seen, AllocError>
+    ensures { IfOk result (λ seen. Looks r.now (ForSome var sort (normal_form sign formula.now)) given (state_of work.old) (state_of work.new) seen) }
+{
+    let place = work.base.of(sort);
+    work.base = one_more(work.base, sort)?;
+    look_at(r, Binding { var, sort, place }, formula, sign, given, work)
+}
+
+#[cycle(look)]
+// The clauses of a member of the conjunction with this number, its variable standing for this constant, and its own clause.
+fn look_bound(
+    r: &Reading,
+    binding: Binding,
+    formula: &Formula,
+    sign: bool,
+    x: u64,
+    asked: bool,
+    work: &mut Work,
+) -> Result<bool, AllocError>
+    ensures { IfOk result (λ still. LooksBound r.now (normal_form sign formula.now) binding.var binding.sort binding.place x asked (state_of work.old) (state_of work.new) still) }
+{
+    bind(&mut work.env, binding)?;
+    let still = look_member(r, formula, sign, x, asked, work)?;
+    work.env.pop();
+    Ok(still)
+}
+
+#[cycle(look)]
+// The clauses of a `forall` over more than one constant: one of a false member at most.
+fn look_into_all(
+    r: &Reading,
+    var: VarId,
+    sort: Sort,
+    formula: &Formula,
+    sign: bool,
+    value: bool,
+    work: &mut Work,
+) -> Result<(), AllocError>
+    ensures { OnOk result (LooksInto r.now (ForAll var sort (normal_form sign formula.now)) value (state_of work.old) (state_of work.new)) }
+{
+    let count = r.names.facts.counts.of(sort);
+    if count < 2 {
+        return Err(AllocError);
+    }
+    let start = work.base;
+    let x = number(work)?;
+    let mut asked = value;
+    'places: for place in 0..count {
+        work.base = start;
+        asked = look_bound(
+            r,
+            Binding { var, sort, place },
+            formula,
+            sign,
+            x,
+            asked,
+            work,
+        )?;
+    }
+    work.base = start;
+    Ok(())
+}

@@ -1,0 +1,6 @@
+pub mod Cut
+pub mod SameAsks
+pub mod Taking
+pub mod Servable
+pub mod Replayed
+pub mod OneText

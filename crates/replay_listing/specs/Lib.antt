@@ -1,0 +1,5 @@
+pub mod Told
+pub mod Journals
+pub mod Refusals
+pub mod Replays
+pub mod Tellings

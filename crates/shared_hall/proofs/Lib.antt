@@ -1,0 +1,11 @@
+pub mod Words
+pub mod Keeping
+pub mod Draws
+pub mod Looks
+pub mod Passes
+pub mod Cuts
+pub mod Joins
+pub mod Rows
+pub mod Answers
+pub mod Calls
+pub mod Endings

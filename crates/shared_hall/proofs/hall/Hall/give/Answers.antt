@@ -1,0 +1,13 @@
+use Rattle.std.proofs.Common.{ap, ◌∙◌, sym, arith}
+use Rattle.atomic_table.specs.Table.{step}
+use mathlib.Core.Option.{none}
+use Rattle.shared_hall.proofs.Calls.{passes_as}
+use Rattle.shared_hall.proofs.hall.Hall.give.Goals as goal
+
+pub fetch_add-served-requires : goal.fetch_add-served-requires
+fetch_add-served-requires c =
+    let e = c.exchange-taken.ensures in (
+      e.0 ∙ (c.requires.table ∙ sym (ap (λ h. h.id) c.self.view_is)),
+      omega (arith, c.self.invariant.0),
+      passes_as c.self.inside.table.shared.key c.self.inside.table.shared.table_id.slots c.exchange-taken.new.seat.id c.args.seat.now.me c.exchange-taken.new.seat.me c.args.runtime (step c.self.inside.table.shared.table_id.slots 1 1 0 none) c.requires.turn e.3,
+    )
