@@ -12,3 +12,4 @@ mod TupleLaws
 mod ReadLaws
 mod OpenWhole
 mod AddLaws
+mod EarlySteps

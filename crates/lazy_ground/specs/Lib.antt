@@ -7,3 +7,4 @@ pub mod Found
 pub mod Tuples
 pub mod Whole
 pub mod Opened
+pub mod Early

@@ -4,47 +4,21 @@
 ghost use Rattle.std.specs.Prelude.{◌≡◌, IfOk, OnOk};
 ghost use Rattle.fol_forms.specs.Counts.{count_of};
 ghost use Rattle.fol_forms.specs.Forms.{And, ForAll, ForSome, Or, normal_form};
-ghost use Rattle.ground_inst.specs.Walk.{equation_fact, scope, tuple_fact, ways_of};
-ghost use Rattle.lazy_ground.specs.Judged.{judged_bound, judged_copies, said_signed};
+ghost use Rattle.ground_inst.specs.Walk.{scope};
+ghost use Rattle.lazy_ground.specs.Judged.{judged_bound, judged_copies};
 
+use crate::early::surely_all;
+use crate::facts::{judge_equation, judge_tuple};
 use crate::needing::past;
-use crate::reading::{Reading, is_true};
+use crate::reading::Reading;
 use csdn_core::syntax::Formula;
-use csdn_core::terms::{Pred, Sort, Term, Terms, VarId};
+use csdn_core::terms::{Sort, VarId};
 use fol_forms::instances::Counts;
 use fol_forms::signed::{Signed, view};
 use ground_inst::bases::one_more;
-use ground_inst::places::{Binding, equation_literal, tuple_literal};
+use ground_inst::places::Binding;
 use ground_inst::walk::bind;
 use std::alloc::AllocError;
-
-// Whether the atom over the constants that its terms stand for is true, or for the sign `false` its negation.
-fn judge_tuple(
-    r: &Reading,
-    sign: bool,
-    relation: Pred,
-    terms: &Terms,
-    env: &[Binding],
-) -> Result<bool, AllocError>
-    ensures { IfOk result (λ b. b ≡ said_signed r.now sign (tuple_fact (ways_of r.now.names) (scope env.now) relation terms.now)) }
-{
-    let l = tuple_literal(&r.names, env, sign, relation, terms)?;
-    Ok(is_true(r.trues, l))
-}
-
-// The same of an equation.
-fn judge_equation(
-    r: &Reading,
-    sign: bool,
-    t: Term,
-    u: Term,
-    env: &[Binding],
-) -> Result<bool, AllocError>
-    ensures { IfOk result (λ b. b ≡ said_signed r.now sign (equation_fact (ways_of r.now.names) (scope env.now) t u)) }
-{
-    let l = equation_literal(&r.names, env, sign, t, u)?;
-    Ok(is_true(r.trues, l))
-}
 
 #[cycle(judge)]
 /// Whether the copies of a formula, or for the sign `false` of its negation, are true. The bindings are the same at the end. A
@@ -147,6 +121,10 @@ fn judge_all(
     ensures value { IfOk result (λ b. b ≡ judged_copies r.now (ForAll var sort (normal_form sign formula.now)) (scope env.old.items) (count_of base)) }
     ensures env { OnOk result (env.new.items ≡ env.old.items) }
 {
+    let sure = surely_all(r, var, sort, formula, sign, env)?;
+    if sure {
+        return Ok(true);
+    }
     let count = r.names.facts.counts.of(sort);
     'places: for place in 0..count {
         let value = judge_at(r, Binding { var, sort, place }, formula, sign, env, base)?;

@@ -6,8 +6,10 @@
 
 pub mod adding;
 mod collecting;
+mod early;
 mod equalities;
 mod exchanges;
+mod facts;
 mod judging;
 mod looking;
 pub mod naming;

@@ -1,4 +1,7 @@
 //! A sentence and some of its clauses.
+#![tactic(auto)]
+
+use clause_log::Clauses;
 use csdn_core::syntax::Formula;
 use ground_inst::sentence::Ground;
 use sqlite_items::Boxed;
@@ -8,4 +11,16 @@ use sqlite_items::Boxed;
 pub struct LazyGround {
     pub made: Ground,
     pub simple: Boxed<Formula>,
+}
+
+impl LazyGround {
+    ghost use Rattle.std.specs.Prelude.{◌≡◌};
+
+    /// The clauses. It takes no memory.
+    pub fn into_clauses(self) -> Clauses
+        ensures { result ≡ self.made.clauses }
+    {
+        let made = self.made;
+        made.clauses
+    }
 }

@@ -1,10 +1,14 @@
-use Rattle.std.proofs.Common.{◌≡◌, ◌<◌, ◌∙◌, arith, subst}
+use Rattle.std.proofs.Common.{◌≡◌, ◌<◌, ◌∙◌, arith, subst, sym}
 use Rattle.fol_forms.specs.Counts.{count_of}
 use Rattle.fol_forms.specs.Forms.{normal_form}
 use Rattle.ground_inst.specs.Walk.{scope}
 use Rattle.lazy_ground.specs.Judged.{judged_bound}
+use Rattle.lazy_ground.proofs.EarlySteps.{fits_itself}
 use Rattle.lazy_ground.proofs.JudgeSteps.{all_judged, more_judged, one_judged}
 use Rattle.lazy_ground.proofs.judging.+judge.Goals as goal
+
+pub judge_all-returns-then-sure-clause-value : goal.judge_all-returns-then-sure-clause-value
+judge_all-returns-then-sure-clause-value t c = sym (c.in_ok-sure.ensures.value c.if-sure.true (scope c.args.env.now.items) (count_of c.args.base) (fits_itself (scope c.args.env.now.items)))
 
 pub judge_all-returns-then-not-value-clause-value : goal.judge_all-returns-then-not-value-clause-value
 judge_all-returns-then-not-value-clause-value t c =
