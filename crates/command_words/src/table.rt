@@ -11,6 +11,7 @@ pub enum Command {
     Clauses,
     Frames,
     Make,
+    Replay,
 }
 
 /// What a word may be.
@@ -45,12 +46,17 @@ const INDEX: Kind = Kind::Number {
 
 const COUNT: Kind = Kind::Number { least: 1, most: 60 };
 
+const SESSION: Kind = Kind::Number {
+    least: 0,
+    most: 0xffff_ffff,
+};
+
 const STRENGTHEN: OptionRow = ("--strengthen", LEVEL);
 
 const LOG: OptionRow = ("--log", FILE);
 
 /// The commands that are served.
-pub const COMMANDS: [CommandRow; 8] = [
+pub const COMMANDS: [CommandRow; 9] = [
     ("check", Command::Check, &[STRENGTHEN, LOG], &[FILE], &[]),
     ("show", Command::Show, &[], &[FILE], &[]),
     ("eval", Command::Eval, &[], &[FILE, FILE], &[LEVEL, INDEX]),
@@ -65,4 +71,11 @@ pub const COMMANDS: [CommandRow; 8] = [
     ("clauses", Command::Clauses, &[], &[FILE], &[]),
     ("frames", Command::Frames, &[], &[FILE], &[]),
     ("make", Command::Make, &[], &[COUNT, FILE], &[]),
+    (
+        "replay",
+        Command::Replay,
+        &[],
+        &[FILE, FILE, FILE, SESSION, FILE],
+        &[],
+    ),
 ];

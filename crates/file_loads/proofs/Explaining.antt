@@ -1,13 +1,13 @@
 -- What explains an outcome of a call, from what explains its parts.
-use Rattle.std.proofs.Common.{◌≡◌, ℕ, ◌+◌, ◌≤◌, Bool, true, false, List, [], ◌∷◌, length, Option, Some, None, Result, Ok, Err, IfOk, sym, ◌∙◌, ap, subst, refl, arith}
+use Rattle.std.proofs.Common.{◌≡◌, ℕ, ◌+◌, ◌≤◌, Bool, true, false, List, [], ◌∷◌, Option, Some, None, Result, Ok, Err, IfOk, sym, ◌∙◌, ap, subst, refl, arith}
 use Rattle.std.specs.Prelude.{Vec}
 use Rattle.std.specs.declared.alloc.Global.{Global}
 use Rattle.vericon_edge.specs.Counts.{Rose}
 use Rattle.vericon_edge.specs.Told.{Told, untold, absent, holds, MayBeMissing}
 use Rattle.file_loads.specs.declared.read.FileKind.{FileKind}
-use Rattle.file_loads.specs.Views.{View, Change, OnlyReads, Writes, Touches, calm}
+use Rattle.file_loads.specs.Views.{View, Change, OnlyReads, Touches, calm}
 use Rattle.file_loads.specs.Answers.{Answer, held, missing, longer, failed, longest, MayAnswer, File, FileMayAnswer, MayAnswerAll}
-use Rattle.file_loads.specs.Writes.{Write, HasWritten, IsUnwritten, IsWritten, MayWrite}
+use Rattle.file_loads.specs.Writes.{Write, HasWritten, IsUnwritten, MayWrite}
 use Rattle.file_loads.specs.Explained.{IsExplained}
 use Rattle.file_loads.specs.Outputs.{With, was_value, was_refused, was_none, Then}
 use Rattle.file_loads.specs.Loads.{AreBytes, AreNotBytes, WithBytes}
@@ -190,9 +190,9 @@ pub bytes_at_last : (kind : FileKind) (name : List ℕ) (output : List ℕ → L
 bytes_at_last kind name output change found bytes text status reads value is out =
     at_last kind name AreBytes AreNotBytes output change bytes text status reads (record { bytes = value.bytes; answered = value.answered; is = is ∙ value.is }) out
 
--- what a call says that reads nothing and writes nothing
-pub unread : (output : List ℕ → ℕ → Type 0) (view : View) (text : List ℕ) (status : ℕ) → output text status → IsExplained (record { before = view; after = view }) [] (Then output) text status
-unread output view text status out =
+-- what a call says that reads none of these files, and writes nothing
+pub unread_of : (files : List File) (output : List ℕ → ℕ → Type 0) (view : View) (text : List ℕ) (status : ℕ) → output text status → IsExplained (record { before = view; after = view }) files (Then output) text status
+unread_of files output view text status out =
     record {
       answers = [];
       write = None;
@@ -201,6 +201,14 @@ unread output view text status out =
       written = record { told = refl; calls = refl; faults = refl };
       said = record { no_read = refl; no_write = refl; said = out };
     }
+
+-- .. of no files
+pub unread : (output : List ℕ → ℕ → Type 0) (view : View) (text : List ℕ) (status : ℕ) → output text status → IsExplained (record { before = view; after = view }) [] (Then output) text status
+unread output view text status out = unread_of [] output view text status out
+
+-- a call that reads nothing reads no more than so many files
+pub untouched_reads : (most : ℕ) (view : View) → OnlyReads most (record { before = view; after = view })
+untouched_reads most view = record { told = refl; reads = omega arith; read_faults = omega arith; writes = refl; write_faults = refl }
 
 -- nothing is read, and nothing is written
 pub untouched : (named : Option (List ℕ)) (view : View) → Touches 0 named (record { before = view; after = view })

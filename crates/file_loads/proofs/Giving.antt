@@ -1,13 +1,11 @@
 -- What loading a file gives, from what its bytes are.
-use Rattle.std.proofs.Common.{◌≡◌, ℕ, ◌+◌, ◌≤◌, List, [], ◌∷◌, Option, None, sym, ◌∙◌, subst, refl, arith}
+use Rattle.std.proofs.Common.{◌≡◌, ℕ, ◌≤◌, List, [], ◌∷◌, Option, None, sym, ◌∙◌, subst, refl, arith}
 use Rattle.std.specs.Prelude.{Vec}
 use Rattle.std.specs.declared.alloc.Global.{Global}
 use Rattle.vericon_edge.specs.Counts.{counted}
-use Rattle.file_loads.specs.declared.outcome.Outcome.{Outcome}
 use Rattle.file_loads.specs.declared.read.FileKind.{FileKind}
 use Rattle.file_loads.specs.declared.read.Load.{Load}
 use Rattle.file_loads.specs.declared.read.Load.TheVariants.{Loaded, Refused}
-use Rattle.file_loads.specs.Status.{code_of}
 use Rattle.file_loads.specs.Views.{Change, OnlyReads}
 use Rattle.file_loads.specs.Answers.{Answer, held, FileMayAnswer}
 use Rattle.file_loads.specs.Writes.{Write}

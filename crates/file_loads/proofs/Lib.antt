@@ -1,3 +1,4 @@
 pub mod Explaining
 pub mod Giving
+mod Opening
 pub mod Writings

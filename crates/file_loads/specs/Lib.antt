@@ -7,3 +7,4 @@ pub mod Explained
 pub mod Outputs
 pub mod Loads
 pub mod Gives
+pub mod Networks

@@ -7,6 +7,7 @@
 
 pub mod lines;
 pub mod load;
+pub mod networks;
 pub mod outcome;
 pub mod read;
 pub mod write;

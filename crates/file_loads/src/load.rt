@@ -91,7 +91,7 @@ fn bad_line(alloc: Global, net: &str, number: u64, why: Why) -> Result<Outcome, 
 }
 
 // The case that bytes are.
-fn case_of(
+pub(crate) fn case_of(
     alloc: Global,
     program: &Program,
     name: &str,

@@ -6,3 +6,4 @@ mod Broken
 mod Answered
 mod Yes
 mod Exact
+mod Replayed

@@ -1,7 +1,7 @@
 -- What the words of a call ask of the commands.
 use Rattle.std.specs.Prelude.{◌≡◌, ℕ, List, [], ◌∷◌, slice_index_or, Option, Some, None, codes, min}
 use Rattle.command_words.specs.declared.table.Command.{Command}
-use Rattle.command_words.specs.declared.table.Command.TheVariants.{Check, Show, Eval, Trace, Conditions, Clauses, Frames, Make}
+use Rattle.command_words.specs.declared.table.Command.TheVariants.{Check, Show, Eval, Trace, Conditions, Clauses, Frames, Make, Replay}
 use Rattle.command_words.specs.Call.{Call}
 use Rattle.command_words.specs.Calls.{number_at, option_number}
 use Rattle.command_words.specs.Options.{value_of}
@@ -27,6 +27,7 @@ files_of Conditions call = file_of kind.Program call 0 ∷ []
 files_of Clauses call = file_of kind.Logs call 0 ∷ []
 files_of Frames call = file_of kind.Frames call 0 ∷ []
 files_of Make call = []
+files_of Replay call = file_of kind.Program call 0 ∷ file_of kind.Network call 1 ∷ file_of kind.Journal call 2 ∷ file_of kind.Frames call 4 ∷ []
 
 abbrev pub files_named : Option Call → List File
 files_named None = []
@@ -42,6 +43,7 @@ log_name Conditions call = None
 log_name Clauses call = None
 log_name Frames call = None
 log_name Make call = None
+log_name Replay call = None
 
 abbrev pub log_named : Option Call → Option (List ℕ)
 log_named None = None
@@ -57,6 +59,7 @@ written_name Conditions call = None
 written_name Clauses call = None
 written_name Frames call = None
 written_name Make call = Some (file_name call 1)
+written_name Replay call = None
 
 abbrev pub written_named : Option Call → Option (List ℕ)
 written_named None = None
@@ -69,6 +72,10 @@ number_or_zero (Some number) = number
 
 abbrev pub count_of : Call → ℕ
 count_of call = number_or_zero (number_at call.operands 0)
+
+-- the number of the session that a call of `replay` asks for
+abbrev pub session_of : Call → ℕ
+session_of call = number_or_zero (number_at call.operands 3)
 
 -- the highest level that a call tries, which is at most 9: the number behind `--strengthen`, and 0 where it isn't given
 abbrev pub strength : Option ℕ → ℕ

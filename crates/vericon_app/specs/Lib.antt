@@ -7,6 +7,7 @@ pub mod Trace
 pub mod Frames
 pub mod Clauses
 pub mod Make
+pub mod Replay
 pub mod Output
 pub mod Left
 pub mod Quiet

@@ -1,14 +1,14 @@
 -- The outputs of all commands.
 use Rattle.std.specs.Prelude.{◌≡◌, ℕ, List, Option, Some, None}
 use Rattle.command_words.specs.declared.table.Command.{Command}
-use Rattle.command_words.specs.declared.table.Command.TheVariants.{Check, Show, Eval, Trace, Conditions, Clauses, Frames, Make}
+use Rattle.command_words.specs.declared.table.Command.TheVariants.{Check, Show, Eval, Trace, Conditions, Clauses, Frames, Make, Replay}
 use Rattle.command_words.specs.Call.{Call}
 use Rattle.command_words.specs.Calls.{number_at}
 use Rattle.file_loads.specs.Lines.{usage_text}
 use Rattle.file_loads.specs.Answers.{Answer}
 use Rattle.file_loads.specs.Writes.{Write}
 use Rattle.file_loads.specs.Outputs.{Then}
-use Rattle.vericon_app.specs.Calls.{file_name, count_of, level_of, condition_level, log_name}
+use Rattle.vericon_app.specs.Calls.{file_name, count_of, session_of, level_of, condition_level, log_name}
 use Rattle.vericon_app.specs.Check.{CheckOutput}
 use Rattle.vericon_app.specs.Show.{ShowOutput}
 use Rattle.vericon_app.specs.Eval.{EvalOutput}
@@ -17,6 +17,7 @@ use Rattle.vericon_app.specs.Trace.{TraceOutput}
 use Rattle.vericon_app.specs.Frames.{FramesOutput}
 use Rattle.vericon_app.specs.Clauses.{ClausesOutput}
 use Rattle.vericon_app.specs.Make.{MakeOutput}
+use Rattle.vericon_app.specs.Replay.{ReplayOutput}
 
 -- what a call of the command may print, and its status, by what its reads answered and what it wrote
 abbrev pub CommandOutput : Command → Call → List Answer → Option Write → List ℕ → ℕ → Type 0
@@ -28,6 +29,7 @@ CommandOutput Conditions call = ConditionsOutput (level_of call) (file_name call
 CommandOutput Clauses call = ClausesOutput (file_name call 0)
 CommandOutput Frames call = FramesOutput (file_name call 0)
 CommandOutput Make call = MakeOutput (count_of call) (file_name call 1)
+CommandOutput Replay call = ReplayOutput (file_name call 0) (file_name call 1) (file_name call 2) (session_of call) (file_name call 4)
 
 -- `usage`, with status 6
 abbrev pub IsUsage : List ℕ → ℕ → Type 0

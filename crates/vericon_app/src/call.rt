@@ -21,6 +21,7 @@ use crate::conditions::conditions;
 use crate::eval::eval;
 use crate::frames::frames;
 use crate::make::make;
+use crate::replay::replay;
 use crate::show::show;
 use crate::trace::trace;
 use command_words::request::Request;
@@ -45,12 +46,12 @@ fn level_in(number: Option<u32>) -> u8
 }
 
 /// A number, and 0 where there is none.
-fn count_in(number: Option<u32>) -> u64
+fn number_in(number: Option<u32>) -> u32
     ensures { result ≡ number_or_zero number }
 {
     match number {
         None => 0,
-        Some(count) => u64::from(count),
+        Some(number) => number,
     }
 }
 
@@ -68,6 +69,7 @@ fn run_request<F: Files>(
     let journal = request.operand(2);
     let condition_level = level_in(request.number(2));
     let index = request.number(3);
+    let stream = request.operand(4);
     let log = request.option("--log");
     let most = level_in(request.option_number("--strengthen"));
     match request.command() {
@@ -78,7 +80,8 @@ fn run_request<F: Files>(
         Command::Conditions => conditions(alloc, files, file, most),
         Command::Clauses => clauses(alloc, files, file),
         Command::Frames => frames(alloc, files, file),
-        Command::Make => make(alloc, files, count_in(request.number(0)), net),
+        Command::Make => make(alloc, files, u64::from(number_in(request.number(0))), net),
+        Command::Replay => replay(alloc, files, file, net, journal, number_in(index), stream),
     }
 }
 

@@ -14,5 +14,6 @@ mod eval;
 mod frames;
 mod make;
 pub mod process;
+mod replay;
 mod show;
 mod trace;
