@@ -2,6 +2,7 @@
 mod checks;
 mod conditions;
 mod logs;
+mod replays;
 mod traces;
 
 use std::alloc::{AllocError, Global};
@@ -13,7 +14,7 @@ use vericon_edge::files::Files;
 use vericon_edge::mem_files::MemFiles;
 use vericon_edge::mem_sink::MemSink;
 
-/// A call, what the files `p`, `n` and `j` hold, in this order, what is printed, and the status.
+/// A call, what the files `p`, `n`, `j` and `s` hold, in this order, what is printed, and the status.
 type Call = (
     &'static [&'static str],
     &'static [&'static [u8]],
@@ -51,10 +52,10 @@ fn words_of(alloc: Global, words: &[&str]) -> Result<Vec<String>, AllocError> {
     Ok(owned)
 }
 
-/// Files in memory that hold these bytes: `p`, `n` and `j`, as far as there are any.
+/// Files in memory that hold these bytes: `p`, `n`, `j` and `s`, as far as there are any.
 fn files_with(alloc: Global, contents: &[&[u8]]) -> Result<MemFiles, Fail> {
     let mut files = MemFiles::new(alloc, FaultPlan::none(alloc), FaultPlan::none(alloc));
-    for (name, bytes) in ["p", "n", "j"].iter().zip(contents) {
+    for (name, bytes) in ["p", "n", "j", "s"].iter().zip(contents) {
         files.write_all(alloc, name, bytes)?;
     }
     Ok(files)
