@@ -13,12 +13,11 @@ use Rattle.csdn_core.specs.declared.program.Parts.{Parts}
 use Rattle.csdn_core.specs.declared.syntax.Formula.{Formula}
 use Rattle.csdn_core.specs.declared.terms.Sort.{Sort}
 use Rattle.csdn_core.specs.declared.terms.Sort.TheVariants.{Ho, Pr, Sw}
-use Rattle.clause_log.specs.Literals.{IsModel, truths}
+use Rattle.clause_log.specs.Literals.{truths}
 use Rattle.fol_forms.specs.Constants.{counts}
 use Rattle.fol_forms.specs.Forms.{form_of}
 use Rattle.decision_laws.specs.Classes.{AreOfJudgement, ListTheSame, network_of, number, state_of}
-use Rattle.decision_laws.specs.Laws.{IsJudgement, IsSentence, clauses, judged, words}
-use Rattle.decision_laws.proofs.Bridge.{model_judged}
+use Rattle.decision_laws.specs.Laws.{IsJudgement, IsSentence, judged, words}
 use Rattle.decision_laws.proofs.Distinct.{member_at}
 use Rattle.decision_laws.proofs.Downward.{law_down}
 use Rattle.decision_laws.proofs.Networks.{law_listed, law_numbers}
@@ -64,7 +63,7 @@ each_once N s = subst (AllPairs (λ m n. m ≢ n)) (sym (ordered_list N s)) (dis
 abbrev built : List ℕ → List ℕ → List ℕ → List ℕ → List StaticRow → Network
 built sw ho pr values rows = record { switches = sw; hosts = ho; ports = pr; constants = values; rows = rows }
 
-module _ (g : Judgement) (F : Formula) (sentence : IsSentence g.parts.now F) (are : AreFactsOf g.parts.now F g.facts.now) (model : IsModel (truths g.valuation.now) (clauses g.parts.now F)) (c : Case) (made : IsMade g c) where
+module _ (g : Judgement) (F : Formula) (sentence : IsSentence g.parts.now F) (are : AreFactsOf g.parts.now F g.facts.now) (judgement : IsJudgement g.parts.now F (judged g.parts.now F (truths g.valuation.now))) (c : Case) (made : IsMade g c) where
   abbrev P : Parts
   P = g.parts.now
 
@@ -75,7 +74,7 @@ module _ (g : Judgement) (F : Formula) (sentence : IsSentence g.parts.now F) (ar
   N = network_of P (form_of F) (judged P F (truths trues))
 
   is_judgement : IsJudgement P F (judged P F (truths trues))
-  is_judgement = model_judged P F sentence (truths trues) model
+  is_judgement = judgement
 
   of : AreOfJudgement P (form_of F) (judged P F (truths trues)) (number P (form_of F) (judged P F (truths trues))) N (state_of P (form_of F) (judged P F (truths trues)))
   of = law_numbers P F (judged P F (truths trues)) is_judgement
@@ -148,12 +147,12 @@ pub record IsAnswer (P : Parts) (F : Formula) (v : ℕ → Bool) (answer : Resul
   pub network : IfOk answer (IsNetworkOf P F v)
   pub case : IfOk answer (MakesTrue P F)
 
-made_answer : (g : Judgement) (F : Formula) → IsSentence g.parts.now F → AreFactsOf g.parts.now F g.facts.now → IsModel (truths g.valuation.now) (clauses g.parts.now F) → (answer : Result Case AllocError) → IfOk answer (IsMade g) → IsAnswer g.parts.now F (truths g.valuation.now) answer
-made_answer g F sentence are model (Ok c) made = record { network = is_network_of g F sentence are model c made; case = makes_true g F sentence are model c made }
-made_answer g F sentence are model (Err e) made = record { network = tt; case = tt }
+made_answer : (g : Judgement) (F : Formula) → IsSentence g.parts.now F → AreFactsOf g.parts.now F g.facts.now → IsJudgement g.parts.now F (judged g.parts.now F (truths g.valuation.now)) → (answer : Result Case AllocError) → IfOk answer (IsMade g) → IsAnswer g.parts.now F (truths g.valuation.now) answer
+made_answer g F sentence are judgement (Ok c) made = record { network = is_network_of g F sentence are judgement c made; case = makes_true g F sentence are judgement c made }
+made_answer g F sentence are judgement (Err e) made = record { network = tt; case = tt }
 
-pub answered : (g : Judgement) (Q : Parts) (F : Formula) → g.parts.now ≡ Q → IsSentence Q F → AreFactsOf Q F g.facts.now → IsModel (truths g.valuation.now) (clauses Q F) → (answer : Result Case AllocError) → IfOk answer (IsMade g) → IsAnswer Q F (truths g.valuation.now) answer
-answered g Q F same sentence are model answer made =
+pub answered : (g : Judgement) (Q : Parts) (F : Formula) → g.parts.now ≡ Q → IsSentence Q F → AreFactsOf Q F g.facts.now → IsJudgement Q F (judged Q F (truths g.valuation.now)) → (answer : Result Case AllocError) → IfOk answer (IsMade g) → IsAnswer Q F (truths g.valuation.now) answer
+answered g Q F same sentence are judgement answer made =
     subst (λ R. IsAnswer R F (truths g.valuation.now) answer) same
     (made_answer g F (subst (λ R. IsSentence R F) (sym same) sentence) (subst (λ R. AreFactsOf R F g.facts.now) (sym same) are)
-    (subst (λ R. IsModel (truths g.valuation.now) (clauses R F)) (sym same) model) answer made)
+    (subst (λ R. IsJudgement R F (judged R F (truths g.valuation.now))) (sym same) judgement) answer made)

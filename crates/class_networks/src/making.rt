@@ -2,9 +2,9 @@
 #![tactic(auto)]
 
 ghost use Rattle.std.specs.Prelude.{◌≡◌, IfOk};
-ghost use Rattle.clause_log.specs.Literals.{IsModel, truths};
-ghost use Rattle.decision_laws.specs.Laws.{IsSentence};
-ghost use Rattle.ground_inst.specs.Ground.{IsGround};
+ghost use Rattle.clause_log.specs.Literals.{truths};
+ghost use Rattle.decision_laws.specs.Laws.{IsSentence, IsJudgement, judged};
+ghost use Rattle.ground_inst.specs.Facts.{AreFactsOf};
 ghost use Rattle.net_structs.specs.Networks.{in_order};
 ghost use Rattle.net_structs.specs.Rows.{row_cmp};
 ghost use Rattle.class_networks.specs.Cases.{IsNetworkOf, MakesTrue};
@@ -25,8 +25,8 @@ use net_structs::row::Row;
 use net_structs::state::State;
 use std::alloc::{AllocError, Global};
 
-/// The network and state of a valuation that makes each clause of a sentence true. Their elements are the classes of equal
-/// constants: switches and hosts from 1 on, a port with a numeral as that numeral, and the other ports as the least numbers from
+/// The network and state of a valuation whose judgement of a sentence's facts is fair and makes its copies true, as that of a
+/// valuation that makes each clause of the sentence true. Their elements are the classes of equal constants: switches and hosts from 1 on, a port with a numeral as that numeral, and the other ports as the least numbers from
 /// 1 on that are no numeral. The sentence is true in them. It takes as many looks at the valuation as there are pairs of constants
 /// of a sort, and a look at each true atom for each relation that the sentence uses.
 pub fn network_of(
@@ -36,8 +36,8 @@ pub fn network_of(
     valuation: &Valuation,
 ) -> Result<Case, AllocError>
     requires sentence { IsSentence program.now made.now.sentence }
-    requires clauses { IsGround program.now made.now.sentence made.now }
-    requires model { IsModel (truths valuation.now) made.now.clauses.clauses }
+    requires facts { AreFactsOf program.now made.now.sentence made.now.facts }
+    requires judgement { IsJudgement program.now made.now.sentence (judged program.now made.now.sentence (truths valuation.now)) }
     ensures network { IfOk result (IsNetworkOf program.now made.now.sentence (truths valuation.now)) }
     ensures case { IfOk result (MakesTrue program.now made.now.sentence) }
 {

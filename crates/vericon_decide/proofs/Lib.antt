@@ -2,3 +2,4 @@ mod VerdictLaws
 mod LevelLaws
 mod AnswerLaws
 mod Exact
+mod RoundLaws

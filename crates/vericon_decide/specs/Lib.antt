@@ -1,3 +1,4 @@
 pub mod Verdicts
 pub mod Levels
 pub mod Answers
+pub mod Rounds
