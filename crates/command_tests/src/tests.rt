@@ -91,11 +91,6 @@ const FRAMES: &[Call] = &[
     (&["frames", "p"], &[&[1, 0, 0, 7]], b"0 cut 4\n", 3),
 ];
 
-#[test]
-fn frames_prints_these_lines_with_these_statuses(rt: HostRuntime) -> Result<(), Fail> {
-    prints(&rt, rt.alloc(), FRAMES)
-}
-
 const SHOWN: &[Call] = &[
     (
         &["show", "p"],
@@ -112,11 +107,6 @@ const SHOWN: &[Call] = &[
         3,
     ),
 ];
-
-#[test]
-fn show_prints_a_program_in_one_form(rt: HostRuntime) -> Result<(), Fail> {
-    prints(&rt, rt.alloc(), SHOWN)
-}
 
 const CLAUSES: &[Call] = &[
     (
@@ -148,11 +138,6 @@ const CLAUSES: &[Call] = &[
         3,
     ),
 ];
-
-#[test]
-fn clauses_prints_these_lines_with_these_statuses(rt: HostRuntime) -> Result<(), Fail> {
-    prints(&rt, rt.alloc(), CLAUSES)
-}
 
 const EVALUATED: &[Call] = &[
     (
@@ -192,11 +177,6 @@ const EVALUATED: &[Call] = &[
         3,
     ),
 ];
-
-#[test]
-fn eval_prints_which_invariants_are_true(rt: HostRuntime) -> Result<(), Fail> {
-    prints(&rt, rt.alloc(), EVALUATED)
-}
 
 /// A call on a text that blanks fill up to a length: the words, the text and the length of the file `p`, whether the second
 /// write fails, where each takes three bytes, what is printed, and the status.
@@ -262,4 +242,15 @@ fn odd_input_is_answered_by_these_lines_and_statuses(rt: HostRuntime) -> Result<
         assert_eq!(rt; out.bytes(), *printed);
     }
     Ok(())
+}
+
+// `frames`, `show`, `clauses`, `eval` and `check`.
+#[test]
+fn each_call_prints_the_lines_of_its_row(rt: HostRuntime) -> Result<(), Fail> {
+    let alloc = rt.alloc();
+    prints(&rt, alloc, FRAMES)?;
+    prints(&rt, alloc, SHOWN)?;
+    prints(&rt, alloc, CLAUSES)?;
+    prints(&rt, alloc, EVALUATED)?;
+    prints(&rt, alloc, checks::WHOLE_ANSWERS)
 }

@@ -58,7 +58,7 @@ pktIn(s, src->dst, i) {
 }
 ";
 
-const WHOLE_ANSWERS: &[Call] = &[
+pub(crate) const WHOLE_ANSWERS: &[Call] = &[
     (&["check", "p"], &[ARMED], b"yes level 0\n", 0),
     (
         &["check", "p"],
@@ -94,11 +94,6 @@ const WHOLE_ANSWERS: &[Call] = &[
         3,
     ),
 ];
-
-#[test]
-fn check_prints_these_lines_with_these_statuses(rt: HostRuntime) -> Result<(), Fail> {
-    prints(&rt, rt.alloc(), WHOLE_ANSWERS)
-}
 
 /// A program, the first line that `check` prints of it, and the number of the condition on that line.
 type Broken = (&'static [u8], &'static [u8], &'static str);

@@ -70,11 +70,6 @@ const CLASSES: &[Call] = &[
     ),
 ];
 
-#[test]
-fn each_condition_has_a_class(rt: HostRuntime) -> Result<(), Fail> {
-    prints(&rt, rt.alloc(), CLASSES)
-}
-
 const LOOKS: &[Call] = &[
     // a topology without invariants is true, and the goal of the first condition false
     (
@@ -123,11 +118,6 @@ const LOOKS: &[Call] = &[
     ),
 ];
 
-#[test]
-fn a_condition_is_looked_at_in_a_state(rt: HostRuntime) -> Result<(), Fail> {
-    prints(&rt, rt.alloc(), LOOKS)
-}
-
 /// At level 1 of `ONE` the conditions are those of the network, `init 0`, `init 1`, and the steps of a packet and of a flow.
 const LOOKS_HIGHER: &[Call] = &[
     (
@@ -171,11 +161,6 @@ const LOOKS_HIGHER: &[Call] = &[
         6,
     ),
 ];
-
-#[test]
-fn a_condition_of_a_level_is_looked_at_in_a_state(rt: HostRuntime) -> Result<(), Fail> {
-    prints(&rt, rt.alloc(), LOOKS_HIGHER)
-}
 
 const SPELLINGS: &[Call] = &[
     (
@@ -232,11 +217,6 @@ const SPELLINGS: &[Call] = &[
 ];
 
 #[test]
-fn levels_and_numbers_have_one_spelling(rt: HostRuntime) -> Result<(), Fail> {
-    prints(&rt, rt.alloc(), SPELLINGS)
-}
-
-#[test]
 fn a_sentence_may_have_too_many_nodes(rt: HostRuntime) -> Result<(), Fail> {
     let alloc = rt.alloc();
     let cases: [(usize, &[u8], &[u8], u8); 2] = [
@@ -267,4 +247,15 @@ fn a_sentence_may_have_too_many_nodes(rt: HostRuntime) -> Result<(), Fail> {
         assert_eq!(rt; status, number);
     }
     Ok(())
+}
+
+// Each condition has a class; one is looked at in a state, at level 0 and above; levels and numbers have one
+// spelling.
+#[test]
+fn conditions_are_listed_and_looked_at(rt: HostRuntime) -> Result<(), Fail> {
+    let alloc = rt.alloc();
+    prints(&rt, alloc, CLASSES)?;
+    prints(&rt, alloc, LOOKS)?;
+    prints(&rt, alloc, LOOKS_HIGHER)?;
+    prints(&rt, alloc, SPELLINGS)
 }

@@ -137,12 +137,8 @@ fn prints_in_turn(rt: &impl Abort, alloc: Global, rows: &[Steps]) -> Result<(), 
 }
 
 #[test]
-fn a_yes_leaves_a_log_that_is_accepted(rt: HostRuntime) -> Result<(), Fail> {
-    prints_in_turn(&rt, rt.alloc(), LOGGED)
-}
-
-#[test]
-fn a_made_program_stands_in_its_file(rt: HostRuntime) -> Result<(), Fail> {
+fn a_yes_leaves_its_log_and_make_its_program(rt: HostRuntime) -> Result<(), Fail> {
+    prints_in_turn(&rt, rt.alloc(), LOGGED)?;
     prints_in_turn(&rt, rt.alloc(), MADE)
 }
 

@@ -85,11 +85,6 @@ const EVENTS: &[Call] = &[
     ),
 ];
 
-#[test]
-fn notes_happen_in_order(rt: HostRuntime) -> Result<(), Fail> {
-    prints(&rt, rt.alloc(), EVENTS)
-}
-
 const BROKEN: &[Call] = &[
     // with one port a flood reaches nobody
     (
@@ -146,11 +141,6 @@ const BROKEN: &[Call] = &[
         3,
     ),
 ];
-
-#[test]
-fn the_first_false_invariant_is_named(rt: HostRuntime) -> Result<(), Fail> {
-    prints(&rt, rt.alloc(), BROKEN)
-}
 
 const REFUSED: &[Call] = &[
     (
@@ -242,11 +232,6 @@ const REFUSED: &[Call] = &[
         3,
     ),
 ];
-
-#[test]
-fn a_note_may_be_refused(rt: HostRuntime) -> Result<(), Fail> {
-    prints(&rt, rt.alloc(), REFUSED)
-}
 
 /// A rule for each packet, which ends after a time without packets.
 const ENDING: &[u8] = b"timeout 30;
@@ -422,11 +407,6 @@ const ENDS: &[Call] = &[
     ),
 ];
 
-#[test]
-fn rules_end(rt: HostRuntime) -> Result<(), Fail> {
-    prints(&rt, rt.alloc(), ENDS)
-}
-
 const IN_ORDER: &[Call] = &[
     (
         &["trace", "p", "n", "j"],
@@ -448,7 +428,14 @@ const IN_ORDER: &[Call] = &[
     ),
 ];
 
+// Notes happen in order; the first false invariant is named; a note may be refused; rules end; files are refused in
+// the order of the words.
 #[test]
-fn files_are_refused_in_the_order_of_the_words(rt: HostRuntime) -> Result<(), Fail> {
-    prints(&rt, rt.alloc(), IN_ORDER)
+fn journals_are_traced(rt: HostRuntime) -> Result<(), Fail> {
+    let alloc = rt.alloc();
+    prints(&rt, alloc, EVENTS)?;
+    prints(&rt, alloc, BROKEN)?;
+    prints(&rt, alloc, REFUSED)?;
+    prints(&rt, alloc, ENDS)?;
+    prints(&rt, alloc, IN_ORDER)
 }
