@@ -19,7 +19,7 @@ use file_loads::networks::load_network;
 use file_loads::outcome::{Outcome, Status};
 use file_loads::read::{FileKind, Load, read_file};
 use journal_text::Note;
-use net_facts::laws::texts_give_cases;
+use net_facts::texts_give_cases;
 use net_structs::network::Network;
 use replay_listing::{Ending, Refused, first_refused, list, list_refused};
 use std::alloc::{AllocError, Global};
