@@ -22,20 +22,20 @@ nothing_wants : opening_of [] ≡ Wants 8
 unfolding opening_of
 nothing_wants = refl
 
-pub heard_on : (t : Told) (k : ℕ) (f : Framing) (s : Progress) (piece : List ℕ) (g : Framing) (s' : Progress) (r : Hearing) (now after : List ℕ) → Hears t k f s piece g s' r now after → r.stop ≡ Goes → HeardOn f g (length piece) r.used
-heard_on t k f s piece g s' r now after (inl h) on = record {
+pub heard_on : (o t : Told) (f : Framing) (s : Progress) (piece : List ℕ) (g : Framing) (s' : Progress) (r : Hearing) (now after : List ℕ) → Hears o t f s piece g s' r now after → r.stop ≡ Goes → HeardOn f g (length piece) r.used
+heard_on o t f s piece g s' r now after (inl h) on = record {
   is_open = h.framer;
   place = omega (arith, ap (λ (x : Framing). x.start) h.held, ap (λ (x : Framing). length x.held) h.held, length-append f.held piece, h.used);
   within = omega (arith, h.used);
   some = λ there. omega (arith, h.used, there);
 }
-heard_on t k f s piece g s' r now after (inr (inl h)) on = record {
+heard_on o t f s piece g s' r now after (inr (inl h)) on = record {
   is_open = record { wanting = subst (λ (x : Framing). IsWanting x.held) (sym h.held) (8, nothing_wants); on = ap (λ (x : Framing). x.ended) h.held };
   place = omega (arith, ap (λ (x : Framing). x.start) h.held, ap (λ (x : Framing). length x.held) h.held, length-append f.held (take r.used piece), length-take r.used piece, h.used);
   within = h.used;
   some = λ there. h.some;
 }
-heard_on t k f s piece g s' r now after (inr (inr h)) on = absurd (ends_go (sym h.stop ∙ on))
+heard_on o t f s piece g s' r now after (inr (inr h)) on = absurd (ends_go (sym h.stop ∙ on))
   where
     ends_go : Ends (Wire (f.start + h.e.at) h.e.why) ≡ Goes → ⊥
     ends_go e = cc

@@ -19,6 +19,10 @@ impl Answers for Nothing {
 
     ghost given = { λ _. [] };
 
+    ghost asked = { λ _. [] };
+
+    ghost source = { λ _. tt };
+
     fn ask(&mut self, _ask: Ask) -> Result<Reply, Unanswered> {
         Err(Unanswered::Stranger)
     }
