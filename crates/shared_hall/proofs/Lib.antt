@@ -10,3 +10,4 @@ pub mod Answers
 pub mod Calls
 pub mod Endings
 pub mod Replied
+pub mod Crossing
