@@ -9,6 +9,7 @@ pub type Texts = &'static [&'static [u8]];
 
 /// A session: its number, what its switch sends, how many bytes a read gives and a write takes, which of them fail, how many bytes it
 /// may take; and what is written, how it ends, and how many messages were ignored.
+#[derive(Clone, Copy, Debug)]
 pub struct Case {
     pub number: u32,
     pub sent: Texts,

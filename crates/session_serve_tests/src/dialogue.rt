@@ -1,5 +1,5 @@
 //! A link that gives no message before it has been answered.
-ghost use Rattle.std.specs.Prelude.{◌≡◌, ◌≤◌, IfSome, length};
+ghost use Rattle.std.specs.Prelude.{◌≡◌, ◌≤◌, false, IfSome, length};
 
 use vericon_edge::fault::Failed;
 use vericon_links::link::{Got, Link};
@@ -24,7 +24,9 @@ pub struct Dialogue {
 
 impl Dialogue {
     /// Before the first step.
-    pub fn new(steps: &'static [Step]) -> Dialogue {
+    pub fn new(steps: &'static [Step]) -> Dialogue
+        ensures { result.closed ≡ false }
+    {
         Dialogue {
             steps,
             at: 0,

@@ -1,5 +1,5 @@
 //! Halls of a firewall, and sessions that are served there.
-ghost use Rattle.std.specs.Prelude.{◌≡◌, false, IfOk, IfSome};
+ghost use Rattle.std.specs.Prelude.{◌≡◌, ◌≤◌, [], false, IfOk, IfSome, vec_capacity};
 ghost use Rattle.csdn_core.specs.Network.{IsNetwork};
 ghost use Rattle.vericon_links.specs.Links.{IsEmptyWhereTold};
 
@@ -38,16 +38,32 @@ fn network_for(alloc: Global, program: &Program) -> Result<Option<Network>, Allo
     }
 }
 
-/// A hall of a firewall, with one seat.
-#[derive(Drop)]
+/// A hall of a firewall with one seat, and room to close it.
 pub struct Scene {
-    pub hall: Hall,
-    pub seat: HallSeat,
+    hall: Hall,
+    seat: HallSeat,
+    row: Vec<HallSeat>,
     ghost here: { seat.hall ≡ hall },
+    ghost one: { hall.seats ≡ 1 },
+    ghost empty: { row.items ≡ [] },
+    ghost room: { 1 ≤ vec_capacity row },
+}
+
+// A scene ends as a hall does.
+impl Drop for Scene {
+    fn drop(self) {
+        let Scene {
+            hall,
+            seat,
+            mut row,
+        } = self;
+        row.push_reserved(seat);
+        let _runtime = hall.close(row);
+    }
 }
 
 /// A hall whose history has this room; none for want of memory.
-pub fn scene(alloc: Global, room: u32) -> Option<Scene> {
+pub fn firewall(alloc: Global, room: u32) -> Option<Scene> {
     let Ok(program) = read_program(alloc, FIREWALL) else {
         return None;
     };
@@ -67,13 +83,16 @@ fn open(alloc: Global, runtime: Runtime) -> Option<Scene> {
     if !runtime.history().is_empty() {
         return None;
     }
+    let Ok(row) = Vec::with_capacity(alloc, 1) else {
+        return None;
+    };
     let Ok((hall, mut seats)) = Hall::try_open(alloc, runtime, 1) else {
         return None;
     };
     let Some(seat) = seats.pop() else {
-        return None;
+        unreachable!()
     };
-    Some(Scene { hall, seat })
+    Some(Scene { hall, seat, row })
 }
 
 fn plan(alloc: Global, calls: &[u64]) -> Result<FaultPlan, AllocError> {
@@ -135,7 +154,7 @@ pub fn serve_on<R: Wait, K: Link>(
     requires written { IsEmptyWhereTold (K.written link.old) }
     requires closed { K.closed link.old ≡ false }
 {
-    let Scene { hall, seat } = scene;
+    let Scene { hall, seat, .. } = scene;
     if seat.acts() >= 1 << 55 {
         return None;
     }

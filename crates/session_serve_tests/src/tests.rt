@@ -2,7 +2,7 @@
 
 use crate::cases::{COMES_BACK, Case, ENDS, FULL, bytes_of};
 use crate::dialogue::{Dialogue, STEPS};
-use crate::halls::{Scene, scene, serve_link, serve_on, served};
+use crate::halls::{Scene, firewall, serve_link, serve_on, served};
 use session_serve::SessionEnd;
 use std::alloc::{AllocError, Global};
 use std::process::Abort;
@@ -33,7 +33,7 @@ fn comes<R: Wait + Abort>(
 #[test]
 fn each_session_ends_by_its_cause(rt: HostRuntime) -> Result<(), Fail> {
     for (i, case) in ENDS.iter().enumerate() {
-        let Some(mut scene) = scene(rt.alloc(), 8) else {
+        let Some(mut scene) = firewall(rt.alloc(), 8) else {
             return Err(AllocError.into());
         };
         comes(&rt, rt.alloc(), &mut scene, case, i)?;
@@ -43,7 +43,7 @@ fn each_session_ends_by_its_cause(rt: HostRuntime) -> Result<(), Fail> {
 
 #[test]
 fn a_switch_comes_back(rt: HostRuntime) -> Result<(), Fail> {
-    let Some(mut scene) = scene(rt.alloc(), 8) else {
+    let Some(mut scene) = firewall(rt.alloc(), 8) else {
         return Err(AllocError.into());
     };
     for (i, case) in COMES_BACK.iter().enumerate() {
@@ -54,7 +54,7 @@ fn a_switch_comes_back(rt: HostRuntime) -> Result<(), Fail> {
 
 #[test]
 fn a_full_history_ends_a_session(rt: HostRuntime) -> Result<(), Fail> {
-    let Some(mut scene) = scene(rt.alloc(), 1) else {
+    let Some(mut scene) = firewall(rt.alloc(), 1) else {
         return Err(AllocError.into());
     };
     comes(&rt, rt.alloc(), &mut scene, &FULL, 0)?;
@@ -73,7 +73,7 @@ fn hellos(alloc: Global, count: usize) -> Result<Vec<u8>, AllocError> {
 #[test]
 fn many_messages_are_counted(rt: HostRuntime) -> Result<(), Fail> {
     let alloc = rt.alloc();
-    let Some(mut scene) = scene(alloc, 1) else {
+    let Some(mut scene) = firewall(alloc, 1) else {
         return Err(AllocError.into());
     };
     let script = LinkScript::new(
@@ -96,7 +96,7 @@ fn many_messages_are_counted(rt: HostRuntime) -> Result<(), Fail> {
 #[test]
 fn answers_before_it_reads(rt: HostRuntime) -> Result<(), Fail> {
     let alloc = rt.alloc();
-    let Some(mut scene) = scene(alloc, 8) else {
+    let Some(mut scene) = firewall(alloc, 8) else {
         return Err(AllocError.into());
     };
     let mut link = Dialogue::new(STEPS);
