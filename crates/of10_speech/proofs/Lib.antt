@@ -6,3 +6,5 @@ pub mod Asked
 pub mod Frames
 pub mod Following
 pub mod Beginnings
+pub mod Wide
+pub mod Breaks

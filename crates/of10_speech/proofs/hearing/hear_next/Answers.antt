@@ -1,4 +1,3 @@
-use Rattle.std.proofs.Common.{length}
 use Rattle.of10_speech.specs.Speeches.{told}
 use Rattle.of10_speech.proofs.Frames.{fed_frame, was_true}
 use Rattle.of10_speech.proofs.hearing.hear_next.Goals as goal
