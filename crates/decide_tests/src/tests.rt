@@ -173,8 +173,8 @@ mod rows {
         // what is broken of the start is so at each level above
         (ARMING, USUAL_SIZE, 9, "counterexample 9 2"),
         // a condition on the start that can't be decided
-        (LATCH, 5, 1, "unknown 1 2: Instances"),
-        (LATCH, 5, 3, "unknown 3 2: Instances"),
+        (LATCH, 9, 1, "unknown 1 2: Instances"),
+        (LATCH, 9, 3, "unknown 3 2: Instances"),
     ];
 
     #[test]
@@ -195,8 +195,8 @@ mod rows {
         // a smaller size than the usual one
         (
             b"rel armed(); safety A: not armed(); pktIn(s, src->dst, i) { skip; }",
-            3,
-            "unknown 0 1: Instances(4)",
+            6,
+            "unknown 0 1: Instances(7)",
         ),
     ];
 
