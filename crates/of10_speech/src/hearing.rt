@@ -102,6 +102,34 @@ fn ended(start: u64, refusal: WireRefusal) -> Stop
     })
 }
 
+/// Hears the message of a whole frame, which begins at this place of the stream. A message takes much room on the stack, which is
+/// cleared at each call: so this stands apart.
+#[inline(never)]
+fn hear_decoded<P: Answers>(
+    alloc: Global,
+    session: &mut Session,
+    place: u64,
+    frame: &[u8],
+    program: &mut P,
+    out: &mut Vec<u8>,
+) -> Result<Stop, Broken>
+    requires frame { IsFrame frame.now }
+    requires short { length frame.now ≤ 65535 }
+    requires room { place + length frame.now < 2 ^ 64 }
+    requires listening { IsListening session.old }
+    requires count { session.old.ignored + 1 < 2 ^ 64 }
+    ensures hears { IfOk result (λ stop. HearsFrame (told P.declares P.given P.asked program.old) (told P.declares P.given P.asked program.new) (framing place frame.now) session.old (framing (place + length frame.now) []) session.new stop out.old.items out.new.items) }
+    ensures err { OnErr result ((session.new.ignored ≡ session.old.ignored) × (out.new.items ≡ out.old.items)) }
+    ensures further { Further (told P.declares P.given P.asked program.old) (told P.declares P.given P.asked program.new) }
+    ensures source { P.source program.new ≡ P.source program.old }
+{
+    match read_frame(alloc, frame) {
+        Err(_) => Err(Broken::Memory),
+        Ok(Err(refusal)) => Ok(ended(place, refusal)),
+        Ok(Ok(message)) => hear(alloc, session, place, message, program, out),
+    }
+}
+
 /// Hears a whole frame, which begins at this place of the stream. One that asks for an echo takes memory for what is sent
 /// alone.
 fn hear_bytes<P: Answers>(
@@ -128,11 +156,7 @@ fn hear_bytes<P: Answers>(
             Err(_) => Err(Broken::Memory),
         };
     }
-    match read_frame(alloc, frame) {
-        Err(_) => Err(Broken::Memory),
-        Ok(Err(refusal)) => Ok(ended(place, refusal)),
-        Ok(Ok(message)) => hear(alloc, session, place, message, program, out),
-    }
+    hear_decoded(alloc, session, place, frame, program, out)
 }
 
 /// Hears the next message of a piece, or takes all of the piece. A frame that is whole in the piece is read there, and a
