@@ -4,7 +4,7 @@
 # packet; and a packet takes as long after a million others as after a few: the time grows linearly with them.
 . "$(dirname "$0")/common.sh"
 bench=${RUNTIME_BENCH:-$here/../crates/runtime_bench/out/runtime_bench}
-[ -x "$bench" ] || (cd "$here/../crates/runtime_bench" && rt run -- 10 3 2 data/learning.csdn >/dev/null) || true
+[ -x "$bench" ] || (cd "$here/../crates/runtime_bench" && rt run >/dev/null) || true
 python3 - "$here/../examples/learning.csdn" "$bench" <<'PY'
 import os, subprocess, sys, time
 program, bench = sys.argv[1:3]
