@@ -6,3 +6,4 @@ pub mod Asked
 pub mod Frames
 pub mod Following
 pub mod Beginnings
+pub mod Echoed

@@ -1,4 +1,4 @@
-use Rattle.std.proofs.Common.{refl, sym, ap, subst, ◌∙◌, ◌++◌, arith, ℕ, length, [], ◌∷◌}
+use Rattle.std.proofs.Common.{refl, sym, ap, subst, ◌∙◌, ◌++◌, arith, ℕ, [], ◌∷◌}
 use Rattle.of10_msgs.specs.declared.message.Message.TheVariants.{Hello}
 use Rattle.of10_session.specs.Progresses.{Progress, in_phase, drawn}
 use Rattle.of10_session.specs.declared.session.Phase.TheVariants.{Greet}
