@@ -7,3 +7,5 @@ pub mod Frames
 pub mod Following
 pub mod Beginnings
 pub mod Echoed
+pub mod Wide
+pub mod Breaks

@@ -1,11 +1,12 @@
 //! One step of a session that hears a stream.
 
-ghost use Rattle.std.specs.Prelude.{◌≡◌, ◌≢◌, ◌+◌, ◌++◌, ◌<◌, ◌≤◌, ◌^◌, [], length, IfOk, OnErr};
+ghost use Rattle.std.specs.Prelude.{◌≡◌, ◌≢◌, ◌+◌, ◌*◌, ◌++◌, ◌<◌, ◌≤◌, ◌^◌, true, [], length, IfOk, IfErr, OnErr};
 ghost use Rattle.of10_msgs.specs.Sending.{IsSendable};
 ghost use Rattle.of10_stream.specs.Framings.{framing, IsFrame, IsOpen, IsReady};
+ghost use Rattle.of10_stream.specs.Streams.{frame_width};
 ghost use Rattle.of10_session.specs.Progresses.{IsListening};
 ghost use Rattle.of10_speech.specs.Speeches.{told, Further, said_to, on_ask};
-ghost use Rattle.of10_speech.specs.Hearings.{Says, Hears, HearsFrame, is_ended};
+ghost use Rattle.of10_speech.specs.Hearings.{Breaks, BreaksAtFrame, BreaksOff, Says, Hears, HearsFrame, TookFew, is_ended};
 
 use crate::answers::{Answers, Unanswered};
 use crate::echoes::{asks_for_echo, echo};
@@ -26,8 +27,13 @@ fn settle<P: Answers>(
 ) -> Result<Stop, Broken>
     requires pending { session.old.pending ≢ Pending.Nothing }
     requires room { session.old.ignored + 1 < 2 ^ 64 }
+    requires left { 0 < P.left program.old }
     ensures said { IfOk result (λ stop. Says (on_ask (told P.declares P.given P.asked program.new) (length (P.given program.old)) session.old ask) stop session.new out.old.items out.new.items) }
     ensures err { OnErr result ((session.new ≡ session.old) × (out.new.items ≡ out.old.items)) }
+    ensures broken { IfErr result (λ why. BreaksOff (on_ask (told P.declares P.given P.asked program.new) (length (P.given program.old)) session.old ask) (told P.declares P.given P.asked program.old) (told P.declares P.given P.asked program.new) session.old why) }
+    ensures waits { IfOk result (λ stop. stop ≡ Stop.Waits → P.is_full program.new ≡ true) }
+    ensures full { IfErr result (λ why. why ≡ Broken.Full → P.is_full program.new ≡ true) }
+    ensures left { P.left program.old ≤ P.left program.new + 1 }
     ensures further { Further (told P.declares P.given P.asked program.old) (told P.declares P.given P.asked program.new) }
     ensures source { P.source program.new ≡ P.source program.old }
     ensures counts { IfOk result (λ stop. stop ≡ Stop.Goes → length (P.given program.new) ≡ length (P.given program.old) + length (on_ask (told P.declares P.given P.asked program.new) (length (P.given program.old)) session.old ask).asks) }
@@ -68,8 +74,13 @@ pub fn hear<P: Answers>(
     requires listening { IsListening session.old }
     requires room { session.old.ignored + 1 < 2 ^ 64 }
     requires sendable { IsSendable message }
+    requires left { frame_width message ≤ 16 * P.left program.old }
     ensures said { IfOk result (λ stop. Says (said_to (told P.declares P.given P.asked program.new) place (length (P.given program.old)) session.old message) stop session.new out.old.items out.new.items) }
     ensures err { OnErr result ((session.new.ignored ≡ session.old.ignored) × (out.new.items ≡ out.old.items)) }
+    ensures broken { IfErr result (λ why. BreaksOff (said_to (told P.declares P.given P.asked program.new) place (length (P.given program.old)) session.old message) (told P.declares P.given P.asked program.old) (told P.declares P.given P.asked program.new) session.old why) }
+    ensures waits { IfOk result (λ stop. stop ≡ Stop.Waits → P.is_full program.new ≡ true) }
+    ensures full { IfErr result (λ why. why ≡ Broken.Full → P.is_full program.new ≡ true) }
+    ensures left { TookFew (P.left program.old) (P.left program.new) (frame_width message) }
     ensures further { Further (told P.declares P.given P.asked program.old) (told P.declares P.given P.asked program.new) }
     ensures source { P.source program.new ≡ P.source program.old }
     ensures counts { IfOk result (λ stop. stop ≡ Stop.Goes → length (P.given program.new) ≡ length (P.given program.old) + length (said_to (told P.declares P.given P.asked program.new) place (length (P.given program.old)) session.old message).asks) }
@@ -118,8 +129,13 @@ fn hear_decoded<P: Answers>(
     requires room { place + length frame.now < 2 ^ 64 }
     requires listening { IsListening session.old }
     requires count { session.old.ignored + 1 < 2 ^ 64 }
+    requires left { length frame.now ≤ 16 * P.left program.old }
     ensures hears { IfOk result (λ stop. HearsFrame (told P.declares P.given P.asked program.old) (told P.declares P.given P.asked program.new) (framing place frame.now) session.old (framing (place + length frame.now) []) session.new stop out.old.items out.new.items) }
     ensures err { OnErr result ((session.new.ignored ≡ session.old.ignored) × (out.new.items ≡ out.old.items)) }
+    ensures broken { IfErr result (λ why. BreaksAtFrame (told P.declares P.given P.asked program.old) (told P.declares P.given P.asked program.new) (framing place frame.now) session.old why) }
+    ensures waits { IfOk result (λ stop. stop ≡ Stop.Waits → P.is_full program.new ≡ true) }
+    ensures full { IfErr result (λ why. why ≡ Broken.Full → P.is_full program.new ≡ true) }
+    ensures left { TookFew (P.left program.old) (P.left program.new) (length frame.now) }
     ensures further { Further (told P.declares P.given P.asked program.old) (told P.declares P.given P.asked program.new) }
     ensures source { P.source program.new ≡ P.source program.old }
 {
@@ -145,8 +161,13 @@ fn hear_bytes<P: Answers>(
     requires room { place + length frame.now < 2 ^ 64 }
     requires listening { IsListening session.old }
     requires count { session.old.ignored + 1 < 2 ^ 64 }
+    requires left { length frame.now ≤ 16 * P.left program.old }
     ensures hears { IfOk result (λ stop. HearsFrame (told P.declares P.given P.asked program.old) (told P.declares P.given P.asked program.new) (framing place frame.now) session.old (framing (place + length frame.now) []) session.new stop out.old.items out.new.items) }
     ensures err { OnErr result ((session.new.ignored ≡ session.old.ignored) × (out.new.items ≡ out.old.items)) }
+    ensures broken { IfErr result (λ why. BreaksAtFrame (told P.declares P.given P.asked program.old) (told P.declares P.given P.asked program.new) (framing place frame.now) session.old why) }
+    ensures waits { IfOk result (λ stop. stop ≡ Stop.Waits → P.is_full program.new ≡ true) }
+    ensures full { IfErr result (λ why. why ≡ Broken.Full → P.is_full program.new ≡ true) }
+    ensures left { TookFew (P.left program.old) (P.left program.new) (length frame.now) }
     ensures further { Further (told P.declares P.given P.asked program.old) (told P.declares P.given P.asked program.new) }
     ensures source { P.source program.new ≡ P.source program.old }
 {
@@ -178,8 +199,14 @@ pub fn hear_next<P: Answers>(
     requires room { (framer.old.start + length framer.old.held) + length piece.now < 2 ^ 64 }
     requires listening { IsListening session.old }
     requires count { session.old.ignored + 1 < 2 ^ 64 }
+    requires left { length framer.old.held + length piece.now ≤ 16 * P.left program.old }
     ensures hears { IfOk result (λ r. Hears (told P.declares P.given P.asked program.old) (told P.declares P.given P.asked program.new) framer.old session.old piece.now framer.new session.new r out.old.items out.new.items) }
     ensures err { OnErr result ((session.new.ignored ≡ session.old.ignored) × (out.new.items ≡ out.old.items)) }
+    ensures broken { IfErr result (λ why. Breaks (told P.declares P.given P.asked program.old) (told P.declares P.given P.asked program.new) framer.old session.old piece.now why) }
+    ensures waits { IfOk result (λ r. r.stop ≡ Stop.Waits → P.is_full program.new ≡ true) }
+    ensures full { IfErr result (λ why. why ≡ Broken.Full → P.is_full program.new ≡ true) }
+    ensures left { TookFew (P.left program.old) (P.left program.new) (length framer.old.held + length piece.now) }
+    ensures going { IfOk result (λ r. r.stop ≡ Stop.Goes → 16 * P.left program.old + framer.old.start ≤ 16 * P.left program.new + framer.new.start) }
     ensures further { Further (told P.declares P.given P.asked program.old) (told P.declares P.given P.asked program.new) }
     ensures source { P.source program.new ≡ P.source program.old }
 {
@@ -226,8 +253,13 @@ fn hear_frame<P: Answers>(
     requires room { framer.old.start + length framer.old.held < 2 ^ 64 }
     requires listening { IsListening session.old }
     requires count { session.old.ignored + 1 < 2 ^ 64 }
+    requires left { length framer.old.held ≤ 16 * P.left program.old }
     ensures hears { IfOk result (λ stop. HearsFrame (told P.declares P.given P.asked program.old) (told P.declares P.given P.asked program.new) framer.old session.old framer.new session.new stop out.old.items out.new.items) }
     ensures err { OnErr result ((session.new.ignored ≡ session.old.ignored) × (out.new.items ≡ out.old.items)) }
+    ensures broken { IfErr result (λ why. BreaksAtFrame (told P.declares P.given P.asked program.old) (told P.declares P.given P.asked program.new) framer.old session.old why) }
+    ensures waits { IfOk result (λ stop. stop ≡ Stop.Waits → P.is_full program.new ≡ true) }
+    ensures full { IfErr result (λ why. why ≡ Broken.Full → P.is_full program.new ≡ true) }
+    ensures left { TookFew (P.left program.old) (P.left program.new) (length framer.old.held) }
     ensures further { Further (told P.declares P.given P.asked program.old) (told P.declares P.given P.asked program.new) }
     ensures source { P.source program.new ≡ P.source program.old }
 {

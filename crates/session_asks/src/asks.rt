@@ -1,7 +1,7 @@
 //! Asks of a session, and entries of a history.
 ghost use Rattle.std.specs.Prelude.{◌≡◌};
 ghost use Rattle.csdn_run.specs.Sessions.{session_of as session_in};
-ghost use Rattle.replay_listing.specs.Told.{ask_of as ask_in, declares, entry_of as entry_in, same_ask};
+ghost use Rattle.session_asks.specs.Told.{ask_of as ask_in, declares, entry_of as entry_in, same_ask};
 
 use csdn_core::program::Program;
 use csdn_history::entry::Entry;
