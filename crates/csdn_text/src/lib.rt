@@ -66,8 +66,8 @@ const LONGEST: usize = 65536;
 /// The tree that the text spells (docs/LANGUAGE.md, "Grammar"), with the places of its names.
 ///
 /// Refused are, first, a text of more than 65,536 bytes, before memory is taken, and else the first token that doesn't
-/// fit or that stands deeper than 64: a byte, number or word that is no token is told by its own refusal. It takes time and memory in
-/// proportion to the text; memory is taken from `alloc`.
+/// fit or that stands deeper than 64: a byte, number or word that is no token is told by its own refusal. It takes time
+/// and memory in proportion to the text; memory is taken from `alloc`.
 ///
 /// # Example
 ///
