@@ -5,7 +5,8 @@ ghost use Rattle.command_words.specs.Kinds.{any_number, fits as word_fits, behin
 use crate::table::Kind;
 use text_lines::read_number;
 
-/// The number that a word is, of at most 32 bits.
+/// The number that a word is in decimal, without a sign or leading zeros, where it is below 2^32; `None` for every
+/// other word.
 pub fn number_in(word: &str) -> Option<u32>
     ensures { result ≡ any_number word.now }
 {
@@ -15,7 +16,7 @@ pub fn number_in(word: &str) -> Option<u32>
     }
 }
 
-/// Whether a word is of a kind.
+/// Whether a word is of a kind: each word is a text, and a number is decimal, from the least to the most.
 pub fn fits(kind: Kind, word: &str) -> bool
     ensures { result ≡ word_fits kind word.now }
 {

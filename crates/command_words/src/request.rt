@@ -53,7 +53,7 @@ impl<'a> Request<'a> {
         }
     }
 
-    /// The value of this option, where it was given.
+    /// The value of this option; `None` where it was not given.
     pub fn option(&self, option: &str) -> Option<&'a str>
         ensures { option_map (λ value. value.now) result ≡ option_value option.now self.now.options }
     {

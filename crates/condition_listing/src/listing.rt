@@ -14,7 +14,7 @@ use csdn_core::program::Program;
 use std::alloc::{AllocError, Global};
 use text_lines::{put_line_end, put_number};
 
-/// A line for each condition of a level: its number, its kind and its class.
+/// A line for each condition of a level: its number, its kind and its class (docs/COMMANDS.md, "conditions").
 pub fn list(alloc: Global, program: &Program, level: u8) -> Result<Vec<u8>, AllocError>
     requires { level ≤ 9 }
     ensures { IfOk result (λ text. IsListed program.now 0 (conditions program.now level) text.items) }

@@ -24,7 +24,7 @@ pub fn judge_tuple(
     Ok(is_true(r.trues, l))
 }
 
-/// The same of an equation.
+/// Whether the equation of the constants that two terms stand for is true, or for the sign `false` its negation.
 pub fn judge_equation(
     r: &Reading,
     sign: bool,

@@ -23,6 +23,7 @@ pub const MOST_INSTANCES: u64 = 16_777_216;
 /// Whether a condition can be decided, or why it can't.
 #[derive(Clone, Copy, Debug, PartialEq, Eq)]
 pub enum Class {
+    /// It can be decided.
     Inside,
     /// Its sentence, or the normal form of that, has more than 1,048,576 nodes.
     Nodes,

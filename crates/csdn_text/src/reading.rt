@@ -20,7 +20,7 @@ fn parse_tokens(alloc: Global, tokens: &[Token]) -> Result<RawProgram, TextRefus
 /// The greatest length of a text, in bytes.
 const LONGEST: usize = 65536;
 
-/// The program that the text spells.
+/// The tree that the text spells; refused as by `parse`.
 pub fn read(alloc: Global, text: &[u8]) -> Result<RawProgram, TextRefusal>
     ensures { AnswersText text.now result }
 {

@@ -112,7 +112,8 @@ fn finish<S: Sink>(out: &mut S, text: &[u8], status: Status) -> u8
     }
 }
 
-/// Says that there was no memory for the call.
+/// Writes `memory` and a line end, since there was no memory for the call. The answer is status 7, or 8 where that was
+/// not written.
 pub fn no_memory<S: Sink>(out: &mut S) -> u8
     requires { S.has_failed out.old ≡ false }
     ensures finishes { Finishes memory_text 7 (S.written out.old) (S.written out.new) (S.faults out.old) (S.faults out.new) result }
@@ -121,8 +122,8 @@ pub fn no_memory<S: Sink>(out: &mut S) -> u8
     finish(out, b"memory\n", Status::Memory)
 }
 
-/// Serves the command that the words name, and gives its status. It writes its lines to the sink, and no file but
-/// the log that `check` was asked for, or the program that `make` makes.
+/// Serves the command that the words name, and gives its status (docs/COMMANDS.md). It writes its lines to the sink,
+/// and no file but the log that `check` was asked for, or the program that `make` makes.
 ///
 /// | status | meaning |
 /// |---|---|
@@ -135,6 +136,19 @@ pub fn no_memory<S: Sink>(out: &mut S) -> u8
 /// | 6 | the words have no stated form |
 /// | 7 | there was no memory |
 /// | 8 | the sink failed, or the log or the made program was not written |
+///
+/// # Example
+///
+/// From the test `each_call_prints_the_lines_of_its_row` of command_tests, over files and a sink in memory.
+///
+/// ```rust
+/// let mut files = MemFiles::new(alloc, FaultPlan::none(alloc), FaultPlan::none(alloc));
+/// files.write_all(alloc, "p", b"rel armed(); safety A: not armed(); pktIn(s, src->dst, i) { skip; }")?;
+/// let words = vec![in alloc; String::from_str(alloc, "check")?, String::from_str(alloc, "p")?]?;
+/// let mut out = MemSink::new(alloc, 4096, FaultPlan::none(alloc));
+/// assert_eq!(rt; check_call(alloc, &words, &mut files, &mut out), 0);
+/// assert_eq!(rt; out.bytes(), b"yes level 0\n".as_slice());
+/// ```
 pub fn check_call<F: Files, S: Sink>(
     alloc: Global,
     words: &[String],

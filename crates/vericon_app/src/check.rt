@@ -194,7 +194,8 @@ fn check_program<F: Files>(
     }
 }
 
-/// What `check` says of a file, at the levels up to `most`. Where the answer is yes and the name of a log is given, the log is written to that file.
+/// What `check` says of a file, at the levels up to `most` (docs/COMMANDS.md, "check"). Where the answer is yes and the
+/// name of a log is given, the log is written to that file. It reads at most once.
 pub fn check<F: Files>(
     alloc: Global,
     files: &mut F,

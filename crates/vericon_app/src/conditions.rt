@@ -26,7 +26,7 @@ fn class_lines(alloc: Global, program: &Program, level: u8) -> Result<Outcome, A
     })
 }
 
-/// What `conditions` says of a program at a level.
+/// What `conditions` says of a program at a level (docs/COMMANDS.md, "conditions"). It reads at most once.
 pub fn conditions<F: Files>(
     alloc: Global,
     files: &mut F,

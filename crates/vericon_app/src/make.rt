@@ -96,7 +96,8 @@ fn lines_of(alloc: Global, count: u64, name: &str, bytes: &[u8]) -> Result<Outco
     }
 }
 
-/// Writes the made text of this count to a file, and says what it is. Nothing is said where it was not written.
+/// Writes the made text of this count to a file, and says what it is (docs/COMMANDS.md, "make"). Nothing is said where
+/// it was not written.
 pub fn make<F: Files>(
     alloc: Global,
     files: &mut F,

@@ -39,8 +39,28 @@ pub enum Answer {
     NoNetwork { proof: Proof },
 }
 
-/// Decides a program: yes at the least level of at most `most` whose conditions are proven, or what is broken or can't be
-/// decided at level `most`.
+/// Decides a program: yes at the least level of at most `most` whose conditions are proven, or what is broken or can't
+/// be decided at level `most` (docs/COMMANDS.md, "Levels"). The search may take time and memory that are exponential in
+/// the number of atoms of a condition.
+///
+/// # Example
+///
+/// From the test `answers_programs` of decide_tests, whose second program puts in what its invariant forbids.
+///
+/// ```rust
+/// let raw = parse(alloc, b"rel armed(); safety A: not armed(); pktIn(s, src->dst, i) { skip; }")?;
+/// let program = resolve(alloc, &raw)?;
+/// match decide(alloc, &program, 0)? {
+///     Answer::Yes { level, proofs } => assert!(rt; level == 0 && proofs.len() == 3),
+///     _ => assert!(rt; false),
+/// }
+/// let raw = parse(alloc, b"rel armed(); safety A: not armed(); pktIn(s, src->dst, i) { armed.insert(); }")?;
+/// let program = resolve(alloc, &raw)?;
+/// match decide(alloc, &program, 0)? {
+///     Answer::Counter { level, index, .. } => assert!(rt; level == 0 && index == 2),
+///     _ => assert!(rt; false),
+/// }
+/// ```
 pub fn decide(alloc: Global, program: &Program, most: u8) -> Result<Answer, AllocError>
     requires { most ≤ 9 }
     ensures { IfOk result (IsAnswer program.now most) }
