@@ -22,6 +22,9 @@ fn told(alloc: Global, size: u64, most: u8, text: &[u8]) -> Result<String, Alloc
     let Ok(Ok(program)) = resolved(alloc, text) else {
         return format!(in alloc; "no program");
     };
+    if size > GREATEST_SIZE || most > 9 {
+        return format!(in alloc; "no such size or level");
+    }
     match decide(alloc, &program, size, most)? {
         Answer::Yes { level, proofs } => {
             let good = accepted(alloc, &proofs)?;
