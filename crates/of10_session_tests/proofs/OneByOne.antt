@@ -28,5 +28,5 @@ one_byte t u number taken b f s g s' r before now after further w h on =
     subst (λ (n : ℕ). Following u number whole n g s' before after) all (following_next t u number whole (length taken) f s g s' r before now after further (following_more t number taken (b ∷ []) f s before now w) there on)
 
 -- one byte more has come
-pub one_longer : {x : ℕ} (old new : List ℕ) → new ≡ old ++ x ∷ [] → length new ≡ length old + 1
-one_longer {x} old new is = ap (λ (l : List ℕ). length l) is ∙ length-append old (x ∷ [])
+pub one_longer : (x : ℕ) (old new : List ℕ) → new ≡ old ++ x ∷ [] → length new ≡ length old + 1
+one_longer x old new is = ap (λ (l : List ℕ). length l) is ∙ length-append old (x ∷ [])
