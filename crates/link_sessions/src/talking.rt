@@ -1,5 +1,5 @@
 //! A session over a link.
-ghost use Rattle.std.specs.Prelude.{◌≡◌, ◌*◌, ◌+◌, ◌-◌, ◌<◌, ◌≤◌, ◌^◌, [], false, true, length, Ok as OkIs, IfOk, IfErr, OnOk};
+ghost use Rattle.std.specs.Prelude.{◌≡◌, ◌*◌, ◌+◌, ◌-◌, ◌<◌, ◌≤◌, ◌^◌, [], false, length, Ok as OkIs, IfOk, IfErr, OnOk};
 ghost use Rattle.of10_stream.specs.Framings.{framing};
 ghost use Rattle.of10_session.specs.Sessions.{spelled};
 ghost use Rattle.of10_speech.specs.Speeches.{opening, told};
@@ -20,7 +20,6 @@ use vericon_links::link::{Got, Link, write_whole};
 const PIECE: usize = 65536;
 
 /// A session, what it has of its next message, and room for what a piece calls for.
-#[derive(Drop)]
 struct Talk {
     number: u32,
     framer: Framer,
@@ -28,6 +27,18 @@ struct Talk {
     out: Vec<u8>,
     /// How many bytes were taken.
     taken: u64,
+}
+
+impl Drop for Talk {
+    fn drop(self) {
+        let Talk {
+            number: _,
+            framer: _framer,
+            session: _session,
+            out: _out,
+            taken: _,
+        } = self;
+    }
 }
 
 /// The end that a session was told.

@@ -55,6 +55,7 @@ pub fn bytes_of(alloc: Global, texts: &[&[u8]]) -> Result<Vec<u8>, AllocError> {
     Ok(out)
 }
 
+/// Of version 1.
 pub const HELLO: &[u8] = b"01000008 00000000";
 
 /// From switch 1.
@@ -82,12 +83,16 @@ pub const NO_MESSAGE: &[u8] = b"01160008 00000000";
 /// A request of 65,535 bytes, of which 4 come behind the header.
 pub const CUT_ECHO: &[u8] = b"0102ffff 00000007 01020304";
 
+/// The session's HELLO, with xid 1.
 pub const GREETING: &[u8] = b"0100000800000001";
 
+/// FEATURES_REQUEST, with xid 2.
 pub const REQUEST: &[u8] = b"0105000800000002";
 
+/// SET_CONFIG, with xid 3.
 pub const CONFIG: &[u8] = b"0109000c000000030000ffff";
 
+/// The FLOW_MOD that deletes everything, with xid 4.
 pub const DELETE: &[u8] =
     b"010e004800000004003fffff00000000000000000000000000000000000000000000000000000000000000000000000000000000000000000003000000000000ffffffffffff0000";
 
