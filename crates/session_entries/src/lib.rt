@@ -3,5 +3,7 @@
 #![tactic(auto)]
 
 mod entries;
+mod laws;
 
 pub use entries::SeatEntries;
+pub use laws::sessions_stay_told;

@@ -6,6 +6,7 @@ pub mod Passes
 pub mod Cuts
 pub mod Joins
 pub mod Rows
+pub mod Opened
 pub mod Answers
 pub mod Calls
 pub mod Endings

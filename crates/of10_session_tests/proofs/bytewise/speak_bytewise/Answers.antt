@@ -1,8 +1,8 @@
-use Rattle.std.proofs.Common.{sym, subst, ap, arith, ℕ, ◌+◌, List, length, length-append, [], ◌∷◌}
+use Rattle.std.proofs.Common.{sym, subst, ap, arith, ℕ, ◌+◌, List, length, []}
 use Rattle.of10_speech.specs.Speeches.{told}
 use Rattle.of10_speech.specs.Hearings.{Following}
 use Rattle.of10_speech.proofs.Following.{follows_nothing}
-use Rattle.of10_session_tests.proofs.OneByOne.{one_byte}
+use Rattle.of10_session_tests.proofs.OneByOne.{one_byte, one_longer}
 use Rattle.of10_session_tests.proofs.bytewise.speak_bytewise.Goals as goal
 
 pub loop-byte-init : goal.loop-byte-init
@@ -23,7 +23,7 @@ loop-byte-preserved g c =
       follows = subst (λ (l : List ℕ). Following u 1 l (length l) c.hear_next.new.framer c.hear_next.new.session c.args.out.now.items c.hear_next.new.out.items) (sym {A = List ℕ} c.in-Ok-push.ensures.items)
           (one_byte t u 1 c.loop-byte.taken.items _ c.loop-byte.framer c.loop-byte.session c.hear_next.new.framer c.hear_next.new.session c.in_ok-heard.heard c.args.out.now.items c.loop-byte.out.items c.hear_next.new.out.items
           c.in_ok-heard.ensures.further c.loop-byte.invariant.follows c.in_ok-heard.ensures.hears c.in-Goes.is);
-      come = omega (arith, ap (λ (l : List ℕ). length l) c.in-Ok-push.ensures.items, length-append c.loop-byte.taken.items (_ ∷ []), c.loop-byte.invariant.come);
+      come = omega (arith, one_longer _ c.loop-byte.taken.items c.push.new.self.items c.in-Ok-push.ensures.items, c.loop-byte.invariant.come);
       reach = omega (arith, c.in_ok-heard.ensures.going c.in-Goes.is, c.loop-byte.invariant.reach);
     }
 
