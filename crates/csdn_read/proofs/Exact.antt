@@ -1,12 +1,20 @@
--- Bytes are one program, or none.
-use Rattle.std.proofs.Common.{◌≡◌, ℕ, List, [], Contains, sym, ◌∙◌, ap, subst, arith}
+-- Bytes are one program, or none for one reason.
+use Rattle.std.proofs.Common.{◌≡◌, ℕ, ◌<◌, ◌≤◌, ◌⊎◌, inl, inr, List, [], Contains, cond, eqb, Result, Ok, Err, refl, sym, ◌∙◌, ap, ap₂, subst, arith}
+use Rattle.std.proofs.lemmas.List.Elements.{All-contains}
 use Rattle.csdn_core.specs.declared.program.Parts.{Parts}
 use Rattle.csdn_tree.specs.declared.syntax.RawProgram.{RawProgram}
 use Rattle.csdn_text.proofs.Whole.{reads_one}
+use Rattle.csdn_text.proofs.Exact.{not_refused}
+use Rattle.csdn_text.proofs.Refusals.{refused_one}
 use Rattle.csdn_types.specs.declared.refusal.SortRefusal.{SortRefusal}
+use Rattle.csdn_types.specs.declared.refusal.SortRefusal.TheVariants as sorts
+use Rattle.csdn_types.specs.Order.{at_of, rank, ComesFirst, IsLeast}
 use Rattle.csdn_types.specs.Resolved.{broken_rules, parts_of}
+use Rattle.csdn_read.specs.declared.refusal.ProgramRefusal.{ProgramRefusal}
+use Rattle.csdn_read.specs.declared.refusal.ProgramRefusal.TheVariants.{Memory, At}
 use Rattle.csdn_read.specs.declared.refusal.ProgramWhy.{ProgramWhy}
-use Rattle.csdn_read.specs.Programs.{Spells, IsNoProgram, has_no_tree, breaks_a_rule}
+use Rattle.csdn_read.specs.Refusals.{told_text, told_sorts}
+use Rattle.csdn_read.specs.Programs.{Spells, IsNoProgram, has_no_tree, breaks_a_rule, IsProgramAnswer}
 
 -- bytes spell at most one program
 pub spelled_once : (bytes : List ℕ) (P Q : Parts) → Spells bytes P → Spells bytes Q → P ≡ Q
@@ -18,8 +26,55 @@ none_among refusal (k, below, is) = omega arith
 
 -- bytes that are refused spell none
 pub none_spelled : (bytes : List ℕ) (at : ℕ) (why : ProgramWhy) → IsNoProgram bytes at why → (P : Parts) → Spells bytes P → ⊥
-none_spelled bytes at why (has_no_tree refusal none right told) P spells = none spells.tree spells.reads
+none_spelled bytes at why (has_no_tree refusal right told) P spells = not_refused spells.reads right
 none_spelled bytes at why (breaks_a_rule tree refusal reads least told) P spells =
     let same : spells.tree ≡ tree = reads_one spells.reads reads in
     let kept : broken_rules tree ≡ [] = subst (λ (t : RawProgram). broken_rules t ≡ []) same spells.types.keeps in
     none_among refusal (subst (λ (faults : List SortRefusal). Contains faults refusal) kept least.among)
+
+-- the refusal of a rank at a place
+of_rank : ℕ → ℕ → SortRefusal
+of_rank k at = cond (eqb k 1) (sorts.Duplicate at) (cond (eqb k 2) (sorts.Unknown at) (cond (eqb k 3) (sorts.WrongArity at)
+    (cond (eqb k 4) (sorts.WrongSort at) (cond (eqb k 5) (sorts.NotAllowed at) (cond (eqb k 6) (sorts.TooMany at) sorts.Memory)))))
+
+of_rank-is : (e : SortRefusal) → of_rank (rank e) (at_of e) ≡ e
+unfolding of_rank
+of_rank-is sorts.Memory = refl
+of_rank-is (sorts.Duplicate at) = refl
+of_rank-is (sorts.Unknown at) = refl
+of_rank-is (sorts.WrongArity at) = refl
+of_rank-is (sorts.WrongSort at) = refl
+of_rank-is (sorts.NotAllowed at) = refl
+of_rank-is (sorts.TooMany at) = refl
+
+-- two refusals of which each comes first are one
+same_place : (a b k l : ℕ) → (a < b) ⊎ ((a ≡ b) × (k ≤ l)) → (b < a) ⊎ ((b ≡ a) × (l ≤ k)) → (a ≡ b) × (k ≡ l)
+same_place a b k l (inl less) (inl more) = absurd (omega (arith, less, more))
+same_place a b k l (inl less) (inr more) = absurd (omega (arith, less, more.0))
+same_place a b k l (inr less) (inl more) = absurd (omega (arith, less.0, more))
+same_place a b k l (inr less) (inr more) = (less.0, omega (arith, less.1, more.1))
+
+least_one : (faults : List SortRefusal) (e d : SortRefusal) → IsLeast faults e → IsLeast faults d → e ≡ d
+least_one faults e d first second =
+    let before : ComesFirst e d = All-contains (ComesFirst e) faults d first.first second.among in
+    let behind : ComesFirst d e = All-contains (ComesFirst d) faults e second.first first.among in
+    let same = same_place (at_of e) (at_of d) (rank e) (rank d) before.is behind.is in
+    sym (of_rank-is e) ∙ ap₂ of_rank same.1 same.0 ∙ of_rank-is d
+
+-- bytes that are refused are refused for one reason, at one place
+refused_once : (bytes : List ℕ) (at at' : ℕ) (why why' : ProgramWhy) → IsNoProgram bytes at why → IsNoProgram bytes at' why' → At at why ≡ At at' why'
+refused_once bytes at at' why why' (has_no_tree f right told) (has_no_tree f' right' told') = told ∙ ap told_text (refused_one right right') ∙ sym told'
+refused_once bytes at at' why why' (has_no_tree f right told) (breaks_a_rule tree e reads least told') = absurd (not_refused reads right)
+refused_once bytes at at' why why' (breaks_a_rule tree e reads least told) (has_no_tree f right told') = absurd (not_refused reads right)
+refused_once bytes at at' why why' (breaks_a_rule tree e reads least told) (breaks_a_rule tree' e' reads' least' told') =
+    let again : IsLeast (broken_rules tree) e' = subst (λ (t : RawProgram). IsLeast (broken_rules t) e') (reads_one reads' reads) least' in
+    told ∙ ap told_sorts (least_one (broken_rules tree) e e' least again) ∙ sym told'
+
+pub one_answer : (bytes : List ℕ) (answer other : Result Parts ProgramRefusal) → IsProgramAnswer bytes answer → IsProgramAnswer bytes other → answer ≡ other
+one_answer bytes (Ok P) (Ok Q) h h' = ap Ok (spelled_once bytes P Q h h')
+one_answer bytes (Ok P) (Err Memory) h h' = absurd h'
+one_answer bytes (Ok P) (Err (At at why)) h h' = absurd (none_spelled bytes at why h' P h)
+one_answer bytes (Err Memory) other h h' = absurd h
+one_answer bytes (Err (At at why)) (Ok Q) h h' = absurd (none_spelled bytes at why h Q h')
+one_answer bytes (Err (At at why)) (Err Memory) h h' = absurd h'
+one_answer bytes (Err (At at why)) (Err (At at' why')) h h' = ap Err (refused_once bytes at at' why why' h h')

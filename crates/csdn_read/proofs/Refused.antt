@@ -3,8 +3,7 @@ use Rattle.std.proofs.Common.{◌≡◌, ℕ, ◌⊎◌, inl, inr, List, Result,
 use Rattle.std.specs.Result.{IsErrAnd}
 use Rattle.csdn_tree.specs.declared.syntax.RawProgram.{RawProgram}
 use Rattle.csdn_text.specs.declared.TextRefusal.{TextRefusal}
-use Rattle.csdn_text.specs.declared.TextRefusal.TheVariants as text
-use Rattle.csdn_text.specs.Reading.{Reads, Agrees, IsRefusedText}
+use Rattle.csdn_text.specs.Reading.{Reads, IsTextRefusal}
 use Rattle.csdn_types.specs.declared.refusal.SortRefusal.{SortRefusal}
 use Rattle.csdn_types.specs.declared.refusal.SortRefusal.TheVariants as sorts
 use Rattle.csdn_types.specs.Order.{IsLeast}
@@ -15,32 +14,16 @@ use Rattle.csdn_read.specs.declared.refusal.ProgramWhy.{ProgramWhy}
 use Rattle.csdn_read.specs.Refusals.{told_text, told_sorts}
 use Rattle.csdn_read.specs.Programs.{IsNoProgram, has_no_tree, breaks_a_rule, IsProgramRefusal}
 
--- the text has no reading, and is refused so, unless memory ran out
-record IsRefused (bytes : List ℕ) (e : TextRefusal) : Type 0 where
-  only : (tree : RawProgram) → Reads bytes tree → Agrees tree (Err e)
-  right : (e ≡ text.Memory) ⊎ IsRefusedText bytes e
-
-right_by : (bytes : List ℕ) (e : TextRefusal) → (e ≡ text.Memory → ⊥) → (e ≡ text.Memory) ⊎ IsRefusedText bytes e → IsRefusedText bytes e
-right_by bytes e other (inl memory) = absurd (other memory)
-right_by bytes e other (inr right) = right
-
-no_tree : (bytes : List ℕ) (at : ℕ) (why : ProgramWhy) (e : TextRefusal) → IsRefused bytes e → At at why ≡ told_text e → IsNoProgram bytes at why
-no_tree bytes at why text.Memory refused is = cc
-no_tree bytes at why text.TooLong refused is = has_no_tree text.TooLong refused.only (right_by bytes text.TooLong (λ e. cc) refused.right) is
-no_tree bytes at why (text.BadByte n) refused is = has_no_tree (text.BadByte n) refused.only (right_by bytes (text.BadByte n) (λ e. cc) refused.right) is
-no_tree bytes at why (text.BadNumber n) refused is = has_no_tree (text.BadNumber n) refused.only (right_by bytes (text.BadNumber n) (λ e. cc) refused.right) is
-no_tree bytes at why (text.BadName n) refused is = has_no_tree (text.BadName n) refused.only (right_by bytes (text.BadName n) (λ e. cc) refused.right) is
-no_tree bytes at why (text.Unexpected n) refused is = has_no_tree (text.Unexpected n) refused.only (right_by bytes (text.Unexpected n) (λ e. cc) refused.right) is
-no_tree bytes at why (text.TooDeep n) refused is = has_no_tree (text.TooDeep n) refused.only (right_by bytes (text.TooDeep n) (λ e. cc) refused.right) is
-
-text_refused : (bytes : List ℕ) (e : TextRefusal) (told : ProgramRefusal) → IsRefused bytes e → told ≡ told_text e → IsProgramRefusal bytes told
+text_refused : (bytes : List ℕ) (e : TextRefusal) (told : ProgramRefusal) → IsTextRefusal bytes e → told ≡ told_text e → IsProgramRefusal bytes told
 text_refused bytes e Memory refused is = tt
-text_refused bytes e (At at why) refused is = no_tree bytes at why e refused is
+text_refused bytes e (At at why) (inl memory) is =
+    let told : At at why ≡ Memory = subst (λ (x : TextRefusal). At at why ≡ told_text x) memory is in absurd cc
+text_refused bytes e (At at why) (inr right) is = has_no_tree e right is
 
-pub exit_text : {A : Type 0} (Right : A → Type 0) (bytes : List ℕ) (r : Result A ProgramRefusal) (e : TextRefusal) → IsErrAnd r (λ told. told ≡ told_text e)
-    → ((tree : RawProgram) → Reads bytes tree → Agrees tree (Err e)) → (e ≡ text.Memory) ⊎ IsRefusedText bytes e → MatchResult r Right (IsProgramRefusal bytes)
-exit_text Right bytes (Ok P) e is only right = elim is [ ]
-exit_text Right bytes (Err told) e is only right = text_refused bytes e told (record { only = only; right = right }) is
+pub exit_text : {A : Type 0} (Right : A → Type 0) (bytes : List ℕ) (r : Result A ProgramRefusal) (e : TextRefusal) → IsErrAnd r (λ told. told ≡ told_text e) → IsTextRefusal bytes e
+    → MatchResult r Right (IsProgramRefusal bytes)
+exit_text Right bytes (Ok P) e is refused = elim is [ ]
+exit_text Right bytes (Err told) e is refused = text_refused bytes e told refused is
 
 broken_rule : (bytes : List ℕ) (tree : RawProgram) (at : ℕ) (why : ProgramWhy) (e : SortRefusal) → Reads bytes tree → (e ≡ sorts.Memory) ⊎ IsLeast (broken_rules tree) e → At at why ≡ told_sorts e → IsNoProgram bytes at why
 broken_rule bytes tree at why e reads (inl memory) is =

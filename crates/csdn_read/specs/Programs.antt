@@ -1,5 +1,5 @@
 -- What bytes are as a program.
-use Rattle.std.specs.Prelude.{◌≡◌, ℕ, List}
+use Rattle.std.specs.Prelude.{◌≡◌, ℕ, List, Result, Ok, Err}
 use Rattle.csdn_core.specs.declared.program.Parts.{Parts}
 use Rattle.csdn_tree.specs.declared.syntax.RawProgram.{RawProgram}
 use Rattle.csdn_text.specs.declared.TextRefusal.{TextRefusal}
@@ -27,9 +27,15 @@ pub record Keeps (bytes : List ℕ) (tree : RawProgram) : Type 0 where
 -- The bytes spell no program: they are refused at this place, for this reason.
 pub data IsNoProgram (bytes : List ℕ) (at : ℕ) (why : ProgramWhy) : Type 0 where
   -- they are no text of the grammar
-  has_no_tree : (refusal : TextRefusal) → ((tree : RawProgram) → Reads bytes tree → ⊥) → IsRefusedText bytes refusal → At at why ≡ told_text refusal → IsNoProgram bytes at why
+  has_no_tree : (refusal : TextRefusal) → IsRefusedText bytes refusal → At at why ≡ told_text refusal → IsNoProgram bytes at why
   -- the tree breaks a rule, and this is the first
   breaks_a_rule : (tree : RawProgram) (refusal : SortRefusal) → Reads bytes tree → IsLeast (broken_rules tree) refusal → At at why ≡ told_sorts refusal → IsNoProgram bytes at why
+
+-- what bytes are: a program that they spell, or none, for a reason at a place
+abbrev pub IsProgramAnswer : List ℕ → Result Parts ProgramRefusal → Type 0
+IsProgramAnswer bytes (Ok P) = Spells bytes P
+IsProgramAnswer bytes (Err Memory) = ⊥
+IsProgramAnswer bytes (Err (At at why)) = IsNoProgram bytes at why
 
 -- why there is no program: want of memory, or the bytes are none
 abbrev pub IsProgramRefusal : List ℕ → ProgramRefusal → Type 0

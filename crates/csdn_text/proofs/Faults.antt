@@ -9,7 +9,7 @@ use Rattle.csdn_text.specs.declared.TextRefusal.TheVariants.{Memory, TooLong, Ba
 use Rattle.csdn_text.specs.Symbols.{Nonterminal, Level, depth_of, Symbol, token, part, Values, made, Rule}
 use Rattle.csdn_text.specs.Grammar.{rules}
 use Rattle.csdn_text.specs.Derives.{Mark, tokens_of, Derives}
-use Rattle.csdn_text.specs.Reading.{Within, Alike, NamesMisfit}
+use Rattle.csdn_text.specs.Reading.{Within, Alike}
 use Rattle.csdn_text.specs.Derives.Derives.{nothing, one, by_rule}
 use Rattle.csdn_text.specs.Machine.{Takes, Fails, choose, pick, begins, next_is, next_in, has, first, refused, refused_at}
 use Rattle.csdn_text.specs.Machine.Takes.{done, step, down}
@@ -156,6 +156,14 @@ refused_at-counts (t ∷ ts) = refused-counts t.kind t.at
 stands_here : (most : ℕ) (ts : List Token) (more : List Mark) → Stands most (refused_at ts) ts more
 stands_here most [] more = refl
 stands_here most (t ∷ ts) more = refused-stands most t.kind t ts more refl
+
+-- a refusal that names a token which doesn't fit
+abbrev pub NamesMisfit : TextRefusal → Type 0
+NamesMisfit (BadByte at) = Unit {0}
+NamesMisfit (BadNumber at) = Unit {0}
+NamesMisfit (BadName at) = Unit {0}
+NamesMisfit (Unexpected at) = Unit {0}
+NamesMisfit _ = ⊥
 
 -- A derivation that begins with what stands before the fault. A token that doesn't fit is met again, whatever follows it and however deep one may go.
 pub record Front (most d : ℕ) (ss : List Symbol) (ts : List Token) (f : TextRefusal) : Type 0 where

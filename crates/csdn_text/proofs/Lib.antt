@@ -7,4 +7,5 @@ pub mod Whole
 pub mod Steps
 pub mod Loops
 pub mod Refusals
-pub mod Clauses
+pub mod Total
+pub mod Exact

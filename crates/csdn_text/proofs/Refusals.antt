@@ -1,5 +1,5 @@
 -- A text has one refusal.
-use Rattle.std.proofs.Common.{◌≡◌, ℕ, ◌≤◌, ◌<◌, List, [], ◌∷◌, ◌++◌, true, cond, ◌&&◌, refl, sym, subst, ap, ◌∙◌, ◌⊎◌, inl, inr, append_assoc, arith}
+use Rattle.std.proofs.Common.{◌≡◌, ℕ, ◌≤◌, ◌<◌, List, [], ◌∷◌, ◌++◌, true, cond, ◌&&◌, refl, sym, subst, ap, ◌∙◌, ◌⊎◌, inl, inr, append_assoc, append-nil, arith}
 use Rattle.std.proofs.lemmas.Bool.{and_parts}
 use Rattle.csdn_tokens.specs.declared.Kind.{Kind}
 use Rattle.csdn_tokens.specs.declared.Kind.TheVariants as k
@@ -12,8 +12,9 @@ use Rattle.csdn_text.specs.Symbols.{depth_of, Symbol, Values, Rule, same}
 use Rattle.csdn_text.specs.Derives.{Mark, tokens_of, Derives}
 use Rattle.csdn_text.specs.Derives.Derives.{nothing, one, by_rule}
 use Rattle.csdn_text.specs.Machine.{limit, next_is, next_in, choose, refused_at}
-use Rattle.csdn_text.specs.Reading.{IsProgram, Within, Begins, Alike, IsMisfit, IsTooDeep, IsRefusedText}
-use Rattle.csdn_text.specs.Reading.IsRefusedText.{long, misfits, nests}
+use Rattle.csdn_text.specs.Reading.{IsProgram, Within, Begins, Alike, IsMisfit, IsTooDeep, IsRefusedTokens, IsRefusedText}
+use Rattle.csdn_text.specs.Reading.IsRefusedTokens.{misfits, nests}
+use Rattle.csdn_text.specs.Reading.IsRefusedText.{long, within_limit}
 use Rattle.csdn_text.proofs.Tables.{follow, starts, erasable, fine}
 use Rattle.csdn_text.proofs.Sets.{within}
 use Rattle.csdn_text.proofs.Theory.{tokens-append, regroup, first_of, next_follow, next_heads, fine_kept, choose-is}
@@ -202,14 +203,42 @@ two_deep {ts} {at} {at'} h g = by_parting (tokens_of h.before) (h.next.token ∷
     by_parting _ x b _ (right_first t c) b1 r1 b2 r2 = absurd (too_deep_first g h.before (h.next ∷ h.more) t c h.program h.within
         (b1 ∙ ap (λ xs. xs ++ t ∷ c) (sym b2)) (let e : t ≡ g.next.token = cc in e))
 
+-- tokens that read as a program to the last have none that doesn't fit
+reads_or_misfit : {ts : List Token} {raw : RawProgram} {f : TextRefusal} (marks : List Mark) → IsProgram marks raw → ts ≡ tokens_of marks ++ [] → IsMisfit ts f → ⊥
+reads_or_misfit {ts} {raw} {f} marks program spelled h = by_parting (tokens_of marks) [] h.before h.rest (parting (tokens_of marks) h.before [] h.rest (sym spelled ∙ h.split)) refl refl refl refl
+  where
+    by_parting : (a x b y : List Token) → Parting a x b y → tokens_of marks ≡ a → [] ≡ x → h.before ≡ b → h.rest ≡ y → ⊥
+    by_parting a x _ _ at_once b1 r1 b2 r2 = h.none marks raw [] program (λ k. ap (λ xs. next_is xs k) (r2 ∙ sym r1)) (b1 ∙ sym b2 ∙ sym (append-nil h.before))
+    by_parting a _ _ y (left_first t c) b1 r1 b2 r2 = cc
+    by_parting _ x b _ (right_first t c) b1 r1 b2 r2 = no_further h t c (c ++ x) program (b1 ∙ ap (λ xs. xs ++ t ∷ c) (sym b2)) r2
+
+-- .. and none that stands too deep
+reads_or_deep : {ts : List Token} {raw : RawProgram} {at : ℕ} (marks : List Mark) → IsProgram marks raw → Within limit marks → ts ≡ tokens_of marks ++ [] → IsTooDeep ts at → ⊥
+reads_or_deep {ts} {raw} marks program within spelled g = by_parting (tokens_of marks) [] (tokens_of g.before) (g.next.token ∷ g.rest)
+    (parting (tokens_of marks) (tokens_of g.before) [] (g.next.token ∷ g.rest) (sym spelled ∙ g.split)) refl refl refl refl
+  where
+    by_parting : (a x b y : List Token) → Parting a x b y → tokens_of marks ≡ a → [] ≡ x → tokens_of g.before ≡ b → g.next.token ∷ g.rest ≡ y → ⊥
+    by_parting a x _ _ at_once b1 r1 b2 r2 = let clash : g.next.token ∷ g.rest ≡ [] = r2 ∙ sym r1 in cc
+    by_parting a _ _ y (left_first t c) b1 r1 b2 r2 = cc
+    by_parting _ x b _ (right_first t c) b1 r1 b2 r2 = too_deep_first g marks [] t c (subst (λ ms. IsProgram ms raw) (sym (append-nil marks)) program) within
+        (b1 ∙ ap (λ xs. xs ++ t ∷ c) (sym b2)) (let e : t ≡ g.next.token = cc in e)
+
+-- tokens that read as a program to the last are not refused
+pub not_refused_tokens : {ts : List Token} {raw : RawProgram} {f : TextRefusal} (marks : List Mark) → IsProgram marks raw → Within limit marks → ts ≡ tokens_of marks ++ [] → IsRefusedTokens ts f → ⊥
+not_refused_tokens marks program within spelled (misfits h) = reads_or_misfit marks program spelled h
+not_refused_tokens marks program within spelled (nests g) = reads_or_deep marks program within spelled g
+
+-- tokens have one refusal
+refused_tokens_one : {ts : List Token} {f f' : TextRefusal} → IsRefusedTokens ts f → IsRefusedTokens ts f' → f ≡ f'
+refused_tokens_one (misfits h) (misfits h') = two_misfits h h'
+refused_tokens_one (misfits h) (nests g) = absurd (misfit_or_deep h g)
+refused_tokens_one (nests g) (misfits h) = absurd (misfit_or_deep h g)
+refused_tokens_one (nests g) (nests g') = ap TooDeep (two_deep g g')
+
 -- a text has one refusal
 pub refused_one : {text : List ℕ} {f f' : TextRefusal} → IsRefusedText text f → IsRefusedText text f' → f ≡ f'
 refused_one (long many) (long many') = refl
-refused_one (long many) (misfits m) = absurd (let short = m.short in omega arith)
-refused_one (long many) (nests m) = absurd (let short = m.short in omega arith)
-refused_one (misfits m) (long many) = absurd (let short = m.short in omega arith)
-refused_one {f' = f'} (misfits m) (misfits m') = two_misfits m.misfit (subst (λ ts. IsMisfit ts f') (lexes_one m'.lexes m.lexes) m'.misfit)
-refused_one (misfits m) (nests {at} m') = absurd (misfit_or_deep m.misfit (subst (λ ts. IsTooDeep ts at) (lexes_one m'.lexes m.lexes) m'.deep))
-refused_one (nests m) (long many) = absurd (let short = m.short in omega arith)
-refused_one (nests {at} m) (misfits m') = absurd (misfit_or_deep m'.misfit (subst (λ ts. IsTooDeep ts at) (lexes_one m.lexes m'.lexes) m.deep))
-refused_one (nests m) (nests {at = at'} m') = ap TooDeep (two_deep m.deep (subst (λ ts. IsTooDeep ts at') (lexes_one m'.lexes m.lexes) m'.deep))
+refused_one (long many) (within_limit ts short lexes why) = absurd (omega (arith, many, short))
+refused_one (within_limit ts short lexes why) (long many) = absurd (omega (arith, many, short))
+refused_one {f' = f'} (within_limit ts short lexes why) (within_limit ts' short' lexes' why') =
+    refused_tokens_one why (subst (λ xs. IsRefusedTokens xs f') (lexes_one lexes' lexes) why')

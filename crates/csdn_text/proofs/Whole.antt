@@ -1,5 +1,5 @@
 -- Whole texts of tokens.
-use Rattle.std.proofs.Common.{◌≡◌, ℕ, ◌+◌, ◌≤◌, ◌<◌, List, [], ◌∷◌, ◌++◌, Result, Ok, Err, true, refl, sym, subst, ap, ◌∙◌, append-nil, length, arith}
+use Rattle.std.proofs.Common.{◌≡◌, ℕ, ◌+◌, ◌≤◌, inl, inr, List, [], ◌∷◌, ◌++◌, Result, Ok, Err, MatchResult, true, refl, sym, subst, ap, ◌∙◌, append-nil, length, arith}
 use Rattle.csdn_tokens.specs.Lex.{Lexes}
 use Rattle.csdn_tokens.proofs.Runs.{lexes_one}
 use Rattle.std.specs.Result.{IsErrAnd}
@@ -13,12 +13,13 @@ use Rattle.csdn_text.specs.Derives.{Mark, tokens_of, Derives}
 use Rattle.csdn_text.specs.Derives.Derives.{nothing, one, by_rule}
 use Rattle.csdn_text.specs.Machine.{Takes, Fails, limit, refused_at, next_in}
 use Rattle.csdn_text.specs.Machine.Takes.{done, step, down}
-use Rattle.csdn_text.specs.Reading.{whole, Within, ReadsTokens, IsMisfit, Agrees, Reads, IsRefusedText, NamesMisfit}
-use Rattle.csdn_text.specs.Reading.IsRefusedText.{long, misfits, nests}
-use Rattle.csdn_text.specs.Answers.{IsRefused, Right, Answers, RightText, AnswersText}
+use Rattle.csdn_text.specs.Reading.{whole, Within, ReadsTokens, IsMisfit, IsTooDeep, Reads, IsTextRefusal}
+use Rattle.csdn_text.specs.Reading.IsRefusedTokens.{misfits, nests}
+use Rattle.csdn_text.specs.Reading.IsRefusedText.{within_limit}
+use Rattle.csdn_text.specs.Answers.{IsTokensRefusal}
 use Rattle.csdn_text.proofs.Sets.{is_same}
 use Rattle.csdn_text.proofs.Theory.{Within-append, Within-front, Within-back, regroup, complete, sound}
-use Rattle.csdn_text.proofs.Faults.{unique, not_both, Counts, front, Front, refused_at-counts}
+use Rattle.csdn_text.proofs.Faults.{unique, not_both, Counts, NamesMisfit, front, Front, refused_at-counts}
 
 takes_then : {most d : ℕ} {l : Level} {n : Nonterminal} {ss : List Symbol} {ts mid rest : List Token} {v : Value n} {vs : Values ss}
     → Takes most d (part n l ∷ []) ts (v, tt) mid → Takes most d ss mid vs rest → Takes most d (part n l ∷ ss) ts (v, vs) rest
@@ -50,13 +51,10 @@ taken : {ts : List Token} {raw : RawProgram} (h : ReadsTokens ts raw) → Takes 
 taken {ts} {raw} h = subst (λ xs. Takes limit 1 whole xs (raw, (h.program.stop, tt)) h.rest) (sym h.spelled)
     (takes_whole h.rest h.program.derives h.within)
 
-pub answers_ok : {ts rest : List Token} {raw : RawProgram} {stop : Token} → Takes limit 1 whole ts (raw, (stop, tt)) rest → Answers ts (Ok raw)
-answers_ok {ts} {rest} {raw} {stop} whole_taken =
-    let s = sound whole_taken in
-    record {
-      right = record { marks = s.0; rest = rest; program = record { stop = stop; derives = s.3 }; spelled = s.1; within = s.2 };
-      only = λ raw' reads. ap (λ vs. vs.0) (unique whole_taken (taken reads)).0;
-    }
+pub tokens_taken : {ts rest : List Token} {raw : RawProgram} {stop : Token} → Takes limit 1 whole ts (raw, (stop, tt)) rest → ReadsTokens ts raw
+tokens_taken {rest = rest} {stop = stop} taken =
+    let s = sound taken in
+    record { marks = s.0; rest = rest; program = record { stop = stop; derives = s.3 }; spelled = s.1; within = s.2 }
 
 misfit : {ts : List Token} (f : TextRefusal) → (h : Front limit 1 whole ts f) → NamesMisfit f → Counts f → f ≡ refused_at h.rest → IsMisfit ts f
 misfit f h kept counts is = record {
@@ -71,14 +69,8 @@ misfit f h kept counts is = record {
       (h.again kept d.0 d.1 rest' alike) (refused_at-counts rest');
 }
 
-refused : {ts : List Token} (f : TextRefusal) → Front limit 1 whole ts f → IsRefused ts f
-refused Memory h = tt
-refused TooLong h = h.stands
-refused (BadByte p) h = misfit (BadByte p) h tt tt h.stands
-refused (BadName p) h = misfit (BadName p) h tt tt h.stands
-refused (BadNumber p) h = misfit (BadNumber p) h tt tt h.stands
-refused (Unexpected p) h = misfit (Unexpected p) h tt tt h.stands
-refused (TooDeep p) h = record {
+too_deep : {ts : List Token} {at : ℕ} → Front limit 1 whole ts (TooDeep at) → IsTooDeep ts at
+too_deep h = record {
   before = h.taken;
   next = h.stands.mark;
   more = h.stands.others;
@@ -91,51 +83,30 @@ refused (TooDeep p) h = record {
   deep = h.stands.deep;
 }
 
-disagrees : {ts : List Token} {raw : RawProgram} (f : TextRefusal) → Fails limit 1 whole ts f → ReadsTokens ts raw → Agrees raw (Err f)
-disagrees Memory fault reads = tt
-disagrees TooLong fault reads = not_both (taken reads) fault tt
-disagrees (BadByte p) fault reads = not_both (taken reads) fault tt
-disagrees (BadName p) fault reads = not_both (taken reads) fault tt
-disagrees (BadNumber p) fault reads = not_both (taken reads) fault tt
-disagrees (Unexpected p) fault reads = not_both (taken reads) fault tt
-disagrees (TooDeep p) fault reads = not_both (taken reads) fault tt
+refused : {ts : List Token} (f : TextRefusal) → Front limit 1 whole ts f → IsTokensRefusal ts f
+refused Memory h = inl refl
+refused TooLong h = absurd h.stands
+refused (BadByte p) h = inr (misfits (misfit (BadByte p) h tt tt h.stands))
+refused (BadName p) h = inr (misfits (misfit (BadName p) h tt tt h.stands))
+refused (BadNumber p) h = inr (misfits (misfit (BadNumber p) h tt tt h.stands))
+refused (Unexpected p) h = inr (misfits (misfit (Unexpected p) h tt tt h.stands))
+refused (TooDeep p) h = inr (nests (too_deep h))
 
-pub answers_err : {ts : List Token} {f : TextRefusal} → Fails limit 1 whole ts f → Answers ts (Err f)
-answers_err {ts} {f} fault = record { right = refused f (front fault); only = λ raw reads. disagrees f fault reads }
+-- tokens that fail are refused
+pub tokens_failed : {ts : List Token} {f : TextRefusal} → Fails limit 1 whole ts f → IsTokensRefusal ts f
+tokens_failed {f = f} fault = refused f (front fault)
 
-pub answers_exit : {ts : List Token} {f : TextRefusal} (r : Result (RawProgram) TextRefusal) → IsErrAnd r (λ e. e ≡ f) → Answers ts (Err f) → Answers ts r
-answers_exit (Ok v) is fault = elim is [ ]
-answers_exit {ts} {f} (Err e) is fault = subst (λ x. Answers ts (Err x)) (sym is) fault
+-- the exit of a `?` passes the refusal on
+pub exit : {A E : Type 0} (P : A → Type 0) (Q : E → Type 0) {e : E} (r : Result A E) → IsErrAnd r (λ x. x ≡ e) → Q e → MatchResult r P Q
+exit P Q (Ok v) is why = elim is [ ]
+exit P Q (Err x) is why = subst Q (sym is) why
 
-pub text_answers : {text : List ℕ} {ts : List Token} (r : Result RawProgram TextRefusal) → length text ≤ 65536 → Lexes 0 text ts → Answers ts r → AnswersText text r
-text_answers {text} {ts} r short lexes h = record {
-  right = right_of r h.right;
-  only = λ raw reads. h.only raw (subst (λ xs. ReadsTokens xs raw) (lexes_one reads.lexes lexes) reads.reads);
-  too_long = λ many. absurd (omega arith);
-}
-  where
-    misfit_of : (f : TextRefusal) → IsMisfit ts f → IsRefusedText text f
-    misfit_of f refused = misfits (record { short = short; tokens = ts; lexes = lexes; misfit = refused })
-
-    right_of : (x : Result RawProgram TextRefusal) → Right ts x → RightText text x
-    right_of (Ok raw) reads = record { short = short; tokens = ts; lexes = lexes; reads = reads }
-    right_of (Err Memory) refused = tt
-    right_of (Err TooLong) refused = absurd refused
-    right_of (Err (BadByte p)) refused = misfit_of (BadByte p) refused
-    right_of (Err (BadName p)) refused = misfit_of (BadName p) refused
-    right_of (Err (BadNumber p)) refused = misfit_of (BadNumber p) refused
-    right_of (Err (Unexpected p)) refused = misfit_of (Unexpected p) refused
-    right_of (Err (TooDeep p)) refused = nests (record { short = short; tokens = ts; lexes = lexes; deep = refused })
-
-pub text_exit : {text : List ℕ} {f : TextRefusal} (r : Result RawProgram TextRefusal) → IsErrAnd r (λ e. e ≡ f) → AnswersText text (Err f) → AnswersText text r
-text_exit (Ok v) is fault = elim is [ ]
-text_exit {text} {f} (Err e) is fault = subst (λ x. AnswersText text (Err x)) (sym is) fault
-
-pub text_memory : {text : List ℕ} → length text ≤ 65536 → AnswersText text (Err Memory)
-text_memory short = record { right = tt; only = λ raw reads. tt; too_long = λ many. absurd (omega arith) }
-
-pub text_long : {text : List ℕ} → 65536 < length text → AnswersText text (Err TooLong)
-text_long many = record { right = long many; only = λ raw reads. absurd (let short = reads.short in omega arith); too_long = λ _. refl }
+-- what is answered of the tokens of a text is answered of the text
+pub text_answer : {text : List ℕ} {ts : List Token} (r : Result RawProgram TextRefusal) → length text ≤ 65536 → Lexes 0 text ts
+    → MatchResult r (ReadsTokens ts) (IsTokensRefusal ts) → MatchResult r (Reads text) (IsTextRefusal text)
+text_answer {text} {ts} (Ok raw) short lexes reads = record { short = short; tokens = ts; lexes = lexes; reads = reads }
+text_answer {text} {ts} (Err f) short lexes (inl memory) = inl memory
+text_answer {text} {ts} (Err f) short lexes (inr why) = inr (within_limit ts short lexes why)
 
 -- a text reads as one tree
 pub reads_one : {text : List ℕ} {raw raw' : RawProgram} → Reads text raw → Reads text raw' → raw ≡ raw'

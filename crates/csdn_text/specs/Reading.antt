@@ -1,12 +1,12 @@
 -- What a text is: a program, or refused at its least place.
-use Rattle.std.specs.Prelude.{◌≡◌, ℕ, ◌<◌, ◌≤◌, List, [], ◌∷◌, ◌++◌, length, Result, Ok, Err}
+use Rattle.std.specs.Prelude.{◌≡◌, ◌⊎◌, ℕ, ◌<◌, ◌≤◌, List, [], ◌∷◌, ◌++◌, length, Result, MatchResult}
 use Rattle.csdn_tokens.specs.Lex.{Lexes}
 use Rattle.csdn_tokens.specs.declared.Kind.{Kind}
 use Rattle.csdn_tokens.specs.declared.Kind.TheVariants as k
 use Rattle.csdn_tokens.specs.declared.Token.{Token}
 use Rattle.csdn_tree.specs.declared.syntax.RawProgram.{RawProgram}
 use Rattle.csdn_text.specs.declared.TextRefusal.{TextRefusal}
-use Rattle.csdn_text.specs.declared.TextRefusal.TheVariants.{Memory, TooLong, BadByte, BadName, BadNumber, Unexpected, TooDeep}
+use Rattle.csdn_text.specs.declared.TextRefusal.TheVariants.{Memory, TooLong, TooDeep}
 use Rattle.csdn_text.specs.Symbols.{Symbol, token, part, here, program}
 use Rattle.csdn_text.specs.Derives.{Mark, tokens_of, Derives}
 use Rattle.csdn_text.specs.Machine.{limit, refused_at, next_is}
@@ -76,36 +76,22 @@ pub record Reads (text : List ℕ) (raw : RawProgram) : Type 0 where
   pub lexes : Lexes 0 text tokens
   pub reads : ReadsTokens tokens raw
 
--- A text has a token that doesn't fit, at the place of the refusal.
-pub record Misfits (text : List ℕ) (f : TextRefusal) : Type 0 where
-  pub short : length text ≤ 65536
-  pub tokens : List Token
-  pub lexes : Lexes 0 text tokens
-  pub misfit : IsMisfit tokens f
+-- Why tokens are no program: one doesn't fit, or one stands too deep.
+pub data IsRefusedTokens (ts : List Token) : TextRefusal → Type 0 where
+  misfits : {f : TextRefusal} → IsMisfit ts f → IsRefusedTokens ts f
+  nests : {at : ℕ} → IsTooDeep ts at → IsRefusedTokens ts (TooDeep at)
 
--- A text has a token that stands deeper than 64, at this place.
-pub record NestsTooDeep (text : List ℕ) (at : ℕ) : Type 0 where
-  pub short : length text ≤ 65536
-  pub tokens : List Token
-  pub lexes : Lexes 0 text tokens
-  pub deep : IsTooDeep tokens at
-
--- Why a text is no program: it is too long, a token doesn't fit, or one stands too deep.
+-- Why a text is no program: it is too long, or its tokens are none.
 pub data IsRefusedText (text : List ℕ) : TextRefusal → Type 0 where
   long : 65536 < length text → IsRefusedText text TooLong
-  misfits : {f : TextRefusal} → Misfits text f → IsRefusedText text f
-  nests : {at : ℕ} → NestsTooDeep text at → IsRefusedText text (TooDeep at)
+  within_limit : {f : TextRefusal} (ts : List Token) → length text ≤ 65536 → Lexes 0 text ts → IsRefusedTokens ts f → IsRefusedText text f
 
--- the tree of an answer is this one; where the answer is an error, memory ran out
-abbrev pub Agrees : RawProgram → Result RawProgram TextRefusal → Type 0
-Agrees raw (Ok x) = x ≡ raw
-Agrees raw (Err Memory) = Unit {0}
-Agrees raw (Err _) = ⊥
+-- what may be answered in place of a tree: that there is no memory, or why the text is refused
+abbrev pub IsTextRefusal : List ℕ → TextRefusal → Type 0
+IsTextRefusal text f = (f ≡ Memory) ⊎ IsRefusedText text f
 
--- a refusal that names a token which doesn't fit
-abbrev pub NamesMisfit : TextRefusal → Type 0
-NamesMisfit (BadByte at) = Unit {0}
-NamesMisfit (BadNumber at) = Unit {0}
-NamesMisfit (BadName at) = Unit {0}
-NamesMisfit (Unexpected at) = Unit {0}
-NamesMisfit _ = ⊥
+-- A text has one answer: one tree as which it reads, or one reason for which it is refused, and not both.
+pub record HasOneAnswer (text : List ℕ) : Type 0 where
+  pub answer : Result RawProgram TextRefusal
+  pub is : MatchResult answer (Reads text) (IsRefusedText text)
+  pub only : (other : Result RawProgram TextRefusal) → MatchResult other (Reads text) (IsRefusedText text) → other ≡ answer

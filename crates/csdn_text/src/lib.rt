@@ -4,11 +4,12 @@
 //! (docs/LANGUAGE.md). What a text spells is a definition of its own, `Reads`, over the grammar of specs/Grammar.antt.
 #![tactic(auto)]
 
-ghost use Rattle.std.specs.Prelude.{◌≡◌, ◌↔◌, ◌<◌, ◌⊎◌, ℕ, length, Err, IfOk, IfErr};
-ghost use Rattle.csdn_tree.specs.declared.syntax.RawProgram.{RawProgram as AnyProgram};
-ghost use Rattle.csdn_text.specs.declared.TextRefusal.TheVariants.{Memory, TooLong, TooDeep};
-ghost use Rattle.csdn_text.specs.Reading.{Reads, Agrees, NamesMisfit, Misfits, NestsTooDeep, IsRefusedText};
+ghost use Rattle.std.specs.Prelude.{◌≡◌, ◌<◌, length, Err, MatchResult};
+ghost use Rattle.csdn_text.specs.declared.TextRefusal.TheVariants.{TooLong};
+ghost use Rattle.csdn_text.specs.Reading.{Reads, IsTextRefusal};
 
+use crate::reading::parse_tokens;
+use csdn_tokens::tokens;
 use csdn_tree::syntax::RawProgram;
 use std::alloc::{AllocError, Global};
 use thiserror::Error;
@@ -59,11 +60,14 @@ impl From<AllocError> for TextRefusal {
     }
 }
 
+/// The greatest length of a text, in bytes.
+const LONGEST: usize = 65536;
+
 /// The tree that the text spells (docs/LANGUAGE.md, "Grammar"), with the places of its names.
 ///
-/// Refused are, first, a text of more than 65,536 bytes, and else the first token that doesn't fit or that stands
-/// deeper than 64: a byte, number or word that is no token is told by its own refusal. It takes time and memory in
-/// proportion to the text; memory is taken from `alloc`.
+/// Refused are, first, a text of more than 65,536 bytes, before memory is taken, and else the first token that doesn't
+/// fit or that stands deeper than 64: a byte, number or word that is no token is told by its own refusal. It takes time
+/// and memory in proportion to the text; memory is taken from `alloc`.
 ///
 /// # Example
 ///
@@ -81,12 +85,12 @@ impl From<AllocError> for TextRefusal {
 /// assert!(rt; matches!(parse(alloc, b"rel p(); x"), Err(TextRefusal::Unexpected { at: 9 })));
 /// ```
 pub fn parse(alloc: Global, text: &[u8]) -> Result<RawProgram, TextRefusal>
-    ensures reads { IfOk result (λ raw. Reads text.now raw) }
-    ensures only { (raw : AnyProgram) → Reads text.now raw → Agrees raw result }
-    ensures too_long { (result ≡ Err TooLong) ↔ (65536 < length text.now) }
-    ensures misfit { IfErr result (λ e. NamesMisfit e → Misfits text.now e) }
-    ensures too_deep { (at : ℕ) → result ≡ Err (TooDeep at) → NestsTooDeep text.now at }
-    ensures refused { IfErr result (λ e. (e ≡ Memory) ⊎ IsRefusedText text.now e) }
+    ensures reads { MatchResult result (Reads text.now) (IsTextRefusal text.now) }
+    ensures too_long { 65536 < length text.now → result ≡ Err TooLong }
 {
-    reading::read(alloc, text)
+    if text.len() > LONGEST {
+        return Err(TextRefusal::TooLong);
+    }
+    let tokens = tokens(alloc, text)?;
+    parse_tokens(alloc, &tokens)
 }

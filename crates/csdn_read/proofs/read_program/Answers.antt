@@ -3,7 +3,7 @@ use Rattle.csdn_read.proofs.Refused.{exit_text, exit_sorts}
 use Rattle.csdn_read.proofs.read_program.Goals as goal
 
 pub returns-in_err-raw : goal.returns-in_err-raw
-returns-in_err-raw c = exit_text _ c.args.bytes.now _ _ c.from_residual.ensures.1 c.in_err-raw.ensures.only c.in_err-raw.ensures.refused
+returns-in_err-raw c = exit_text _ c.args.bytes.now _ _ c.from_residual.ensures.1 c.in_err-raw.ensures.reads
 
 pub resolve-requires : goal.resolve-requires
 resolve-requires c = from_text c.args.bytes.now c.in_ok-raw.raw c.in_ok-raw.ensures.reads

@@ -1,13 +1,15 @@
+use Rattle.csdn_text.specs.Answers.{IsTokensRefusal}
 use Rattle.csdn_text.specs.Machine.Takes.{done}
 use Rattle.csdn_text.proofs.Steps.{then_token, then, no_token, no_part, after_part}
-use Rattle.csdn_text.proofs.Whole.{answers_ok, answers_err, answers_exit}
+use Rattle.csdn_text.proofs.Whole.{tokens_taken, tokens_failed, exit}
 use Rattle.csdn_text.proofs.reading.parse_tokens.Goals as goal
 
 pub returns-in_err-program : goal.returns-in_err-program
-returns-in_err-program c = answers_exit _ c.from_residual.ensures.1 (answers_err (no_part c.in_err-program.ensures))
+returns-in_err-program c = exit _ (IsTokensRefusal c.args.tokens.now) _ c.from_residual.ensures.1 (tokens_failed (no_part c.in_err-program.ensures))
 
 pub returns-in_err-take : goal.returns-in_err-take
-returns-in_err-take c = answers_exit _ c.from_residual-in_err-take.ensures.1 (answers_err (after_part c.in_ok-program.ensures (no_token c.in_err-take.ensures.parses)))
+returns-in_err-take c =
+    exit _ (IsTokensRefusal c.args.tokens.now) _ c.from_residual-in_err-take.ensures.1 (tokens_failed (after_part c.in_ok-program.ensures (no_token c.in_err-take.ensures.parses)))
 
 pub returns : goal.returns
-returns c = answers_ok (then c.in_ok-program.ensures (then_token c.in_ok-take.ensures.parses done))
+returns c = tokens_taken (then c.in_ok-program.ensures (then_token c.in_ok-take.ensures.parses done))
