@@ -1,7 +1,7 @@
 //! The rows, and what is asked of them.
 
 use clause_log::accepts;
-use csdn_types_tests::resolved;
+use csdn_read::read_program;
 use std::alloc::{AllocError, Global};
 use vericon_decide::answer::{Answer, decide};
 use vericon_decide::verdict::Proof;
@@ -18,7 +18,7 @@ fn accepted(alloc: Global, proofs: &[Proof]) -> Result<bool, AllocError> {
 
 /// What is answered of a text at level 0.
 fn told(alloc: Global, text: &[u8]) -> Result<String, AllocError> {
-    let Ok(Ok(program)) = resolved(alloc, text) else {
+    let Ok(program) = read_program(alloc, text) else {
         return format!(in alloc; "no program");
     };
     match decide(alloc, &program, 0)? {
