@@ -21,7 +21,7 @@ use Rattle.net_facts.specs.Cases.{IsState, IsPacket, IsInOrder}
 use Rattle.net_facts.proofs.ReadBack.{read_back}
 use Rattle.csdn_conditions.specs.declared.sentence.Condition.{Condition}
 use Rattle.csdn_conditions.specs.Answers.{OfCondition}
-use Rattle.vericon_decide.specs.Verdicts.{IsBrokenBy}
+use Rattle.vericon_decide.specs.Verdicts.{IsCaseOf}
 
 below : (q : StaticRow) (rows : List StaticRow) → AllByRecursion (λ row. row_cmp (record { pred = Stored (record { 0 = q.rel }); cells = q.cells }) row ≡ Less) (as_stored rows) → AllByRecursion (λ row. static_cmp q row ≡ Less) rows
 below q [] all = tt
@@ -40,7 +40,7 @@ no_packet : (N : Network) (state : Option (List Row)) (packet : Packet) → pack
 no_packet N state packet is = subst (IsPacket N state) (sym is) tt
 
 -- what is printed of a case of a condition reads as that case
-pub case_again : (P : Parts) (n i : ℕ) (case : Case) → IsWellSorted P → OfCondition P n i (λ (c : Condition). IsBrokenBy P c case) → IsInOrder case → reading (net_format P) (net_text P case) ≡ Ok case
+pub case_again : (P : Parts) (n i : ℕ) (case : Case) → IsWellSorted P → OfCondition P n i (λ (c : Condition). IsCaseOf P c case) → IsInOrder case → reading (net_format P) (net_text P case) ≡ Ok case
 case_again P n i case well broken order =
-    let is = broken.holds.case_of in
+    let is = broken.holds in
     read_back P case well (record { network = is.network; state = state_there P case.network case.state is.tuples; packet = no_packet case.network case.state case.packet is.packet }) order

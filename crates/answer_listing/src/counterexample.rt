@@ -9,7 +9,7 @@ ghost use Rattle.net_text.specs.NetText.{net_text};
 ghost use Rattle.net_facts.specs.Cases.{IsInOrder, IsRisingState};
 ghost use Rattle.csdn_conditions.specs.Kinds.{kinds};
 ghost use Rattle.csdn_conditions.specs.Answers.{OfCondition};
-ghost use Rattle.vericon_decide.specs.Verdicts.{IsBrokenBy};
+ghost use Rattle.vericon_decide.specs.Verdicts.{IsCaseOf};
 ghost use Rattle.answer_listing.specs.Counterexamples.{IsCounterexampleText, counterexample_line, counterexample_text};
 
 use crate::words::put_condition;
@@ -131,7 +131,7 @@ pub fn counterexample_of(
 ) -> Result<Vec<u8>, AllocError>
     requires level { level ≤ 9 }
     requires index { index < length (kinds program.now level) }
-    requires case { OfCondition program.now level index (λ c. IsBrokenBy program.now c case.now) }
+    requires case { OfCondition program.now level index (λ c. IsCaseOf program.now c case.now) }
     ensures { IfOk result (λ text. IsCounterexampleText program.now level index case.now text.items) }
 {
     let _parts = program.parts();

@@ -12,7 +12,7 @@ use std::alloc::{AllocError, Global};
 use text_lines::{put_line_end, put_next_number, put_next_word, put_number, put_word};
 use vericon_decide::answer::Why;
 
-/// Appends `I KIND`.
+/// Appends `I KIND`: the number of a condition in decimal, and the words of its kind.
 pub fn put_condition(
     out: &mut Vec<u8>,
     program: &Program,
@@ -87,7 +87,7 @@ pub fn unproven_line(
     put_unproven(alloc, program, level, index, kind, why)
 }
 
-/// `yes level LEVEL`
+/// `yes level LEVEL` and a line end, with LEVEL in decimal.
 pub fn yes_line(alloc: Global, level: u8) -> Result<Vec<u8>, AllocError>
     ensures { IfOk result (λ text. text.items ≡ yes_text level) }
 {

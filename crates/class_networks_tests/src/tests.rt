@@ -4,7 +4,7 @@ ghost use Rattle.decision_laws.specs.Laws.{IsSentence};
 
 use class_networks::making::network_of;
 use clause_search::{Outcome, solve};
-use csdn_conditions::class::{Class, class_of};
+use csdn_conditions::class::{Class, USUAL_SIZE, class_of};
 use csdn_conditions::condition::condition;
 use csdn_conditions::kinds::condition_count;
 use csdn_conditions::sentence::Condition;
@@ -47,7 +47,7 @@ fn broken_condition(
     requires goal { IsClosed program.now condition.goal }
 {
     let sentence = condition.into_sentence(alloc)?;
-    match class_of(program, &sentence) {
+    match class_of(program, USUAL_SIZE, &sentence) {
         Class::Inside => network_text(alloc, program, &sentence),
         _ => Ok(Vec::new(alloc)),
     }

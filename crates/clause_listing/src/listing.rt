@@ -48,7 +48,8 @@ fn list_blocks(alloc: Global, blocks: &[Block]) -> Result<Listing, AllocError>
     Ok(Listing { text, all_accepted })
 }
 
-/// Checks the log of each block of the text, and solves the clauses of each block without one.
+/// Checks the log of each block of the text, and solves the clauses of each block without one: a line for each block
+/// (docs/COMMANDS.md, "clauses"). Refused as by `read_log`.
 pub fn list(alloc: Global, bytes: &[u8]) -> Result<Listing, LogRefusal>
     ensures { Lists bytes.now result }
 {

@@ -15,7 +15,8 @@ use log_text::{put_next_literal, put_steps};
 use std::alloc::{AllocError, Global};
 use text_lines::{put_line_end, put_word};
 
-/// Appends whether the log is accepted. The answer says so too.
+/// Appends `: accepted` or `: not accepted` and a line end, by whether the log refutes the clauses. The answer says so
+/// too.
 pub fn put_verdict(
     alloc: Global,
     out: &mut Vec<u8>,
@@ -34,7 +35,7 @@ pub fn put_verdict(
     Ok(good)
 }
 
-/// Appends a model of the clauses, or the steps of a refutation.
+/// Appends a model of the clauses, or the steps of a refutation (docs/COMMANDS.md, "clauses").
 pub fn put_answer(alloc: Global, out: &mut Vec<u8>, clauses: &Clauses) -> Result<(), AllocError>
     ensures { OnOk result ((said : List ℕ) × IsAnswer clauses.now said × (out.new.items ≡ out.old.items ++ said)) }
 {

@@ -11,7 +11,7 @@ use std::collections::BTreeMap;
 /// The truth values of the atoms that have one.
 pub type Values = BTreeMap<u64, bool>;
 
-/// The literal's truth value, where its atom has one.
+/// The literal's truth value; `None` where its atom has none.
 pub fn value_of(values: &Values, l: Lit) -> Option<bool>
     ensures { result ≡ literal_value (assigned values.now) l }
 {
@@ -57,7 +57,8 @@ pub fn is_conflict(values: &Values, clause: &[Lit]) -> bool
     true
 }
 
-/// The literal that the clause forces: the only one that isn't false, where it has no value yet.
+/// The literal that the clause forces: the only one that isn't false, where it has no value yet; `None` where there is
+/// no such literal.
 pub fn unit(values: &Values, clause: &[Lit]) -> Option<Lit>
     ensures { result ≡ unit_literal (assigned values.now) clause.now }
 {

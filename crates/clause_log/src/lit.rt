@@ -53,12 +53,14 @@ impl Lit {
         Lit(-(atom as i64))
     }
 
+    /// Whether it is an atom itself, not a negated one.
     pub fn is_positive(self) -> bool
         ensures { result ≡ self.positive }
     {
         self.0 > 0
     }
 
+    /// The number of its atom, from 1 to 2^63 - 1.
     pub fn atom(self) -> u64
         ensures value { result ≡ self.atom }
         ensures from_one { 0 < result }

@@ -10,6 +10,7 @@ use clause_log::Lit;
 /// What a clause does under the values of a trail.
 #[derive(Clone, Copy, Debug)]
 pub enum Verdict {
+    /// It has a true literal, or two without a value.
     Quiet,
     /// Its only literal that isn't false, which has no value yet.
     Forces(Lit),

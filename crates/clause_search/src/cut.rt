@@ -23,6 +23,7 @@ pub struct Cut {
 }
 
 impl Cut {
+    /// A cut for `learn` to fill.
     pub fn new(alloc: Global) -> Cut {
         Cut {
             marks: Marks::new(alloc),

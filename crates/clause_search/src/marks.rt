@@ -63,6 +63,7 @@ impl Marks {
         }
     }
 
+    /// Whether the atom's mark is `Open`.
     pub fn is_open(&self, atom: u64) -> bool
         ensures { result ≡ is_open (mark_of self.now atom) }
     {
@@ -72,6 +73,7 @@ impl Marks {
         }
     }
 
+    /// Whether the atom's mark is `Unseen`, as that of an atom without one is.
     pub fn is_unseen(&self, atom: u64) -> bool
         ensures { result ≡ is_unseen (mark_of self.now atom) }
     {

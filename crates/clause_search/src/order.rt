@@ -172,7 +172,7 @@ impl Order {
         }
     }
 
-    /// A conflict rested on this atom.
+    /// Counts that a conflict rested on this atom.
     pub fn bump(&mut self, atom: u64) {
         let atom = atom as usize;
         let Some(activity) = self.activity.get(atom) else {
@@ -196,12 +196,12 @@ impl Order {
         self.rise = (self.rise >> BITS_LESS).saturating_add(1);
     }
 
-    /// Later conflicts count more than those so far.
+    /// Makes later conflicts count more than those so far.
     pub fn age(&mut self) {
         self.rise = self.rise.saturating_add(self.rise / 16);
     }
 
-    /// The literal has a value no more.
+    /// Puts back a literal that has a value no more.
     pub fn put_back(&mut self, l: Lit) -> Result<(), AllocError> {
         let atom = l.atom() as usize;
         if let Some(at) = self.spot(atom) {
@@ -227,7 +227,7 @@ impl Order {
         Some(top)
     }
 
-    /// Takes away the first literal without a value, and those before it.
+    /// Takes away the first literal without a value, and those before it; `None` where there is none.
     pub fn next(&mut self, trail: &Trail) -> Option<Lit>
         ensures { IfSome result (λ l. values_of trail.now l.atom ≡ None) }
     {

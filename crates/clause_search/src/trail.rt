@@ -95,7 +95,7 @@ impl Trail {
         Ok(())
     }
 
-    /// Takes the last entry away.
+    /// Takes the last entry away; `None` where there is none.
     pub fn pop(&mut self) -> Option<Entry>
         ensures entry { self.old ≡ self.new ++ option_to_list result }
         ensures empty { IfNone result (self.old ≡ []) }

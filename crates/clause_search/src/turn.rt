@@ -20,6 +20,7 @@ use std::alloc::{AllocError, Global};
 /// What came of a turn.
 #[derive(Clone, Copy, Debug)]
 pub enum Turn {
+    /// Neither yet.
     GoesOn,
     /// Every clause has a true literal.
     AllTrue,
@@ -47,7 +48,7 @@ pub struct Tools {
 }
 
 impl Tools {
-    /// Those for a search among these clauses.
+    /// The tools for a search among these clauses.
     pub fn of(alloc: Global, clauses: &Clauses) -> Result<Tools, AllocError> {
         let order = Order::of(alloc, clauses)?;
         let watches = Watches::of(alloc, clauses)?;

@@ -47,7 +47,7 @@ fn place_of(l: Lit) -> usize {
 }
 
 impl Watches {
-    /// Those of these clauses, by the first two literals of each.
+    /// The watches of these clauses, by the first two literals of each.
     pub fn of(alloc: Global, clauses: &Clauses) -> Result<Watches, AllocError> {
         let mut watches = Watches {
             alloc,
@@ -100,7 +100,7 @@ impl Watches {
         Ok(())
     }
 
-    /// Takes the list of a literal away.
+    /// Takes away the list of the clauses that a literal watches.
     pub fn take(&mut self, l: Lit) -> Vec<Watch> {
         let empty = Vec::new(self.alloc);
         match self.lists.get_mut(place_of(l)) {
@@ -109,7 +109,7 @@ impl Watches {
         }
     }
 
-    /// Gives back what was taken.
+    /// Gives back the list that was taken of a literal.
     pub fn give_back(&mut self, l: Lit, taken: Vec<Watch>) {
         if let Some(list) = self.lists.get_mut(place_of(l)) {
             *list = taken;

@@ -5,7 +5,7 @@ use Rattle.std.specs.List.{slice_get}
 use Rattle.std.specs.Str.{bytes_eq}
 use Rattle.command_words.specs.declared.table.Kind.{Kind}
 use Rattle.command_words.specs.Rows.{CommandRow, commands}
-use Rattle.command_words.specs.Kinds.{behind_kinds, any_number}
+use Rattle.command_words.specs.Kinds.{behind_kinds, any_number, any_size}
 use Rattle.command_words.specs.Options.{behind_options, are_options, option_first, value_of}
 use Rattle.command_words.specs.Call.{Call}
 
@@ -57,3 +57,7 @@ number_at operands index = option_and_then any_number (slice_get operands index)
 -- the number that the value of an option is, where it is given
 abbrev pub option_number : List ℕ → List (List ℕ) → Option ℕ
 option_number option options = option_and_then any_number (value_of option options)
+
+-- .. of at most 64 bits
+abbrev pub option_size : List ℕ → List (List ℕ) → Option ℕ
+option_size option options = option_and_then any_size (value_of option options)

@@ -8,6 +8,10 @@ use Rattle.command_words.specs.declared.table.Kind.TheVariants.{Text, Number}
 abbrev pub any_number : List ℕ → Option ℕ
 any_number word = number_of 4294967295 word
 
+-- .. of at most 64 bits
+abbrev pub any_size : List ℕ → Option ℕ
+any_size word = number_of 18446744073709551615 word
+
 abbrev pub is_at_least : ℕ → Option ℕ → Bool
 is_at_least least None = false
 is_at_least least (Some number) = nat_le least number

@@ -40,7 +40,7 @@ pub fn behind_options<'a>(rows: &[OptionRow], words: &'a [String]) -> &'a [Strin
     rest
 }
 
-/// The value of an option among options and their values.
+/// The value of the first such option among options and their values; `None` where it is not there.
 pub fn value_of<'a>(options: &'a [String], option: &str) -> Option<&'a str>
     ensures { option_map (λ value. value.now) result ≡ option_value option.now (map string_bytes options.now) }
 {

@@ -1,9 +1,9 @@
 //! What the words of a call ask for.
 ghost use Rattle.std.specs.Prelude.{◌≡◌, [], option_map, slice_index_or};
 ghost use Rattle.command_words.specs.Options.{value_of as option_value};
-ghost use Rattle.command_words.specs.Calls.{number_at, option_number as number_of_option};
+ghost use Rattle.command_words.specs.Calls.{number_at, option_number as number_of_option, option_size as size_of_option};
 
-use crate::kinds::number_in;
+use crate::kinds::{number_in, size_in};
 use crate::options::value_of;
 use crate::table::Command;
 use std::marker::Model;
@@ -53,7 +53,7 @@ impl<'a> Request<'a> {
         }
     }
 
-    /// The value of this option, where it was given.
+    /// The value of this option; `None` where it was not given.
     pub fn option(&self, option: &str) -> Option<&'a str>
         ensures { option_map (λ value. value.now) result ≡ option_value option.now self.now.options }
     {
@@ -66,6 +66,16 @@ impl<'a> Request<'a> {
     {
         match self.option(option) {
             Some(value) => number_in(value),
+            None => None,
+        }
+    }
+
+    /// The number of at most 64 bits that the value of this option is; `None`, where it was not given, or its value is none.
+    pub fn option_size(&self, option: &str) -> Option<u64>
+        ensures { result ≡ size_of_option option.now self.now.options }
+    {
+        match self.option(option) {
+            Some(value) => size_in(value),
             None => None,
         }
     }

@@ -20,7 +20,7 @@ pub enum Kind {
     /// Any word, as the name of a file.
     Text,
     /// A decimal number from `least` to `most`, without a sign or leading zeros.
-    Number { least: u32, most: u32 },
+    Number { least: u64, most: u64 },
 }
 
 /// An option: its word, and what its value is.
@@ -51,20 +51,33 @@ const SESSION: Kind = Kind::Number {
     most: 0xffff_ffff,
 };
 
+const SIZE: Kind = Kind::Number {
+    least: 1,
+    most: 9_007_199_254_740_992,
+};
+
 const STRENGTHEN: OptionRow = ("--strengthen", LEVEL);
+
+const INSTANCES: OptionRow = ("--instances", SIZE);
 
 const LOG: OptionRow = ("--log", FILE);
 
 /// The commands that are served.
 pub const COMMANDS: [CommandRow; 9] = [
-    ("check", Command::Check, &[STRENGTHEN, LOG], &[FILE], &[]),
+    (
+        "check",
+        Command::Check,
+        &[STRENGTHEN, INSTANCES, LOG],
+        &[FILE],
+        &[],
+    ),
     ("show", Command::Show, &[], &[FILE], &[]),
     ("eval", Command::Eval, &[], &[FILE, FILE], &[LEVEL, INDEX]),
     ("trace", Command::Trace, &[], &[FILE, FILE, FILE], &[]),
     (
         "conditions",
         Command::Conditions,
-        &[STRENGTHEN],
+        &[STRENGTHEN, INSTANCES],
         &[FILE],
         &[],
     ),

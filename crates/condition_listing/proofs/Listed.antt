@@ -23,19 +23,19 @@ drop_is cs i c there =
     ∙ ap (λ k. c ∷ drop k cs) (sym (add-one i))
 
 -- what was printed, and then the listing of the rest, is the listing of all
-abbrev pub GoesOn : Parts → List Condition → ℕ → List ℕ → Type 0
-GoesOn P cs i out = (rest : List ℕ) → IsListed P i (drop i cs) rest → IsListed P 0 cs (out ++ rest)
+abbrev pub GoesOn : Parts → ℕ → List Condition → ℕ → List ℕ → Type 0
+GoesOn P size cs i out = (rest : List ℕ) → IsListed P size i (drop i cs) rest → IsListed P size 0 cs (out ++ rest)
 
-pub begins : (P : Parts) (cs : List Condition) (out : List ℕ) → out ≡ [] → GoesOn P cs 0 out
-begins P cs out is = λ rest listed. subst (λ t. IsListed P 0 cs (t ++ rest)) (sym is) listed
+pub begins : (P : Parts) (size : ℕ) (cs : List Condition) (out : List ℕ) → out ≡ [] → GoesOn P size cs 0 out
+begins P size cs out is = λ rest listed. subst (λ t. IsListed P size 0 cs (t ++ rest)) (sym is) listed
 
-pub goes_on : (P : Parts) (cs : List Condition) (i : ℕ) (c : Condition) (out new : List ℕ) → slice_get cs i ≡ Some c → AddsLine P i c out new → GoesOn P cs i out → GoesOn P cs (i + 1) new
-goes_on P cs i c out new there (line, is_line, new_is) before = λ rest listed.
-    let front : IsListed P i (drop i cs) (line ++ rest) = subst (λ ds. IsListed P i ds (line ++ rest)) (sym (drop_is cs i c there)) (line, rest, is_line, listed, refl) in
-    subst (λ t. IsListed P 0 cs t) (sym (append_assoc out line rest) ∙ sym (ap (λ t. t ++ rest) new_is)) (before (line ++ rest) front)
+pub goes_on : (P : Parts) (size : ℕ) (cs : List Condition) (i : ℕ) (c : Condition) (out new : List ℕ) → slice_get cs i ≡ Some c → AddsLine P size i c out new → GoesOn P size cs i out → GoesOn P size cs (i + 1) new
+goes_on P size cs i c out new there (line, is_line, new_is) before = λ rest listed.
+    let front : IsListed P size i (drop i cs) (line ++ rest) = subst (λ ds. IsListed P size i ds (line ++ rest)) (sym (drop_is cs i c there)) (line, rest, is_line, listed, refl) in
+    subst (λ t. IsListed P size 0 cs t) (sym (append_assoc out line rest) ∙ sym (ap (λ t. t ++ rest) new_is)) (before (line ++ rest) front)
 
-pub ends : (P : Parts) (cs : List Condition) (i : ℕ) (out : List ℕ) → drop i cs ≡ [] → GoesOn P cs i out → IsListed P 0 cs out
-ends P cs i out none before = subst (λ t. IsListed P 0 cs t) (append-nil out) (before [] (subst (λ ds. IsListed P i ds []) (sym none) refl))
+pub ends : (P : Parts) (size : ℕ) (cs : List Condition) (i : ℕ) (out : List ℕ) → drop i cs ≡ [] → GoesOn P size cs i out → IsListed P size 0 cs out
+ends P size cs i out none before = subst (λ t. IsListed P size 0 cs t) (append-nil out) (before [] (subst (λ ds. IsListed P size i ds []) (sym none) refl))
 
 -- there are as many conditions as kinds
 pub as_many : (P : Parts) (n : ℕ) → length (conditions P n) ≡ length (kinds P n)

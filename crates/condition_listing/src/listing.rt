@@ -1,6 +1,7 @@
 //! The classes of conditions.
 ghost use Rattle.std.specs.Prelude.{◌≡◌, ◌<◌, ◌≤◌, ◌++◌, IfOk, OnOk, length};
 ghost use Rattle.text_lines.specs.Printed.{line_text};
+ghost use Rattle.csdn_conditions.specs.Classes.{greatest_size};
 ghost use Rattle.csdn_conditions.specs.Kinds.{kinds};
 ghost use Rattle.csdn_conditions.specs.Conditions.{conditions};
 ghost use Rattle.csdn_conditions.specs.Answers.{OfCondition};
@@ -14,15 +15,17 @@ use csdn_core::program::Program;
 use std::alloc::{AllocError, Global};
 use text_lines::{put_line_end, put_number};
 
-/// A line for each condition of a level: its number, its kind and its class.
-pub fn list(alloc: Global, program: &Program, level: u8) -> Result<Vec<u8>, AllocError>
-    requires { level ≤ 9 }
-    ensures { IfOk result (λ text. IsListed program.now 0 (conditions program.now level) text.items) }
+/// A line for each condition of a level: its number, its kind and its class by a size (docs/COMMANDS.md,
+/// "conditions").
+pub fn list(alloc: Global, program: &Program, size: u64, level: u8) -> Result<Vec<u8>, AllocError>
+    requires size { size ≤ greatest_size }
+    requires level { level ≤ 9 }
+    ensures { IfOk result (λ text. IsListed program.now size 0 (conditions program.now level) text.items) }
 {
     let mut out = Vec::new(alloc);
     let count = condition_count(program, level);
     'conditions: for index in 0..count {
-        put_condition(alloc, &mut out, program, level, index)?;
+        put_condition(alloc, &mut out, program, size, level, index)?;
     }
     Ok(out)
 }
@@ -31,14 +34,16 @@ fn put_condition(
     alloc: Global,
     out: &mut Vec<u8>,
     program: &Program,
+    size: u64,
     level: u8,
     index: u32,
 ) -> Result<(), AllocError>
+    requires size { size ≤ greatest_size }
     requires level { level ≤ 9 }
     requires index { index < length (kinds program.now level) }
-    ensures { OnOk result (OfCondition program.now level index (λ c. AddsLine program.now index c out.old.items out.new.items)) }
+    ensures { OnOk result (OfCondition program.now level index (λ c. AddsLine program.now size index c out.old.items out.new.items)) }
 {
-    let class = condition_class(alloc, program, level, index)?;
+    let class = condition_class(alloc, program, size, level, index)?;
     let kind = condition_kind(program, level, index);
     put_line_of(out, program, index, kind, class)
 }

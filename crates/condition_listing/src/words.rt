@@ -47,7 +47,7 @@ fn put_init(out: &mut Vec<u8>, k: u8, name: &[u8]) -> Result<(), AllocError>
     put_next_word(out, name)
 }
 
-/// The words of a kind, each with a space before it.
+/// Appends the words of a kind, each with a space before it (docs/COMMANDS.md, "conditions").
 pub fn put_kind(out: &mut Vec<u8>, program: &Program, kind: CondKind) -> Result<(), AllocError>
     ensures { OnOk result (out.new.items ≡ out.old.items ++ spaced (kind_words program.now kind)) }
 {
@@ -83,7 +83,7 @@ fn put_instances(out: &mut Vec<u8>, count: u64) -> Result<(), AllocError>
     put_next_number(out, count)
 }
 
-/// The words of a class, each with a space before it.
+/// Appends the words of a class, each with a space before it (docs/COMMANDS.md, "conditions").
 pub fn put_class(out: &mut Vec<u8>, class: Class) -> Result<(), AllocError>
     ensures { OnOk result (out.new.items ≡ out.old.items ++ spaced (class_words class)) }
 {

@@ -1,7 +1,7 @@
 -- Counts that stand at the greatest number, compared with smaller limits.
 use Rattle.std.proofs.Common.{◌≡◌, ℕ, ◌+◌, ◌-◌, ◌<◌, ◌≤◌, arith}
 use Rattle.fol_forms.specs.Limits.{capped, most_nodes}
-use Rattle.csdn_conditions.specs.Classes.{most_instances}
+use Rattle.csdn_conditions.specs.Classes.{greatest_size}
 
 pub over_nodes : (n count : ℕ) → count ≡ capped n → most_nodes < count → most_nodes < n
 unfolding capped
@@ -11,13 +11,13 @@ pub under_nodes : (n count : ℕ) → count ≡ capped n → count ≤ most_node
 unfolding capped
 under_nodes n count is few = omega (arith, is, few)
 
-pub over_instances : (n count : ℕ) → count ≡ capped n → most_instances < count → most_instances < n
+pub over_size : (n count size : ℕ) → count ≡ capped n → size < count → size < n
 unfolding capped
-over_instances n count is more = omega (arith, is, more)
+over_size n count size is more = omega (arith, is, more)
 
-pub under_instances : (n count : ℕ) → count ≡ capped n → count ≤ most_instances → n ≤ most_instances
+pub under_size : (n count size : ℕ) → size ≤ greatest_size → count ≡ capped n → count ≤ size → n ≤ size
 unfolding capped
-under_instances n count is few = omega (arith, is, few)
+under_size n count size small is few = omega (arith, small, is, few)
 
 -- beside the formula and one node more
 

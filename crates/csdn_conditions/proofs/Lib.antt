@@ -12,4 +12,5 @@ pub mod ClosedConditions
 pub mod Inductive
 pub mod Complete
 pub mod Cases
+pub mod Shared
 mod Examples

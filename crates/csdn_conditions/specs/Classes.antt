@@ -10,9 +10,13 @@ use Rattle.fol_forms.specs.Written.{written}
 use Rattle.csdn_conditions.specs.declared.class.Class.{Class}
 use Rattle.csdn_conditions.specs.declared.class.Class.TheVariants.{Inside, Nodes, Outside, Instances}
 
--- the most atoms and equations that the copies of a sentence may have
-abbrev pub most_instances : ℕ
-most_instances = 16777216
+-- the size by which conditions are decided, where no other is chosen: the most atoms and equations that the copies of a sentence may have
+abbrev pub usual_size : ℕ
+usual_size = 16777216
+
+-- the greatest size that may be chosen
+abbrev pub greatest_size : ℕ
+greatest_size = 9007199254740992
 
 module _ (P : Parts) (s : Formula) where
   -- neither the sentence nor its normal form has more than 1,048,576 nodes
@@ -26,9 +30,9 @@ module _ (P : Parts) (s : Formula) where
   abbrev pub copied : ℕ
   copied = instances (counts P s) (form_of s)
 
-  -- the class of a sentence
-  abbrev pub IsClass : Class → Type 0
-  IsClass Nodes = IsLarge
-  IsClass Outside = IsSmall × IsFalse (in_fragment (form_of s))
-  IsClass (Instances n) = IsSmall × IsTrue (in_fragment (form_of s)) × (most_instances < copied) × (n ≡ capped copied)
-  IsClass Inside = IsSmall × IsTrue (in_fragment (form_of s)) × (copied ≤ most_instances)
+-- the class of a sentence, by the size
+abbrev pub IsClass : Parts → ℕ → Formula → Class → Type 0
+IsClass P size s Nodes = IsLarge P s
+IsClass P size s Outside = IsSmall P s × IsFalse (in_fragment (form_of s))
+IsClass P size s (Instances n) = IsSmall P s × IsTrue (in_fragment (form_of s)) × (size < copied P s) × (n ≡ capped (copied P s))
+IsClass P size s Inside = IsSmall P s × IsTrue (in_fragment (form_of s)) × (copied P s ≤ size)

@@ -36,7 +36,8 @@ pub fn after_event(
     }
 }
 
-/// What is true where the formula is true after every run of so many events.
+/// What is true where the formula is true after every run of so many events. `Large` exactly where that has more than
+/// 1,048,576 nodes.
 pub fn after_events(
     alloc: Global,
     program: &Program,
@@ -98,7 +99,8 @@ pub fn both(alloc: Global, p: Formula, q: Formula) -> Result<Formula, FormRefusa
     or_memory(Join::And.two(alloc, p, q))
 }
 
-/// The conjunction of the invariants' formulas after no event, after one, and so on to so many events.
+/// The conjunction of the invariants' formulas after no event, after one, and so on to so many events. `Large` exactly
+/// where that has more than 1,048,576 nodes.
 pub fn all_after(
     alloc: Global,
     program: &Program,

@@ -8,6 +8,7 @@ use csdn_core::syntax::Formula;
 use sqlite_items::{Boxed, Items};
 use std::alloc::{AllocError, Global};
 
+/// Formulas, in the order in which they are joined.
 pub type Formulas = Items<Formula>;
 
 /// How formulas are joined.

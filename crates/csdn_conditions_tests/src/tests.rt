@@ -2,6 +2,7 @@
 ghost use Rattle.std.specs.Prelude.{◌≤◌};
 
 use condition_listing::{judge, list};
+use csdn_conditions::class::USUAL_SIZE;
 use csdn_conditions::condition::condition;
 use csdn_conditions::kinds::condition_count;
 use csdn_core::program::Program;
@@ -15,12 +16,12 @@ use net_text::read_net;
 use sqlite_items::Boxed;
 use std::alloc::{AllocError, Global};
 
-/// The lines of the conditions of a level; none of a text that is no program.
+/// The lines of the conditions of a level, by the usual size; none of a text that is no program.
 fn lines_of(alloc: Global, text: &[u8], level: u8) -> Result<Vec<u8>, AllocError>
     requires { level ≤ 9 }
 {
     match read_program(alloc, text) {
-        Ok(program) => list(alloc, &program, level),
+        Ok(program) => list(alloc, &program, USUAL_SIZE, level),
         Err(_) => Ok(Vec::new(alloc)),
     }
 }

@@ -5,7 +5,7 @@ use crate::program::{Constant, Handler, Invariant, Relation, StartRow};
 use sqlite_items::Items;
 use std::alloc::{AllocError, Global};
 
-/// What a list is copied by.
+/// What can be copied, so that a list of such can be.
 pub trait Element {
     /// An equal element.
     fn copy(&self, alloc: Global) -> Result<Self, AllocError>

@@ -1,7 +1,8 @@
 //! What happens in a network, and what an execution did.
 use sqlite_items::Items;
 
-/// An event of a network: one atomic step.
+/// An event of a network: one atomic step. In it `s` is the switch, `a` the source, `b` the destination, `i` the
+/// ingress port and `o` the egress port.
 #[derive(Clone, Copy, Debug, PartialEq, Eq)]
 pub enum Event {
     /// A switch reports a packet that came in.
@@ -31,6 +32,7 @@ pub enum Event {
 /// The packet of which formulas may speak: its switch, source, destination and ingress port.
 #[derive(Clone, Copy, Debug, PartialEq, Eq)]
 pub enum Packet {
+    /// There is none, and `rcv_this` holds of nothing.
     Nothing,
     At { s: u64, a: u64, b: u64, i: u64 },
 }
@@ -53,8 +55,10 @@ pub enum Out {
     Flood,
 }
 
+/// A list of matches.
 pub type Matches = Items<Match>;
 
+/// A list of ways in which one packet is sent out.
 pub type Outs = Items<Out>;
 
 /// What an execution did.

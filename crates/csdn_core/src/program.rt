@@ -12,18 +12,25 @@ use std::marker::Model;
 /// The bytes of a name.
 pub type Text = Items<u8>;
 
+/// The sorts of a relation's arguments, in their order.
 pub type Sorts = Items<Sort>;
 
+/// The relations that a program declares, in the order of its text. A `RelId` is a place in it.
 pub type Relations = Items<Relation>;
 
+/// The constants that a program declares, in the order of its text. A `ConstId` is a place in it.
 pub type Constants = Items<Constant>;
 
+/// The tuples that relations have at the start, in the order of the text.
 pub type StartRows = Items<StartRow>;
 
+/// Invariants of one kind, in the order of the text.
 pub type Invariants = Items<Invariant>;
 
+/// The handlers of a program, in the order of the text: a packet is handled by the first that fits its port.
 pub type Handlers = Items<Handler>;
 
+/// The k of all `prt(k)` of a program, rising and each once.
 pub type Numerals = Items<u16>;
 
 /// What is done with a packet that comes in.

@@ -5,7 +5,7 @@ use crate::terms::{Pred, RelId, Sort, Term, Terms, VarId};
 use sqlite_items::Boxed;
 use std::alloc::{AllocError, Global};
 
-/// A first-order formula over a program's relations.
+/// A first-order formula over a program's relations. A quantifier runs over the elements of its sort.
 #[derive(Drop)]
 pub enum Formula {
     True,
@@ -26,13 +26,16 @@ pub enum Formula {
 #[derive(Drop)]
 pub enum Command {
     Skip,
+    /// The first command, then the second.
     Seq(Boxed<Command>, Boxed<Command>),
     /// The first command where the formula is true, else the second.
     If(Boxed<Formula>, Boxed<Command>, Boxed<Command>),
     /// The first command with the variable standing for an element of the sort for which the formula is true; the second
     /// where there is none.
     Pick(VarId, Sort, Boxed<Formula>, Boxed<Command>, Boxed<Command>),
+    /// Puts terms into a declared relation.
     Insert(RelId, Terms),
+    /// Takes terms out of a declared relation.
     Remove(RelId, Terms),
     /// Puts five terms into the flow tables.
     Install(Terms),

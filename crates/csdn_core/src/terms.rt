@@ -88,9 +88,13 @@ impl Pred {
 /// Where a formula stands, which decides what relations it may name.
 #[derive(Clone, Copy, Debug, PartialEq, Eq)]
 pub enum Place {
+    /// In a topology invariant.
     Topology,
+    /// In a safety invariant.
     Safety,
+    /// In a transition invariant.
     Trans,
+    /// In a condition of a handler.
     Handler,
 }
 
@@ -133,6 +137,7 @@ impl Terms {
         self.terms.push(term);
     }
 
+    /// The terms, in their order: at most five.
     pub fn as_slice(&self) -> &[Term]
         ensures value { result.now ≡ self.now }
         ensures fits { length result.now ≤ 5 }

@@ -1,6 +1,7 @@
 //! Entries of a history.
 
-/// What a controller's history records, with the seat and the session that brought it.
+/// What a controller's history records, with the seat and the session that brought it. In it `s` is the switch, `a` the
+/// source, `b` the destination and `i` the ingress port.
 #[derive(Clone, Copy, Debug, PartialEq, Eq)]
 pub enum Entry {
     /// A switch joined.

@@ -2,8 +2,10 @@
 use csdn_core::event::{Match, Outs};
 use sqlite_items::Items;
 
+/// Elements of one sort, as the output ports of a match.
 pub type Elements = Items<u64>;
 
+/// A list of flow rules.
 pub type Rules = Items<Rule>;
 
 /// A flow rule: all output ports of a match, rising; none where the match has no rule any more.
@@ -20,6 +22,9 @@ pub struct Rule {
 /// What a controller answers to an entry.
 #[derive(Drop)]
 pub struct Reply {
+    /// The rules that the switch is told: at a join all of its own, and after a packet those of the matches that it
+    /// changed.
     pub rules: Rules,
+    /// How the packet of the entry is sent out at once.
     pub outs: Outs,
 }

@@ -122,7 +122,7 @@ fn put_choice(
     put_word(out, b" ")
 }
 
-/// A command in lines with these spaces before them.
+/// Appends a command in lines with these spaces before them (docs/FORMATS.md, "Printed programs").
 #[cycle(command)]
 pub fn put_command(
     alloc: Global,
@@ -212,7 +212,7 @@ fn put_pick(
     put_branches(alloc, out, indent, body, other)
 }
 
-/// Commands in braces, the closing one on a line of its own.
+/// Appends commands in braces, the closing one on a line of its own.
 #[cycle(command)]
 pub fn put_block(
     alloc: Global,

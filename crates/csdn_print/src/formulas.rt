@@ -103,7 +103,7 @@ fn put_behind(out: &mut Vec<u8>, lead: Lead, word: &[u8]) -> Result<(), AllocErr
     put_word(out, word)
 }
 
-/// A formula, with what parts it from what it stands behind.
+/// Appends a formula, with what parts it from what it stands behind.
 #[cycle(formula)]
 pub fn put_formula(out: &mut Vec<u8>, lead: Lead, p: &RawFormula) -> Result<(), AllocError>
     ensures { OnOk result (out.new.items ≡ out.old.items ++ spec.formula_text lead p.now) }

@@ -134,7 +134,7 @@ fn put_timeout(out: &mut Vec<u8>, timeout: &RawTimeout) -> Result<(), AllocError
     put_word(out, b";")
 }
 
-/// An item, without the end of its line.
+/// Appends an item, without the end of its line.
 pub fn put_item(alloc: Global, out: &mut Vec<u8>, raw: &RawItem) -> Result<(), AllocError>
     ensures { OnOk result (out.new.items ≡ out.old.items ++ spec.item_text raw.now) }
 {

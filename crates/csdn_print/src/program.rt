@@ -20,10 +20,10 @@ fn put_items(alloc: Global, out: &mut Vec<u8>, mut items: &[RawItem]) -> Result<
     Ok(())
 }
 
-/// The text of a tree.
+/// The text of a tree (docs/FORMATS.md, "Printed programs").
 ///
-/// Where the tree is one that a text reads as, and its printed text has at most 65,536 bytes, that text reads as the tree
-/// again, places aside. Memory is taken from `alloc`.
+/// Where the tree is one that a text reads as, and its printed text has at most 65,536 bytes, that text reads as the
+/// tree again, places aside. Memory is taken from `alloc`.
 pub fn print(alloc: Global, raw: &RawProgram) -> Result<Vec<u8>, AllocError>
     // the text is the printed one
     ensures text { IfOk result (λ printed. printed.items ≡ program_text raw.now) }

@@ -9,6 +9,7 @@ use csdn_tree::syntax::{RawFlow, RawPacket};
 use std::alloc::AllocError;
 use text_lines::{put_number, put_word};
 
+/// The word of a sort: `SW`, `HO` or `PR`.
 pub fn sort_text(sort: Sort) -> &'static [u8]
     ensures { result.now ≡ spec.sort_text sort }
 {
@@ -19,6 +20,7 @@ pub fn sort_text(sort: Sort) -> &'static [u8]
     }
 }
 
+/// Appends `prt(k)`, with k in decimal.
 pub fn put_port(out: &mut Vec<u8>, port: &RawNumeral) -> Result<(), AllocError>
     ensures { OnOk result (out.new.items ≡ out.old.items ++ spec.port_text port.now) }
 {
@@ -27,6 +29,7 @@ pub fn put_port(out: &mut Vec<u8>, port: &RawNumeral) -> Result<(), AllocError>
     put_word(out, b")")
 }
 
+/// Appends a term: a name's bytes, or `prt(k)`.
 pub fn put_term(out: &mut Vec<u8>, term: &RawTerm) -> Result<(), AllocError>
     ensures { OnOk result (out.new.items ≡ out.old.items ++ spec.term_text term.now) }
 {
@@ -47,7 +50,7 @@ fn put_more_terms(out: &mut Vec<u8>, mut terms: &[RawTerm]) -> Result<(), AllocE
     Ok(())
 }
 
-/// Terms with commas between them, in parentheses.
+/// Appends terms, with `, ` between them, in parentheses.
 pub fn put_terms(out: &mut Vec<u8>, terms: &[RawTerm]) -> Result<(), AllocError>
     ensures { OnOk result (out.new.items ≡ out.old.items ++ spec.terms_text terms.now) }
 {
@@ -70,7 +73,7 @@ fn put_more_sorts(out: &mut Vec<u8>, mut sorts: &[Sort]) -> Result<(), AllocErro
     Ok(())
 }
 
-/// Sorts with commas between them, in parentheses.
+/// Appends sorts, with `, ` between them, in parentheses.
 pub fn put_sorts(out: &mut Vec<u8>, sorts: &[Sort]) -> Result<(), AllocError>
     ensures { OnOk result (out.new.items ≡ out.old.items ++ spec.sorts_text sorts.now) }
 {
@@ -91,7 +94,7 @@ fn put_arrow(out: &mut Vec<u8>, from: &RawTerm, to: &RawTerm) -> Result<(), Allo
     put_term(out, to)
 }
 
-/// Two hosts and two ports, in parentheses.
+/// Appends `(source->target, ingress->egress)`.
 pub fn put_flow(out: &mut Vec<u8>, flow: &RawFlow) -> Result<(), AllocError>
     ensures { OnOk result (out.new.items ≡ out.old.items ++ spec.flow_text flow.now) }
 {
@@ -102,7 +105,7 @@ pub fn put_flow(out: &mut Vec<u8>, flow: &RawFlow) -> Result<(), AllocError>
     put_word(out, b")")
 }
 
-/// Two hosts and a port, in parentheses.
+/// Appends `(source->target, ingress)`.
 pub fn put_packet(out: &mut Vec<u8>, packet: &RawPacket) -> Result<(), AllocError>
     ensures { OnOk result (out.new.items ≡ out.old.items ++ spec.packet_text packet.now) }
 {
@@ -113,7 +116,7 @@ pub fn put_packet(out: &mut Vec<u8>, packet: &RawPacket) -> Result<(), AllocErro
     put_word(out, b")")
 }
 
-/// A name and its sort.
+/// Appends `name:SORT`.
 pub fn put_bind(out: &mut Vec<u8>, name: &RawName, sort: Sort) -> Result<(), AllocError>
     ensures { OnOk result (out.new.items ≡ out.old.items ++ (name.now.text · codes ":" · spec.sort_text sort)) }
 {

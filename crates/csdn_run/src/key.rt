@@ -23,12 +23,14 @@ impl Model for Key {
 }
 
 impl Key {
+    /// The key of a match.
     pub fn of(place: &Match) -> Key
         ensures { result ≡ place.now }
     {
         Key { place: *place }
     }
 
+    /// The match that it is the key of.
     pub fn get(&self) -> Match
         ensures { result ≡ self.now }
     {

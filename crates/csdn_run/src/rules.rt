@@ -16,7 +16,7 @@ use net_structs::state::State;
 use sqlite_items::Items;
 use std::alloc::{AllocError, Global};
 
-/// Where entries are taken.
+/// Where entries are taken: the program, its network, and what memory is taken from.
 #[derive(Drop)]
 pub struct Setting<'a> {
     pub alloc: Global,
@@ -108,7 +108,7 @@ fn rule(setting: &Setting, sight: &Sight, key: &Match) -> Result<Rule, AllocErro
     })
 }
 
-/// The rules of matches.
+/// The rules of these matches, in their order. It looks at each port of the network for each match.
 pub fn rules(setting: &Setting, sight: &Sight, keys: &[Match]) -> Result<Rules, AllocError>
     ensures { IfOk result (λ rules. rules ≡ map (λ m. rule_in setting.now.program.now setting.now.network.now (state_seen sight.now) (marks_seen sight.now m) m) keys.now) }
 {

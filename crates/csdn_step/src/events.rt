@@ -116,6 +116,24 @@ pub fn begin_quiet(
 }
 
 /// Lets an event happen as `begin` does, for good. It refuses as `begin` does, and the state is then unchanged.
+///
+/// # Example
+///
+/// From the test `events_come_to_what_they_say` of csdn_step_tests: of two ports that fit the lesser is picked.
+///
+/// ```rust
+/// // rel c(PR, HO);
+/// // pktIn(s, a->b, i) {
+/// //   pick o:PR where c(o, b) { s.install(a->b, i->o); s.forward(a->b, i->o); } else { s.flood(a->b, i); }
+/// // }
+/// // over switches 1 and 2, hosts 4, 5 and 6, and ports 1, 2 and 3, in a state with `c 2 5` and `c 3 5`
+/// let packet = Event::PktIn { s: 1, a: 4, b: 5, i: 1 };
+/// let tally = fire(alloc, &program, &network, &mut state, &packet)?;
+/// assert!(rt; tally.changed.as_slice() == [Match { s: 1, a: 4, b: 5, i: 1 }].as_slice());
+/// assert!(rt; tally.outs.as_slice() == [Out::Port(2)].as_slice());
+/// assert!(rt; state.has(Pred::Ft, &Cells::of(&[1, 4, 5, 1, 2])));
+/// assert!(rt; state.has(Pred::Sent, &Cells::of(&[1, 4, 5, 1, 2])));
+/// ```
 pub fn fire(
     alloc: Global,
     program: &Program,

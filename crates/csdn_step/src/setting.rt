@@ -32,7 +32,9 @@ pub struct Setting<'a> {
     pub sending: Sending,
 }
 
-/// Whether a formula is true of the element that a variable stands for.
+/// Whether a formula is true in a draft as it stands, where the variable stands for this element and `env` says what
+/// other free variables do. `env` needs room for one variable more than the formula binds at once, and is left as it
+/// was.
 pub fn is_true_of(
     setting: &Setting,
     draft: &Draft,
@@ -51,7 +53,8 @@ pub fn is_true_of(
     is_true
 }
 
-/// Whether a formula is true.
+/// Whether a formula is true in a draft as it stands, where `env` says what its free variables stand for. `env` needs
+/// room for the variables that the formula binds at once, and is left as it was.
 pub fn is_true(setting: &Setting, draft: &Draft, env: &mut Env, formula: &Formula) -> bool
     requires { length env.old.pairs + depth formula.now ≤ env.old.room }
     ensures value { result ≡ is_true_in setting.now.program.now setting.now.network.now formula.now (assignment env.old.pairs) (standing draft.now) }

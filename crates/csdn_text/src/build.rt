@@ -24,12 +24,14 @@ pub fn name_at(alloc: Global, word: &Token) -> Result<RawName, AllocError>
     })
 }
 
+/// `not inner`. The one refusal is `Memory`.
 pub fn negated(alloc: Global, inner: RawFormula) -> Result<RawFormula, TextRefusal>
     ensures { MatchResult result (λ p. p ≡ f.Not inner) (λ e. e ≡ Memory) }
 {
     Ok(RawFormula::Not(Boxed::new(alloc, inner)?))
 }
 
+/// `left and right`. The one refusal is `Memory`.
 pub fn conjoined(
     alloc: Global,
     left: RawFormula,
@@ -40,6 +42,7 @@ pub fn conjoined(
     Ok(RawFormula::And(Boxed::new(alloc, left)?, Boxed::new(alloc, right)?))
 }
 
+/// `left or right`. The one refusal is `Memory`.
 pub fn disjoined(
     alloc: Global,
     left: RawFormula,
@@ -50,6 +53,7 @@ pub fn disjoined(
     Ok(RawFormula::Or(Boxed::new(alloc, left)?, Boxed::new(alloc, right)?))
 }
 
+/// `left -> right`. The one refusal is `Memory`.
 pub fn implied(
     alloc: Global,
     left: RawFormula,
@@ -60,6 +64,7 @@ pub fn implied(
     Ok(RawFormula::Implies(Boxed::new(alloc, left)?, Boxed::new(alloc, right)?))
 }
 
+/// `left <-> right`. The one refusal is `Memory`.
 pub fn equated(
     alloc: Global,
     left: RawFormula,
@@ -70,6 +75,7 @@ pub fn equated(
     Ok(RawFormula::Iff(Boxed::new(alloc, left)?, Boxed::new(alloc, right)?))
 }
 
+/// `forall name:sort. body` or `exists name:sort. body`. The one refusal is `Memory`.
 pub fn quantified(
     alloc: Global,
     which: Quantifier,
@@ -86,6 +92,7 @@ pub fn quantified(
     }
 }
 
+/// A command, and all that follow it. The one refusal is `Memory`.
 pub fn followed(
     alloc: Global,
     first: RawCommand,
@@ -96,6 +103,7 @@ pub fn followed(
     Ok(RawCommand::Seq(Boxed::new(alloc, first)?, Boxed::new(alloc, rest)?))
 }
 
+/// `if condition {body} else {other}`. The one refusal is `Memory`.
 pub fn branching(
     alloc: Global,
     condition: RawFormula,
@@ -111,6 +119,7 @@ pub fn branching(
     ))
 }
 
+/// `pick name:sort where condition {body} else {other}`. The one refusal is `Memory`.
 pub fn choosing(
     alloc: Global,
     name: RawName,

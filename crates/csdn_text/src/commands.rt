@@ -25,7 +25,7 @@ impl<'a> Parser<'a> {
         Ok(body)
     }
 
-    /// Commands may stand one too deep: then the first token is refused.
+    /// Commands, one after another. They may stand one too deep: then the first token is refused.
     #[cycle(command)]
     pub fn commands(&mut self, alloc: Global, depth: usize) -> Result<RawCommand, TextRefusal>
         requires { depth ≤ limit + 1 }

@@ -34,7 +34,7 @@ impl<'a> Parser<'a> {
         }
     }
 
-    /// Bound names and what they are bound in, behind the word.
+    /// Bound names and what they are bound in, behind the word `forall` or `exists`.
     #[cycle(formula)]
     pub fn binds(
         &mut self,
@@ -212,7 +212,7 @@ impl<'a> Parser<'a> {
         }
     }
 
-    /// A built-in relation, behind the dot.
+    /// `ft`, `sent` or `rcv_this` and its terms, behind the dot.
     pub fn fact(&mut self, alloc: Global, depth: usize) -> Result<AtomRest, TextRefusal>
         ensures parses { Parses depth (part fact here) self.old self.new result }
         ensures shorter { OnOk result (length self.new + 1 ≤ length self.old) }

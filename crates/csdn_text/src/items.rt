@@ -102,7 +102,7 @@ impl<'a> Parser<'a> {
         Ok(RawItem::Invariant(kind, name, formula))
     }
 
-    /// The word of an invariant.
+    /// The word of an invariant: `topology`, `safety` or `trans`.
     pub fn invariant_kind(&mut self, depth: usize) -> Result<InvariantKind, TextRefusal>
         ensures parses { Parses depth (part invariant_kind here) self.old self.new result }
         ensures shorter { OnOk result (length self.new + 1 ≤ length self.old) }
@@ -160,7 +160,7 @@ impl<'a> Parser<'a> {
         }))
     }
 
-    /// The port of a handler.
+    /// The port of a handler: a name, or `prt(number)`.
     pub fn handler_port(&mut self, alloc: Global, depth: usize) -> Result<RawPattern, TextRefusal>
         ensures parses { Parses depth (part handler_port here) self.old self.new result }
         ensures shorter { OnOk result (length self.new + 1 ≤ length self.old) }

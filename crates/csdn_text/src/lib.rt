@@ -63,11 +63,27 @@ impl From<AllocError> for TextRefusal {
 /// The greatest length of a text, in bytes.
 const LONGEST: usize = 65536;
 
-/// The tree that the text spells.
+/// The tree that the text spells (docs/LANGUAGE.md, "Grammar"), with the places of its names.
 ///
 /// Refused are, first, a text of more than 65,536 bytes, before memory is taken, and else the first token that doesn't
-/// fit or that stands deeper than 64: a byte, number or word that is no token is told by its own refusal. Memory is taken
-/// from `alloc`.
+/// fit or that stands deeper than 64: a byte, number or word that is no token is told by its own refusal. It takes time
+/// and memory in proportion to the text; memory is taken from `alloc`.
+///
+/// # Example
+///
+/// From the tests `makes_the_tree_that_the_grammar_means` and `reads_programs_and_tells_what_does_not_fit` of
+/// csdn_text_tests: `->` is nested to the right, and places are bytes from 0.
+///
+/// ```rust
+/// let raw = parse(alloc, b"safety A: p() -> q() -> r();")?;
+/// match raw.items.get(0) {
+///     Some(RawItem::Invariant(_, name, RawFormula::Implies(_, right))) => {
+///         assert!(rt; name.at == 7 && matches!(right.get(), RawFormula::Implies(_, _)));
+///     }
+///     _ => assert!(rt; false),
+/// }
+/// assert!(rt; matches!(parse(alloc, b"rel p(); x"), Err(TextRefusal::Unexpected { at: 9 })));
+/// ```
 pub fn parse(alloc: Global, text: &[u8]) -> Result<RawProgram, TextRefusal>
     ensures reads { MatchResult result (Reads text.now) (IsTextRefusal text.now) }
     ensures too_long { 65536 < length text.now → result ≡ Err TooLong }

@@ -13,7 +13,8 @@ use std::marker::Model;
 /// The greatest depth.
 const LIMIT: usize = 64;
 
-/// What is left of the tokens.
+/// What is left of the tokens. A method that reads a form takes its tokens at a depth, of at most 64; it refuses the
+/// first token that doesn't fit or that stands deeper (docs/LANGUAGE.md, "What is refused, and where").
 #[derive(Drop)]
 pub struct Parser<'a> {
     pub rest: &'a [Token],

@@ -111,7 +111,7 @@ impl<'a> Parser<'a> {
         })
     }
 
-    /// A sort.
+    /// A sort: `SW`, `HO` or `PR`.
     pub fn sort(&mut self, depth: usize) -> Result<Sort, TextRefusal>
         ensures parses { Parses depth (part sort here) self.old self.new result }
         ensures shorter { OnOk result (length self.new + 1 ≤ length self.old) }

@@ -4,7 +4,7 @@ use sqlite_items::Items;
 /// The bytes of a name.
 pub type Text = Items<u8>;
 
-/// A name, and where its first byte stands.
+/// A name, and where its first byte stands, counted from 0 at the beginning of the text.
 pub struct RawName {
     pub at: usize,
     pub text: Text,
@@ -27,6 +27,7 @@ pub struct RawNumeral {
     pub number: u16,
 }
 
+/// A term of a text: the name of a variable or a constant, or `prt(number)`.
 pub enum RawTerm {
     Name(RawName),
     Port(RawNumeral),
@@ -41,6 +42,7 @@ impl Drop for RawTerm {
     }
 }
 
+/// Terms between one pair of parentheses, in their order.
 pub type RawTerms = Items<RawTerm>;
 
 impl RawTerm {

@@ -51,11 +51,14 @@ pub enum FlowWord {
     Sent,
 }
 
+/// A formula of a text, its names as they are written (docs/LANGUAGE.md).
 #[derive(Drop)]
 pub enum RawFormula {
     True,
     False,
+    /// `name(terms)`.
     Atom(RawName, RawTerms),
+    /// `left = right`.
     Same(RawTerm, RawTerm),
     /// `switch.ft(..)` or `switch.sent(..)`, with the place of that word.
     Flow(usize, FlowWord, RawFlow),
@@ -64,12 +67,17 @@ pub enum RawFormula {
     Not(Boxed<RawFormula>),
     And(Boxed<RawFormula>, Boxed<RawFormula>),
     Or(Boxed<RawFormula>, Boxed<RawFormula>),
+    /// `left -> right`.
     Implies(Boxed<RawFormula>, Boxed<RawFormula>),
+    /// `left <-> right`.
     Iff(Boxed<RawFormula>, Boxed<RawFormula>),
+    /// `forall name:sort. body`.
     Forall(RawName, Sort, Boxed<RawFormula>),
+    /// `exists name:sort. body`.
     Exists(RawName, Sort, Boxed<RawFormula>),
 }
 
+/// A command of a text, its names as they are written (docs/LANGUAGE.md).
 #[derive(Drop)]
 pub enum RawCommand {
     Skip,
@@ -77,8 +85,11 @@ pub enum RawCommand {
     Seq(Boxed<RawCommand>, Boxed<RawCommand>),
     /// Where no `else` is written, the last part is `Skip`.
     If(Boxed<RawFormula>, Boxed<RawCommand>, Boxed<RawCommand>),
+    /// `pick name:sort where condition {first} else {second}`, with `Skip` where no `else` is written.
     Pick(RawName, Sort, Boxed<RawFormula>, Boxed<RawCommand>, Boxed<RawCommand>),
+    /// `name.insert(terms)`.
     Insert(RawName, RawTerms),
+    /// `name.remove(terms)`.
     Remove(RawName, RawTerms),
     Install(RawFlow),
     Uninstall(RawFlow),
@@ -93,6 +104,7 @@ pub struct RawRow {
     pub terms: RawTerms,
 }
 
+/// The rows of an initial value, in the order of the text.
 pub type RawRows = Items<RawRow>;
 
 /// `static NAME(sorts);` or `rel NAME(sorts) = {rows};`.
@@ -171,9 +183,12 @@ pub struct RawTimeout {
     pub seconds: u16,
 }
 
+/// An item of a text: a declaration, an invariant, a handler or a timeout (docs/LANGUAGE.md).
 pub enum RawItem {
     Relation(RawRelation),
+    /// `const name:sort;`.
     Constant(RawName, Sort),
+    /// An invariant of a kind, its name and its formula.
     Invariant(InvariantKind, RawName, RawFormula),
     Handler(RawHandler),
     Timeout(RawTimeout),
@@ -191,6 +206,7 @@ impl Drop for RawItem {
     }
 }
 
+/// The items of a text, in their order.
 pub type RawItems = Items<RawItem>;
 
 /// The tree of a program's text.

@@ -32,7 +32,8 @@ pub struct Quantified {
     pub body: Boxed<Formula>,
 }
 
-/// Brings a name into scope.
+/// Brings a name into scope, under the next number. Refused at its byte are, in order, a name that stands for a
+/// constant or a variable in scope (`Duplicate`), and any name where 24 variables are in scope already (`TooMany`).
 #[tactic(auto, using(crate::proofs::First::first_steps))]
 pub fn bind(
     alloc: Global,
@@ -67,7 +68,7 @@ pub fn packet_row(switch: Term, source: Term, target: Term, ingress: Term) -> Te
     terms
 }
 
-/// .. and the port at which it leaves.
+/// A switch, a packet's terms and the port at which it leaves as a row.
 pub fn flow_row(switch: Term, source: Term, target: Term, ingress: Term, egress: Term) -> Terms
     ensures { result ≡ switch ∷ source ∷ target ∷ ingress ∷ egress ∷ [] }
 {
@@ -76,7 +77,8 @@ pub fn flow_row(switch: Term, source: Term, target: Term, ingress: Term, egress:
     terms
 }
 
-/// The terms of `ft`, `sent`, `install` and `forward`.
+/// The row of `ft`, `sent`, `install` and `uninstall`: this switch, source, destination, ingress port and egress port.
+/// Refused is the first term, from left to right, that is unknown or of another sort.
 #[tactic(auto, using(crate::proofs::First::first_steps))]
 pub fn flow(scope: &Scope, switch: Term, raw: &RawFlow) -> Result<Terms, SortRefusal>
     ensures { Answers (flow_faults scope.now raw.now) (switch ∷ flow_of scope.now raw.now) result }
@@ -88,6 +90,8 @@ pub fn flow(scope: &Scope, switch: Term, raw: &RawFlow) -> Result<Terms, SortRef
     Ok(flow_row(switch, source, target, ingress, egress))
 }
 
+/// The row of `rcv_this`: this switch, source, destination and ingress port. Refused is the first term, from left to
+/// right, that is unknown or of another sort.
 #[tactic(auto, using(crate::proofs::First::first_steps))]
 pub fn packet(scope: &Scope, switch: Term, raw: &RawPacket) -> Result<Terms, SortRefusal>
     ensures { Answers (packet_faults scope.now raw.now) (switch ∷ packet_of scope.now raw.now) result }
@@ -126,6 +130,8 @@ fn pred(word: FlowWord) -> Pred
     }
 }
 
+/// `switch.ft(..)` or `switch.sent(..)`, whose word stands at the byte `at`. Refused is the first of these: the switch;
+/// `NotAllowed` at the word, which no topology invariant may name, nor a handler `sent`; a term behind it.
 #[tactic(auto, using(crate::proofs::First::first_steps))]
 pub fn flow_atom(
     scope: &Scope,
@@ -144,6 +150,8 @@ pub fn flow_atom(
     Ok(Formula::Atom(pred(word), terms))
 }
 
+/// `switch.rcv_this(..)`, whose word stands at the byte `at`. Refused is the first of these: the switch; `NotAllowed`
+/// at the word, which transition invariants alone may name; a term behind it.
 #[tactic(auto, using(crate::proofs::First::first_steps))]
 pub fn packet_atom(
     scope: &Scope,

@@ -48,7 +48,8 @@ fn condition(
     Ok(made)
 }
 
-/// The command that a tree stands for.
+/// The command that a tree stands for, in a handler whose own packet is `own`; each bound variable gets the next
+/// number. Refused is the first rule that is broken, at its byte (docs/LANGUAGE.md, "Names, sorts and limits").
 #[cycle(command)]
 pub fn command(
     alloc: Global,

@@ -24,7 +24,7 @@ use sqlite_items::Items;
 use std::alloc::Global;
 use std::marker::Model;
 
-/// The items so far.
+/// The items so far. `invariants` are the names of all three kinds.
 pub struct Draft {
     pub scope: Scope,
     pub invariants: Names,
@@ -33,6 +33,7 @@ pub struct Draft {
     pub safety: Items<Invariant>,
     pub trans: Items<Invariant>,
     pub handlers: Items<Handler>,
+    /// In seconds; `None` where none is declared.
     pub timeout: Option<u16>,
 }
 
@@ -55,6 +56,7 @@ impl Draft {
     ghost use Rattle.csdn_types.specs.Resolved.{parts_of_draft};
     ghost use Rattle.std.specs.Prelude.{◌≡◌};
 
+    /// The parts that the items make, with these numerals.
     pub fn into_parts(self, numerals: Items<u16>) -> Parts
         ensures { result ≡ parts_of_draft numerals self }
     {
@@ -166,7 +168,8 @@ fn timeout(draft: &mut Draft, raw: &RawTimeout) -> Result<(), SortRefusal>
     Ok(())
 }
 
-/// One more item.
+/// Takes one more item. Refused is the first rule that is broken, at its byte (docs/LANGUAGE.md, "Names, sorts and
+/// limits").
 pub fn item(alloc: Global, draft: &mut Draft, raw: &RawItem) -> Result<(), SortRefusal>
     requires { draft.old.scope.next + item_binders raw.now ≤ most_numbers }
     ensures passes { Passes (item_faults draft.old raw.now) result }
@@ -199,7 +202,8 @@ pub fn item(alloc: Global, draft: &mut Draft, raw: &RawItem) -> Result<(), SortR
     }
 }
 
-/// All items, one after another.
+/// Takes all items, one after another. Refused is the first rule that is broken, at its byte (docs/LANGUAGE.md, "Names,
+/// sorts and limits").
 pub fn items(alloc: Global, draft: &mut Draft, raw: &[RawItem]) -> Result<(), SortRefusal>
     requires { draft.old.scope.next + items_binders raw.now ≤ most_numbers }
     ensures passes { Passes (items_faults draft.old raw.now) result }

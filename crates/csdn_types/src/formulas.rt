@@ -20,7 +20,8 @@ use csdn_tree::syntax::RawFormula;
 use sqlite_items::Boxed;
 use std::alloc::Global;
 
-/// The formula that a tree stands for.
+/// The formula that a tree at this place of a program stands for; each bound variable gets the next number. Refused is
+/// the first rule that is broken, at its byte (docs/LANGUAGE.md, "Names, sorts and limits").
 #[cycle(formula)]
 pub fn formula(
     alloc: Global,

@@ -57,7 +57,8 @@ fn own_ingress(var: VarId, raw: &RawPattern) -> Term
     }
 }
 
-/// The handler that a tree stands for.
+/// The handler that a tree stands for, where `count` handlers come before it. Refused is the first rule that is broken,
+/// at its byte (docs/LANGUAGE.md, "Names, sorts and limits").
 pub fn handler(
     alloc: Global,
     scope: &mut Scope,

@@ -21,7 +21,7 @@ pub fn typed_formulas_are_sorted()
     ensures { (S : Signature) (place : Place) (s : Scope) (scope : SortedScope) (p : RawFormula) → IsPart s S → IsScopeOf s scope → FormulaNumerals S p → faults place s p ≡ [] → IsSortedIn S (IsAllowed S place) scope (typed s p) × (length s.variables + depth (typed s p) ≤ most_variables) }
 {}
 
-/// Its bound variables have the next numbers, each its own.
+/// The bound variables of a typed formula have the next numbers, each its own.
 pub fn bound_variables_are_numbered_apart()
     ensures { (s : Scope) (p : RawFormula) → bound_in (typed s p) ≡ counted s.next (binders p) }
 {}
@@ -31,7 +31,7 @@ pub fn typed_commands_are_sorted()
     ensures { (S : Signature) (own : OwnTerms) (s : Scope) (scope : SortedScope) (x : RawCommand) → IsPart s S → IsScopeOf s scope → CommandNumerals S x → command_faults own s x ≡ [] → IsCommand S (seen own) scope (command_typed s x) × (length s.variables + command_depth (command_typed s x) ≤ most_variables) }
 {}
 
-/// Its variables have the next numbers, each its own.
+/// The bound variables of a typed command have the next numbers, each its own.
 pub fn command_variables_are_numbered_apart()
     ensures { (s : Scope) (x : RawCommand) → command_bound_in (command_typed s x) ≡ counted s.next (command_binders x) }
 {}

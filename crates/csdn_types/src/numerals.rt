@@ -12,6 +12,7 @@ use std::alloc::{AllocError, Global};
 use std::collections::BTreeSet;
 use std::marker::Model;
 
+/// The numerals found so far. Clauses see them as a list that rises, each once.
 #[derive(Drop)]
 pub struct Numerals {
     set: BTreeSet<u16>,
@@ -26,6 +27,7 @@ impl Model for Numerals {
 }
 
 impl Numerals {
+    /// No numerals.
     pub fn new(alloc: Global) -> Numerals
         ensures { result ≡ [] }
     {
@@ -72,6 +74,7 @@ impl Numerals {
         Ok(())
     }
 
+    /// Puts in the numerals of a formula.
     pub fn formula(&mut self, raw: &RawFormula) -> Result<(), AllocError>
         ensures { OnOk result (self.new ≡ with_numerals self.old (formula_numerals raw.now)) }
     {
@@ -132,6 +135,7 @@ impl Numerals {
         }
     }
 
+    /// Puts in the numerals of a command.
     pub fn command(&mut self, raw: &RawCommand) -> Result<(), AllocError>
         ensures { OnOk result (self.new ≡ with_numerals self.old (command_numerals raw.now)) }
     {
@@ -226,6 +230,7 @@ impl Numerals {
         }
     }
 
+    /// Puts in the numerals of items: those of initial values, invariants and handlers, with the handlers' own ports.
     pub fn items(&mut self, raw: &[RawItem]) -> Result<(), AllocError>
         ensures { OnOk result (self.new ≡ with_numerals self.old (items_numerals raw.now)) }
     {

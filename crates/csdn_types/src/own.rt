@@ -17,7 +17,7 @@ use csdn_core::terms::{Sort, Term, Terms};
 use csdn_tree::names::{RawName, RawTerm};
 use csdn_tree::syntax::{RawFlow, RawPacket};
 
-/// The terms that stand for the packet of a handler.
+/// The terms that stand for the packet of a handler, and its switch.
 #[derive(Clone, Copy)]
 pub struct OwnTerms {
     pub switch: Term,
@@ -66,7 +66,9 @@ fn own_switch(scope: &Scope, own: &OwnTerms, name: &RawName) -> Result<Term, Sor
     own_only(name.at, own.switch, found)
 }
 
-/// The flow rule that is put in or taken out, of the handler's own switch.
+/// The flow rule that is put in or taken out: the handler's own switch, and any source, destination, ingress port and
+/// egress port. Refused is the first term, from left to right, that is unknown, of another sort, or another switch
+/// (`NotAllowed`).
 #[tactic(auto, using(crate::proofs::First::first_steps))]
 pub fn install(scope: &Scope, own: &OwnTerms, raw: &RawFlow) -> Result<Terms, SortRefusal>
     ensures { Answers (install_faults own.now scope.now raw.now) (term_of scope.now (Name raw.now.switch) ∷ flow_of scope.now raw.now) result }
@@ -76,6 +78,9 @@ pub fn install(scope: &Scope, own: &OwnTerms, raw: &RawFlow) -> Result<Terms, So
     Ok(terms)
 }
 
+/// The packet that `forward` sends: the handler's own switch, source, destination and ingress port, and any egress
+/// port. Refused is the first term, from left to right, that is unknown, of another sort, or not the handler's own
+/// (`NotAllowed`).
 #[tactic(auto, using(crate::proofs::First::first_steps))]
 pub fn forward(scope: &Scope, own: &OwnTerms, raw: &RawFlow) -> Result<Terms, SortRefusal>
     ensures { Answers (forward_faults own.now scope.now raw.now) (term_of scope.now (Name raw.now.switch) ∷ flow_of scope.now raw.now) result }
@@ -88,6 +93,8 @@ pub fn forward(scope: &Scope, own: &OwnTerms, raw: &RawFlow) -> Result<Terms, So
     Ok(flow_row(switch, source, target, ingress, egress))
 }
 
+/// The packet that `flood` sends: the handler's own switch, source, destination and ingress port. Refused is the first
+/// term, from left to right, that is unknown, of another sort, or not the handler's own (`NotAllowed`).
 #[tactic(auto, using(crate::proofs::First::first_steps))]
 pub fn flood(scope: &Scope, own: &OwnTerms, raw: &RawPacket) -> Result<Terms, SortRefusal>
     ensures { Answers (flood_faults own.now scope.now raw.now) (term_of scope.now (Name raw.now.switch) ∷ packet_of scope.now raw.now) result }

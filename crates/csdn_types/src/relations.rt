@@ -67,7 +67,8 @@ fn new_relation(scope: &Scope, raw: &RawRelation) -> Result<RelId, SortRefusal>
     Ok(RelId(scope.relation_count() as u32))
 }
 
-/// Declares a relation, and gives its initial rows.
+/// Declares a relation, and gives its initial rows. Refused is the first rule that is broken, at its byte
+/// (docs/LANGUAGE.md, "Names, sorts and limits").
 pub fn relation(
     alloc: Global,
     scope: &mut Scope,

@@ -19,6 +19,7 @@ pub struct SortedTerm {
     pub sort: Sort,
 }
 
+/// A variable in scope. The name is empty where no name stands for it.
 #[derive(Drop)]
 pub struct Variable {
     pub name: Text,
@@ -68,6 +69,7 @@ pub struct Declared {
 }
 
 impl Scope {
+    /// Nothing is declared or in scope, and the first variable gets the number 0.
     pub fn new(alloc: Global) -> Scope
         ensures { result ≡ record { relations = []; constants = []; variables = []; next = 0 } }
     {
@@ -81,6 +83,7 @@ impl Scope {
         }
     }
 
+    /// What is declared, in the order of its declaration.
     pub fn into_declared(self) -> Declared
         ensures { result ≡ record { relations = self.relations; constants = self.constants } }
     {
@@ -101,7 +104,7 @@ impl Scope {
     ghost use Rattle.csdn_types.specs.Scope.{relation_named, named, meaning, bound, with_relation, with_constant};
     ghost use Rattle.csdn_core.specs.Sorted.{most_numbers};
 
-    /// The declared relation of a name.
+    /// The declared relation of a name; `None` where there is none.
     pub fn relation(&self, name: &[u8]) -> Option<RelId>
         ensures value { option_map (λ r. r.0) result ≡ relation_named self.now name.now }
         ensures within { IfSome result (λ r. r.0 < length self.now.relations) }
@@ -110,12 +113,14 @@ impl Scope {
         Some(RelId(at as u32))
     }
 
+    /// Whether a relation of the name is declared.
     pub fn is_relation(&self, name: &[u8]) -> bool
         ensures { result ≡ is_some (relation_named self.now name.now) }
     {
         self.relation_names.place(name).is_some()
     }
 
+    /// How many relations are declared: at most 2^16.
     pub fn relation_count(&self) -> usize
         ensures count { result ≡ length self.now.relations }
         ensures few { result ≤ 2 ^ 16 }
@@ -123,6 +128,7 @@ impl Scope {
         self.relations.len()
     }
 
+    /// The declared relation at a place. It has at most five sorts.
     pub fn declaration(&self, id: RelId) -> &Relation
         requires { id.0 < length self.now.relations }
         ensures value { slice_get self.now.relations id.0 ≡ Some result.now }
@@ -132,7 +138,7 @@ impl Scope {
         &relations[id.0 as usize]
     }
 
-    /// What a name stands for.
+    /// What a name stands for, and its sort: a variable in scope, or else a constant; `None` where it is neither.
     pub fn named(&self, name: &[u8]) -> Option<SortedTerm>
         ensures { result ≡ named self.now name.now }
     {
@@ -148,6 +154,7 @@ impl Scope {
         })
     }
 
+    /// What a term stands for, and its sort: for `prt(k)` the port k, and `None` where its name stands for nothing.
     pub fn meaning(&self, term: &RawTerm) -> Option<SortedTerm>
         ensures { result ≡ meaning self.now term.now }
     {
@@ -225,12 +232,14 @@ impl Scope {
         }
     }
 
+    /// Whether a constant of the name is declared.
     pub fn is_constant(&self, name: &[u8]) -> bool
         ensures { result ≡ is_some (position (bytes_eq name.now) (map (λ d. d.name) self.now.constants)) }
     {
         self.constant_names.place(name).is_some()
     }
 
+    /// How many constants are declared: at most 2^16.
     pub fn constant_count(&self) -> usize
         ensures count { result ≡ length self.now.constants }
         ensures few { result ≤ 2 ^ 16 }

@@ -17,7 +17,9 @@ use csdn_tree::names::{RawName, RawTerm};
 /// What a relation is used for.
 #[derive(Clone, Copy)]
 pub enum Use {
+    /// In a formula at this place of a program.
     InFormula(Place),
+    /// In `insert` or `remove`.
     Write,
 }
 
@@ -44,21 +46,23 @@ fn of_sort(at: usize, sort: Sort, meant: Option<SortedTerm>) -> Result<Term, Sor
     }
 }
 
-/// A term where one of a sort belongs.
+/// What a term stands for, where one of this sort belongs. Refused at its first byte are a name that stands for nothing
+/// (`Unknown`) and another sort (`WrongSort`).
 pub fn term(scope: &Scope, sort: Sort, raw: &RawTerm) -> Result<Term, SortRefusal>
     ensures { Answers (term_faults scope.now sort raw.now) (term_of scope.now raw.now) result }
 {
     of_sort(raw.at(), sort, scope.meaning(raw))
 }
 
-/// The name of a constant or a variable, where a term of a sort belongs.
+/// What a name stands for, where a term of this sort belongs: a variable or a constant. Refused as by `term`.
 pub fn named_term(scope: &Scope, sort: Sort, name: &RawName) -> Result<Term, SortRefusal>
     ensures { Answers (term_faults scope.now sort (Name name.now)) (term_of scope.now (Name name.now)) result }
 {
     of_sort(name.at, sort, scope.named(name.text.as_slice()))
 }
 
-/// Terms of these sorts, one after another.
+/// What terms stand for, one after another, where terms of these sorts belong. Refused is the first of them that `term`
+/// refuses.
 pub fn terms(scope: &Scope, sorts: &[Sort], raw: &[RawTerm]) -> Result<Terms, SortRefusal>
     requires as_many { length raw.now ≡ length sorts.now }
     requires few { length sorts.now ≤ 5 }
@@ -90,7 +94,8 @@ fn is_forbidden(use_of: Use, declaration: &Relation) -> bool
     }
 }
 
-/// The use of a declared relation.
+/// The use of a declared relation. Refused is the first of these: a name that is no relation's (`Unknown`), another
+/// number of terms (`WrongArity`), a relation that may not be used so (`NotAllowed`), each at the name; then a term.
 pub fn used(
     scope: &Scope,
     use_of: Use,
@@ -116,7 +121,7 @@ pub fn used(
     }
 }
 
-/// A term of any sort.
+/// What a term of any sort stands for. Refused at its first byte is a name that stands for nothing (`Unknown`).
 pub fn any_term(scope: &Scope, raw: &RawTerm) -> Result<SortedTerm, SortRefusal>
     ensures { MatchResult result (λ k. meaning scope.now raw.now ≡ Some k) (λ e. (meaning scope.now raw.now ≡ None) × (e ≡ Unknown (place_of raw.now))) }
 {
@@ -126,7 +131,8 @@ pub fn any_term(scope: &Scope, raw: &RawTerm) -> Result<SortedTerm, SortRefusal>
     }
 }
 
-/// The two sides of `=`.
+/// The two sides of `=`. The right one has to be of the sort of the left one; refused are, in order, the left one as by
+/// `any_term` and the right one as by `term`.
 pub fn same(scope: &Scope, left: &RawTerm, right: &RawTerm) -> Result<(Term, Term), SortRefusal>
     ensures { Answers (same_faults scope.now left.now right.now) (term_of scope.now left.now, term_of scope.now right.now) result }
 {

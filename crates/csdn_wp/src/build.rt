@@ -12,6 +12,7 @@ use fol_forms::refusal::{FormRefusal, or_memory};
 use sqlite_items::Boxed;
 use std::alloc::Global;
 
+/// The formula in a box. The one refusal is `Memory`.
 pub fn boxed(alloc: Global, formula: Formula) -> Result<Boxed<Formula>, FormRefusal>
     ensures { Gives formula result }
 {
@@ -21,14 +22,14 @@ pub fn boxed(alloc: Global, formula: Formula) -> Result<Boxed<Formula>, FormRefu
     }
 }
 
-/// An equal formula.
+/// An equal formula in a box. The one refusal is `Memory`.
 pub fn copied(alloc: Global, formula: &Formula) -> Result<Boxed<Formula>, FormRefusal>
     ensures { Gives formula.now result }
 {
     boxed(alloc, or_memory(formula.copy(alloc))?)
 }
 
-/// The formula is false.
+/// `not` the formula, which is copied. The one refusal is `Memory`.
 pub fn negated(alloc: Global, formula: &Formula) -> Result<Boxed<Formula>, FormRefusal>
     ensures { Gives (Not formula.now) result }
 {
@@ -36,7 +37,7 @@ pub fn negated(alloc: Global, formula: &Formula) -> Result<Boxed<Formula>, FormR
     boxed(alloc, Formula::Not(formula))
 }
 
-/// No element of the sort makes the formula true.
+/// `not (exists var:sort. formula)`, with a copy of the formula. The one refusal is `Memory`.
 pub fn no_element(
     alloc: Global,
     bind: Bind,
@@ -49,7 +50,7 @@ pub fn no_element(
     boxed(alloc, Formula::Not(some))
 }
 
-/// What is left of the room beside one node.
+/// What is left of the room, in nodes, beside one node; `Large` where there is no room for it.
 pub fn left_beside_one(room: u64) -> Result<u64, FormRefusal>
     ensures { Leaves room 1 result }
 {
@@ -59,7 +60,7 @@ pub fn left_beside_one(room: u64) -> Result<u64, FormRefusal>
     Ok(room - 1)
 }
 
-/// What is left of the room beside the formula and one node more.
+/// What is left of the room, in nodes, beside the formula and one node more; `Large` where there is no room for these.
 pub fn left_beside(room: u64, formula: &Formula) -> Result<u64, FormRefusal>
     requires { room ≤ most_nodes }
     ensures { Leaves room (nodes formula.now + 1) result }
@@ -71,7 +72,7 @@ pub fn left_beside(room: u64, formula: &Formula) -> Result<u64, FormRefusal>
     Ok(room - count)
 }
 
-/// The formula, where it has the room.
+/// The formula, where it has at most `room` nodes; else `Large`.
 pub fn fitting(formula: Formula, room: u64) -> Result<Formula, FormRefusal>
     requires { room ≤ most_nodes }
     ensures { Makes room formula result }

@@ -18,8 +18,21 @@ use fol_forms::replace::{add_flood, add_row, drop_row};
 use sqlite_items::Boxed;
 use std::alloc::Global;
 
-/// What is true exactly where every execution of the command ends where the formula is true. The command is one of the program;
-/// no variable of it is bound in the formula, and none that it picks is free there.
+/// What is true exactly where every execution of the command ends where the formula is true. The command is one of the
+/// program; no variable of it is bound in the formula, and none that it picks is free there. `Large` exactly where that
+/// has more than 1,048,576 nodes.
+///
+/// # Example
+///
+/// From the test `makes_the_precondition_of_a_body` of csdn_conditions_tests: five quantifiers and a negation, and in
+/// place of the atom `(ft(..) or same) and not same`, where `same` has five equations.
+///
+/// ```rust
+/// // safety none: forall S:SW, A:HO, B:HO, I:PR, O:PR. not S.ft(A->B, I->O);
+/// // pktIn(s, src->dst, i) { s.install(src->dst, i->i); s.uninstall(src->dst, i->i); }
+/// let before = wp(alloc, &program, &handler.body, &invariant.formula)?;
+/// assert_eq!(rt; node_count(&before), 28);
+/// ```
 pub fn wp(
     alloc: Global,
     program: &Program,
@@ -32,7 +45,7 @@ pub fn wp(
     precondition(alloc, command, post, MOST_NODES)
 }
 
-/// The precondition, in a room.
+/// What `wp` makes, in a room of so many nodes; `Large` exactly where it has more.
 #[cycle(preconditions)]
 #[tactic(auto, using(crate::proofs::CommandSteps::wp_steps, csdn_core::proofs::NodeSteps::command_node_steps))]
 pub fn precondition(
@@ -85,7 +98,8 @@ fn of_sequence(
     precondition(alloc, a, after.get(), room)
 }
 
-/// Where the condition is true, the precondition.
+/// Where the condition is true, the precondition: `condition -> ..`, in a room of so many nodes; `Large` exactly where
+/// it has more.
 #[cycle(preconditions)]
 pub fn under(
     alloc: Global,

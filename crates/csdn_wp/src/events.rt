@@ -21,7 +21,8 @@ use std::alloc::Global;
 /// The variables of programs have smaller numbers.
 const FIRST_NEW: u32 = 0x8000_0000;
 
-/// What is true exactly where the formula is true after every packet that comes in.
+/// What is true exactly where the formula is true after every packet that comes in. `Large` exactly where that has more
+/// than 1,048,576 nodes.
 pub fn wp_in(alloc: Global, program: &Program, post: &Formula) -> Result<Formula, FormRefusal>
     ensures { Makes most_nodes (wp_in_of program.now post.now) result }
 {
@@ -31,7 +32,8 @@ pub fn wp_in(alloc: Global, program: &Program, post: &Formula) -> Result<Formula
     members(alloc, handlers, &mut earlier, post.get(), MOST_NODES)
 }
 
-/// What is true exactly where the formula is true after every packet that a flow table sends.
+/// What is true exactly where the formula is true after every packet that a flow table sends. `Large` exactly where
+/// that has more than 1,048,576 nodes.
 pub fn wp_flow(alloc: Global, post: &Formula) -> Result<Formula, FormRefusal>
     ensures { Makes most_nodes (wp_flow_of post.now) result }
 {
@@ -47,7 +49,8 @@ pub fn wp_flow(alloc: Global, post: &Formula) -> Result<Formula, FormRefusal>
     for_rules(alloc, after)
 }
 
-/// What is true exactly where the formula is true, without a packet, after the rules of any match have ended.
+/// What is true exactly where the formula is true, without a packet, after the rules of any match have ended. `Large`
+/// exactly where that has more than 1,048,576 nodes.
 pub fn wp_expire(alloc: Global, post: &Formula) -> Result<Formula, FormRefusal>
     ensures { Makes most_nodes (wp_expire_of post.now) result }
 {

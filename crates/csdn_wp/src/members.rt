@@ -20,7 +20,8 @@ use fol_forms::replace::fix_packet;
 use sqlite_items::Boxed;
 use std::alloc::Global;
 
-/// The members from these handlers on, in a room, the ports of the handlers before them being known.
+/// The members from these handlers on, where `earlier` are the ports of the handlers before them, in a room of so many
+/// nodes; `Large` exactly where they have more.
 #[cycle(members)]
 pub fn members(
     alloc: Global,
@@ -137,7 +138,7 @@ fn guarded(
     }
 }
 
-/// The formula under the binds, where that has the room.
+/// The formula under the binds, where that has at most `room` nodes; else `Large`.
 pub fn closed_in(
     alloc: Global,
     formula: Formula,

@@ -10,7 +10,7 @@ use fol_forms::refusal::FormRefusal;
 use sqlite_items::Items;
 use std::alloc::{AllocError, Global};
 
-/// Switch, source, destination and ingress port.
+/// The variables of a packet: switch, source, destination and ingress port.
 #[derive(Clone, Copy, Debug, PartialEq, Eq)]
 pub struct PacketVars {
     pub s: VarId,
@@ -19,7 +19,7 @@ pub struct PacketVars {
     pub i: VarId,
 }
 
-/// The handler's own.
+/// The variables that stand for the packet of a handler.
 pub fn handler_vars(handler: &Handler) -> PacketVars
     ensures { result ≡ vars_in handler.now }
 {
@@ -31,7 +31,7 @@ pub fn handler_vars(handler: &Handler) -> PacketVars
     }
 }
 
-/// Those where no handler names them.
+/// The variables with the numbers 0 to 3, where no handler names them.
 pub fn first_vars() -> PacketVars
     ensures { result ≡ first_of }
 {
@@ -43,7 +43,7 @@ pub fn first_vars() -> PacketVars
     }
 }
 
-/// The variables as terms.
+/// The four variables as terms, in the order of `rcv_this`.
 pub fn terms_of(vars: PacketVars) -> Terms
     ensures { result ≡ terms_in vars }
 {
@@ -61,7 +61,7 @@ fn bind(var: VarId, sort: Sort) -> Bind
     Bind { var, sort }
 }
 
-/// The variables with their sorts.
+/// The four variables with their sorts, in the order of `rcv_this`.
 pub fn binds_of(alloc: Global, vars: PacketVars) -> Result<Binds, FormRefusal>
     ensures { Gives (binds_in vars) result }
 {
@@ -74,7 +74,7 @@ pub fn binds_of(alloc: Global, vars: PacketVars) -> Result<Binds, FormRefusal>
     or_refused(Items::from_slice(alloc, &binds))
 }
 
-/// A tuple of the flow tables: a packet and its egress port.
+/// A tuple of the flow tables: `first_vars`, and the variable with the number 4 for the egress port.
 pub fn flow_terms() -> Terms
     ensures { result ≡ flow_terms_of }
 {
@@ -83,7 +83,7 @@ pub fn flow_terms() -> Terms
     terms
 }
 
-/// The variables of such a tuple with their sorts.
+/// The five variables of `flow_terms` with their sorts, in their order.
 pub fn flow_binds(alloc: Global) -> Result<Binds, FormRefusal>
     ensures { Gives flow_binds_of result }
 {

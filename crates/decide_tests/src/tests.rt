@@ -1,6 +1,7 @@
 //! The rows, and what is asked of them.
 
 use clause_log::accepts;
+use csdn_conditions::class::{GREATEST_SIZE, USUAL_SIZE};
 use csdn_read::read_program;
 use std::alloc::{AllocError, Global};
 use vericon_decide::answer::{Answer, decide};
@@ -16,12 +17,15 @@ fn accepted(alloc: Global, proofs: &[Proof]) -> Result<bool, AllocError> {
     Ok(true)
 }
 
-/// What is answered of a text at level 0.
-fn told(alloc: Global, text: &[u8]) -> Result<String, AllocError> {
+/// What is answered of a text by a size, at the levels up to `most`.
+fn told(alloc: Global, size: u64, most: u8, text: &[u8]) -> Result<String, AllocError> {
     let Ok(program) = read_program(alloc, text) else {
         return format!(in alloc; "no program");
     };
-    match decide(alloc, &program, 0)? {
+    if size > GREATEST_SIZE || most > 9 {
+        return format!(in alloc; "no such size or level");
+    }
+    match decide(alloc, &program, size, most)? {
         Answer::Yes { level, proofs } => {
             let good = accepted(alloc, &proofs)?;
             format!(in alloc; "yes {level}: {} proofs, {good}", proofs.len())
@@ -139,8 +143,71 @@ mod rows {
     #[test]
     fn answers_programs(rt: HostRuntime) -> Result<(), Fail> {
         for (i, row) in ANSWERS.iter().enumerate() {
-            let found = told(rt.alloc(), row.0)?;
+            let found = told(rt.alloc(), USUAL_SIZE, 0, row.0)?;
             assert!(rt; found.as_str() == row.1, "row {i}: {found}");
+        }
+        Ok(())
+    }
+
+    /// Ten hosts may stand for eight variables: each condition but the first two has 10^8 copies of two atoms, and three more
+    /// of its goal.
+    const LONG: &[u8] = b"rel on(); rel met(HO, HO);
+        safety A: forall A:HO, B:HO, C:HO, D:HO, E:HO, F:HO, G:HO, H:HO. on() -> met(A, B);
+        pktIn(s, src->dst, i) { skip; }";
+
+    /// The same, where a packet breaks it.
+    const LONG_BROKEN: &[u8] = b"rel on(); rel met(HO, HO);
+        safety A: forall A:HO, B:HO, C:HO, D:HO, E:HO, F:HO, G:HO, H:HO. on() -> met(A, B);
+        pktIn(s, src->dst, i) { on.insert(); }";
+
+    /// No invariant says that `p` stays false, which it does.
+    const LATCH: &[u8] = b"rel p(); rel q(); safety A: not q();
+        pktIn(s, src->dst, i) { if p() { q.insert(); } }";
+
+    const ARMING: &[u8] = b"rel armed(); safety A: not armed();
+        pktIn(s, src->dst, i) { armed.insert(); }";
+
+    /// A text, a size, the highest level, and how the answer begins.
+    const LEVELS: &[(&[u8], u64, u8, &str)] = &[
+        (LATCH, USUAL_SIZE, 0, "counterexample 0 2"),
+        (LATCH, USUAL_SIZE, 1, "yes 1: 4 proofs, true"),
+        (LATCH, USUAL_SIZE, 2, "yes 1: 4 proofs, true"),
+        (ARMING, USUAL_SIZE, 1, "counterexample 1 2"),
+        // what is broken of the start is so at each level above
+        (ARMING, USUAL_SIZE, 9, "counterexample 9 2"),
+        // a condition on the start that can't be decided
+        (LATCH, 9, 1, "unknown 1 2: Instances"),
+        (LATCH, 9, 3, "unknown 3 2: Instances"),
+    ];
+
+    #[test]
+    fn answers_at_levels(rt: HostRuntime) -> Result<(), Fail> {
+        for (i, row) in LEVELS.iter().enumerate() {
+            let found = told(rt.alloc(), row.1, row.2, row.0)?;
+            assert!(rt; found.as_str().starts_with(row.3), "row {i}: {found}");
+        }
+        Ok(())
+    }
+
+    const SIZED: &[(&[u8], u64, &str)] = &[
+        (LONG, USUAL_SIZE, "unknown 0 2: Instances(200000002)"),
+        (LONG, 200_000_001, "unknown 0 2: Instances(200000002)"),
+        (LONG, 200_000_002, "unknown 0 3: Instances(200000003)"),
+        (LONG, 200_000_003, "yes 0: 3 proofs, true"),
+        (LONG_BROKEN, GREATEST_SIZE, "counterexample 0 2"),
+        // a smaller size than the usual one
+        (
+            b"rel armed(); safety A: not armed(); pktIn(s, src->dst, i) { skip; }",
+            6,
+            "unknown 0 1: Instances(7)",
+        ),
+    ];
+
+    #[test]
+    fn answers_by_a_size(rt: HostRuntime) -> Result<(), Fail> {
+        for (i, row) in SIZED.iter().enumerate() {
+            let found = told(rt.alloc(), row.1, 0, row.0)?;
+            assert!(rt; found.as_str() == row.2, "row {i}: {found}");
         }
         Ok(())
     }

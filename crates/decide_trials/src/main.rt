@@ -15,6 +15,7 @@ mod worlds;
 use crate::programs::{Kind, TRIALS};
 use crate::search::{Found, breaks, search};
 use crate::trouble::Trouble;
+use csdn_conditions::class::USUAL_SIZE;
 use csdn_core::program::Program;
 use csdn_read::read_program;
 use net_structs::case::Case;
@@ -45,7 +46,7 @@ struct Outcome {
 impl Outcome {
     fn of(alloc: Global, text: &[u8]) -> Result<Outcome, Trouble> {
         let program = read_program(alloc, text)?;
-        let told = match decide(alloc, &program, 0)? {
+        let told = match decide(alloc, &program, USUAL_SIZE, 0)? {
             Answer::Yes { .. } => Told::Yes,
             Answer::Counter { index, case, .. } => told_of_case(alloc, &program, index, &case)?,
             Answer::Unknown { .. } => Told::Unknown,

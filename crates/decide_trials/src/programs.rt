@@ -22,6 +22,7 @@ pub struct Trial {
     pub text: &'static str,
 }
 
+/// The programs that are tried, each with its kind; a comment says why it is of that.
 pub const TRIALS: [Trial; 56] = [
     // nothing is there at the start, and each branch takes one out before it puts the other in
     Trial {

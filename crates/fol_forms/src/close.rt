@@ -21,6 +21,7 @@ pub struct Bind {
     pub sort: Sort,
 }
 
+/// Variables that are bound one in another, the outermost first.
 pub type Binds = Items<Bind>;
 
 /// The formula with one `forall` for each bind, the first one outermost. `Large` exactly where that has more than 1,048,576
@@ -44,7 +45,7 @@ fn count_of(formula: &Formula, binds: &Binds) -> u64
     sum(count, more)
 }
 
-/// The same, however many nodes it has.
+/// The formula with one `forall` for each bind, the first one outermost, however many nodes that has.
 #[tactic(auto, using(crate::proofs::ClosedTruth::closed_before))]
 pub fn closed_by(alloc: Global, formula: Formula, binds: &[Bind]) -> Result<Formula, AllocError>
     ensures { IfOk result (λ p. p ≡ closed binds.now formula) }

@@ -7,7 +7,7 @@ ghost use Rattle.fol_forms.specs.Constants.{constants_from, names_of, one_if as 
 use csdn_core::program::{Constant, Parts};
 use csdn_core::terms::Sort;
 
-/// One where the sorts are the same.
+/// 1 where the sorts are the same, else 0.
 pub fn one_if(a: Sort, b: Sort) -> usize
     ensures { result ≡ one_if_same a b }
 {

@@ -19,7 +19,7 @@ pub enum FormRefusal {
     Memory,
 }
 
-/// What was made, or want of memory.
+/// What was made, with want of memory as a refusal.
 pub fn or_memory(made: Result<Formula, AllocError>) -> Result<Formula, FormRefusal>
     ensures { result ≡ widened made }
 {

@@ -26,7 +26,8 @@ pub enum Change {
     NoPacket,
 }
 
-/// What is true where the formula is true once the tuple is in the relation.
+/// What is true where the formula is true once the tuple is in the relation. `Large` exactly where that has more than
+/// 1,048,576 nodes.
 pub fn add_row(
     alloc: Global,
     formula: &Formula,
@@ -39,7 +40,8 @@ pub fn add_row(
     changed(alloc, formula, &Change::AddRow(pred, terms.copy()))
 }
 
-/// What is true where the formula is true once the tuple is out of the relation.
+/// What is true where the formula is true once the tuple is out of the relation. `Large` exactly where that has more
+/// than 1,048,576 nodes.
 pub fn drop_row(
     alloc: Global,
     formula: &Formula,
@@ -53,6 +55,7 @@ pub fn drop_row(
 }
 
 /// What is true where the formula is true once every rule of the match of the four terms is out of the flow tables.
+/// `Large` exactly where that has more than 1,048,576 nodes.
 pub fn drop_match(alloc: Global, formula: &Formula, terms: &Terms) -> Result<Formula, FormRefusal>
     ensures form { IfOk result (λ p. p ≡ drop_match_of formula.now terms.now) }
     ensures large { (result ≡ Err Large) ↔ (most_nodes < nodes (drop_match_of formula.now terms.now)) }
@@ -61,6 +64,7 @@ pub fn drop_match(alloc: Global, formula: &Formula, terms: &Terms) -> Result<For
 }
 
 /// What is true where the formula is true once the packet of the four terms was sent from every port but its own.
+/// `Large` exactly where that has more than 1,048,576 nodes.
 pub fn add_flood(alloc: Global, formula: &Formula, terms: &Terms) -> Result<Formula, FormRefusal>
     ensures form { IfOk result (λ p. p ≡ add_flood_of formula.now terms.now) }
     ensures large { (result ≡ Err Large) ↔ (most_nodes < nodes (add_flood_of formula.now terms.now)) }
@@ -68,7 +72,8 @@ pub fn add_flood(alloc: Global, formula: &Formula, terms: &Terms) -> Result<Form
     changed(alloc, formula, &Change::AddFlood(terms.copy()))
 }
 
-/// What is true where the formula is true when the packet at hand is that of the four terms.
+/// What is true where the formula is true when the packet at hand is that of the four terms. `Large` exactly where that
+/// has more than 1,048,576 nodes.
 pub fn fix_packet(alloc: Global, formula: &Formula, terms: &Terms) -> Result<Formula, FormRefusal>
     ensures form { IfOk result (λ p. p ≡ fix_packet_of formula.now terms.now) }
     ensures large { (result ≡ Err Large) ↔ (most_nodes < nodes (fix_packet_of formula.now terms.now)) }
@@ -76,7 +81,8 @@ pub fn fix_packet(alloc: Global, formula: &Formula, terms: &Terms) -> Result<For
     changed(alloc, formula, &Change::FixPacket(terms.copy()))
 }
 
-/// What is true where the formula is true when there is no packet.
+/// What is true where the formula is true when there is no packet. `Large` exactly where that has more than 1,048,576
+/// nodes.
 pub fn no_packet(alloc: Global, formula: &Formula) -> Result<Formula, FormRefusal>
     ensures form { IfOk result (λ p. p ≡ no_packet_of formula.now) }
     ensures large { (result ≡ Err Large) ↔ (most_nodes < nodes (no_packet_of formula.now)) }

@@ -24,7 +24,9 @@ pub enum Signed<'a> {
     Atom(bool, Pred, &'a Terms),
     /// Two terms stand for one element, or with the sign `false` they don't.
     Equal(bool, Term, Term),
+    /// Both sides are true.
     Both(Side<'a>, Side<'a>),
+    /// One side is true, or both are.
     Either(Side<'a>, Side<'a>),
     /// Both, or the opposites of both.
     Cases(Side<'a>, Side<'a>),

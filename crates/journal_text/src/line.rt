@@ -32,7 +32,7 @@ fn version_named(word: &[u8]) -> Option<Version>
     }
 }
 
-/// The version that the words of a journal's first line name.
+/// The version that `vericon-journal 1` or `vericon-journal 2` names; `None` for every other line.
 #[tactic(auto, unfolding(crate::specs::Notes::header_of))]
 pub fn header(words: Words) -> Option<Version>
     ensures { result ≡ header_of words.entry }
@@ -57,7 +57,7 @@ fn has_ends(version: Version) -> bool
     }
 }
 
-/// The note of a line's words, in a text of this version.
+/// The note of a line's words, in a text of this version; `None` where they are none (docs/FORMATS.md, "Journal text").
 #[tactic(auto, unfolding(crate::specs::Notes::note_of))]
 pub fn note(version: Version, words: Words) -> Option<Note>
     ensures { result ≡ note_of version words.entry }
@@ -148,7 +148,7 @@ fn flow(words: Words) -> Option<Note>
     Some(Note::Flow { s, a, b, i, o })
 }
 
-// Whether the words are `end` alone.
+/// Whether the words are `end` alone.
 pub fn is_end(words: Words) -> bool
     ensures { result ≡ is_end_line words.entry }
 {

@@ -10,7 +10,7 @@ pub type Notes = Items<Note>;
 pub enum Note {
     /// An entry of a controller's history.
     Kept(Entry),
-    /// A switch sent a packet by one of its flow rules.
+    /// A switch sent a packet by one of its flow rules: its switch, source, destination, ingress port and egress port.
     Flow {
         s: u64,
         a: u64,

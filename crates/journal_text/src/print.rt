@@ -12,7 +12,8 @@ use sqlite_items::Items;
 use std::alloc::{AllocError, Global};
 use text_lines::{put_line, put_line_end, put_next_word, put_word};
 
-/// The text of the notes: of the second version exactly where one says that flow rules ended. Reading it gives the notes again.
+/// The text of the notes (docs/FORMATS.md, "Journal text"): of the second version exactly where one says that flow
+/// rules ended. Reading it gives the notes again.
 pub fn print_journal(alloc: Global, notes: &Notes) -> Result<Text, AllocError>
     ensures text { IfOk result (λ text. text ≡ journal_text notes.now) }
     ensures again { IfOk result (λ text. reading journal_format text ≡ Ok notes.now) }

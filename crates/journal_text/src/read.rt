@@ -23,22 +23,30 @@ pub enum JournalRefusal {
     Memory,
 }
 
-// Why a line isn't taken.
+/// Why a line isn't taken.
 #[derive(Clone, Copy, Debug)]
 pub enum Stop {
     Refused,
     Memory,
 }
 
-// Where in a text one is.
+/// Where in a text one is.
 #[derive(Clone, Copy, Debug)]
 pub enum Place {
+    /// Before the first line.
     Header,
+    /// Behind the first line, which names this version.
     Inside(Version),
+    /// Behind `end`.
     Ended,
 }
 
-/// The notes of a journal text.
+/// The notes of a journal text (docs/FORMATS.md, "Journal text"). It goes over the text once.
+///
+/// # Errors
+///
+/// `Line` with the first line that is refused, counted from 1, or with the line one past the last, where `end` is
+/// missing. `Memory` where memory ran out.
 pub fn read_journal(alloc: Global, text: &[u8]) -> Result<Notes, JournalRefusal>
     ensures { Gives result (reading journal_format text.now) }
 {

@@ -1,31 +1,29 @@
 -- Clauses that are added, and the first ones.
-use Rattle.std.proofs.Common.{◌≡◌, ◌∙◌, ◌↔◌, ℕ, suc, ◌+◌, Bool, true, false, ◌&&◌, ◌||◌, List, [], ◌∷◌, ◌++◌, length, refl, sym, ap, ap₂, subst, arith, cond, inl, inr, eqb, eq-eqb}
+use Rattle.std.proofs.Common.{◌≡◌, ◌∙◌, ℕ, suc, ◌+◌, Bool, true, false, List, [], ◌∷◌, ◌++◌, length, refl, sym, ap, ap₂, subst, arith, cond, inl, inr, eqb, eq-eqb}
 use mathlib.Core.Path.{fun_ext}
-use Rattle.std.proofs.lemmas.Bool.{cases_Bool, false≢true, or_left, or_right}
-use Rattle.std.specs.List.{list_all, list_any}
-use Rattle.csdn_core.specs.Members.{AreDistinct, IsIn}
+use Rattle.std.proofs.lemmas.Bool.{false≢true}
+use Rattle.std.specs.List.{list_all}
+use Rattle.csdn_core.specs.Members.{IsIn}
 use Rattle.csdn_core.proofs.Members.{in_both, in_left, in_right}
-use Rattle.csdn_core.specs.Satisfied.{HasNetwork}
 use Rattle.csdn_core.specs.declared.program.Parts.{Parts}
 use Rattle.csdn_core.specs.declared.syntax.Formula.{Formula}
-use Rattle.clause_log.specs.Literals.{ClauseList, IsModel, Literal, clause_true, has_atom, is_clause, signed}
+use Rattle.clause_log.specs.Literals.{ClauseList, IsModel, Literal, clause_true, has_atom, is_clause}
 use Rattle.fol_forms.specs.Constants.{counts}
 use Rattle.fol_forms.specs.Counts.{count_of}
 use Rattle.fol_forms.specs.Forms.{Form, form_of}
 use Rattle.decision_laws.specs.Copies.{judge, Both, Copy, Each, Either, Fact, Known, Leaf}
 use Rattle.decision_laws.specs.Clauses.{either_clauses, equality_clauses, member_clause, node_clauses, size, top, whole_clauses}
-use Rattle.decision_laws.specs.Laws.{AreTied, HasModel, IsSentence, atoms, clauses, name, naming, sentence_copies, words}
+use Rattle.decision_laws.specs.Laws.{IsSentence, atoms, clauses, name, naming, sentence_copies, words}
 use Rattle.decision_laws.specs.Simplified.{simplified}
-use Rattle.decision_laws.specs.Sublists.{ArePart, AreBroken, left_of}
-use Rattle.decision_laws.specs.Weights.{weight}
+use Rattle.decision_laws.specs.Sublists.{ArePart, left_of}
 use Rattle.decision_laws.proofs.Basics.{all_at, all_from, any_from}
-use Rattle.decision_laws.proofs.Bridge.{clauses_bounded, part_models, part_tied}
+use Rattle.decision_laws.proofs.Bridge.{clauses_bounded}
 use Rattle.decision_laws.proofs.Left.{falls, still_part}
 use Rattle.ground_inst.specs.Copies.{copies_over}
 use Rattle.ground_inst.specs.Facts.{AreFactsOf, num_of}
 use Rattle.ground_inst.specs.declared.facts.Facts.{Facts}
 use Rattle.ground_inst.proofs.FactLaws.{facts_number}
-use Rattle.ground_inst.proofs.WholeClauses.{atoms_are, copies_are}
+use Rattle.ground_inst.proofs.WholeClauses.{copies_are}
 use Rattle.lazy_ground.specs.declared.sentence.LazyGround.{LazyGround}
 use Rattle.lazy_ground.specs.Completed.{completed, is_named, said}
 use Rattle.lazy_ground.specs.First.{AreFirst, first_clauses, open_clauses, open_named, open_whole}

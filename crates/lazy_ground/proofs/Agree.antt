@@ -1,6 +1,5 @@
 -- Judgements that agree on the facts over the constants, and what a completed valuation says of facts.
-use Rattle.std.proofs.Common.{◌≡◌, ◌∙◌, ℕ, ◌<◌, ◌≤◌, Bool, true, false, ◌&&◌, ◌||◌, List, [], ◌∷◌, refl, sym, ap, ap₂, subst, arith, cond, inl, inr}
-use Rattle.std.proofs.lemmas.Bool.{cases_Bool}
+use Rattle.std.proofs.Common.{◌≡◌, ◌∙◌, ℕ, ◌<◌, ◌≤◌, Bool, true, false, ◌&&◌, ◌||◌, List, [], ◌∷◌, refl, sym, ap, ap₂, arith, cond, inl, inr}
 use Rattle.general_facts.proofs.Lists.{list_all-same}
 use Rattle.csdn_core.specs.Members.{IsIn}
 use Rattle.csdn_core.proofs.Members.{contains_in}
@@ -14,10 +13,10 @@ use Rattle.fol_forms.specs.Constants.{counts}
 use Rattle.fol_forms.specs.Forms.{form_of, signed}
 use Rattle.decision_laws.specs.Vocabulary.{Vocabulary, places_from}
 use Rattle.decision_laws.specs.Copies.{AreAlike, AreBelow, Copy, Known, Leaf, Both, Either, Each, Equation, Fact, Tuple, IsFair, judge, known, numeral_place}
-use Rattle.decision_laws.specs.Clauses.{IsNaming, IsOver, mirror}
+use Rattle.decision_laws.specs.Clauses.{IsOver, mirror}
 use Rattle.decision_laws.specs.Laws.{IsJudgement, IsSentence, clauses, judged, name, naming, sentence_copies, words}
 use Rattle.decision_laws.specs.Simplified.{simplified}
-use Rattle.decision_laws.proofs.Basics.{IsVocabulary, in_place, index_of-below}
+use Rattle.decision_laws.proofs.Basics.{in_place, index_of-below}
 use Rattle.decision_laws.proofs.Bridge.{model_judged, numbers_named}
 use Rattle.decision_laws.proofs.Complete.{IsReady, ready}
 use Rattle.decision_laws.proofs.Fitting.{is_closed}

@@ -1,6 +1,5 @@
 -- The atoms of the clauses of equality are those of facts over the constants.
-use Rattle.std.proofs.Common.{◌≡◌, ◌∙◌, ◌≢◌, ℕ, ◌+◌, ◌<◌, ◌≤◌, Bool, true, false, ◌||◌, List, [], ◌∷◌, ◌++◌, refl, sym, ap, ap₂, subst, arith, cond, inl, inr, flat_map, nat_lt, append_assoc}
-use Rattle.std.proofs.lemmas.Bool.{false≢true}
+use Rattle.std.proofs.Common.{◌≡◌, ◌∙◌, ℕ, ◌<◌, Bool, true, false, ◌||◌, List, [], ◌∷◌, ◌++◌, refl, sym, ap, ap₂, subst, arith, cond, inl, inr, flat_map, nat_lt, append_assoc}
 use Rattle.csdn_core.specs.Members.{IsIn}
 use Rattle.csdn_core.proofs.Members.{flat_in, in_both, map_in, one_in}
 use Rattle.csdn_core.specs.declared.terms.Pred.{Pred}

@@ -1,6 +1,6 @@
 -- Passes one after another.
 use Rattle.std.proofs.Common.{◌≡◌, ◌∙◌, ℕ, Bool, true, false, not, ◌||◌, List, [], ◌∷◌, ◌++◌, refl, sym, ap, ap₂, subst, inl, inr, nat_eq, cond, eqb-true, suc, ◌+◌, arith, flat_map, map, if◌then◌else◌}
-use Rattle.std.proofs.lemmas.Bool.{cases_Bool, false≢true, or_cases, or_left, or_right}
+use Rattle.std.proofs.lemmas.Bool.{false≢true}
 use Rattle.csdn_core.specs.Members.{IsIn}
 use Rattle.csdn_core.proofs.Members.{in_both, in_left, in_right, one_in}
 use Rattle.csdn_core.specs.Truth.{same_truth}

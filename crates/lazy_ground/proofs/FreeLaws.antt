@@ -1,18 +1,17 @@
 -- Copies of which no node is named count as what they are, and their clauses are true.
-use Rattle.std.proofs.Common.{◌≡◌, ◌∙◌, ℕ, zero, suc, ◌+◌, ◌<◌, ◌≤◌, Bool, true, false, List, [], ◌∷◌, ◌++◌, refl, sym, ap, ap₂, ◌||◌, subst, arith, cond, flat_map, add-zero}
+use Rattle.std.proofs.Common.{◌≡◌, ◌∙◌, ℕ, zero, suc, ◌+◌, ◌<◌, ◌≤◌, Bool, false, [], ◌∷◌, ◌++◌, sym, ap, ap₂, ◌||◌, arith, cond, add-zero}
 use Rattle.std.proofs.lemmas.Bool.{and_parts}
-use Rattle.csdn_core.specs.Members.{IsIn}
-use Rattle.csdn_core.proofs.Members.{flat_in, in_both}
-use Rattle.clause_log.specs.Literals.{Literal, literal_true, signed}
+use Rattle.csdn_core.proofs.Members.{flat_in}
+use Rattle.clause_log.specs.Literals.{literal_true, signed}
 use Rattle.decision_laws.specs.Copies.{Copy, Known, Leaf, Both, Either, Each, Fact, judge}
 use Rattle.decision_laws.specs.Clauses.{either_clauses, member_clause, node_clauses, size, sum_from, top}
 use Rattle.decision_laws.specs.Vocabulary.{places_from}
 use Rattle.decision_laws.proofs.Basics.{all_at, in_place, place_in, signed-same}
 use Rattle.decision_laws.proofs.Read.{AllTrue}
 use Rattle.ground_inst.specs.Facts.{num_of}
-use Rattle.ground_inst.proofs.Steps.{sum-more}
-use Rattle.lazy_ground.specs.declared.reading.Reading.{Reading}
-use Rattle.lazy_ground.specs.Readings.{Completes, IsFree, named_by, node_value, said_by, true_by}
+use Rattle.copy_truth.specs.declared.reading.Reading.{Reading}
+use Rattle.lazy_ground.specs.Readings.{Completes, IsFree, named_by, node_value, true_by}
+use Rattle.copy_truth.specs.Said.{said_by}
 use Rattle.lazy_ground.proofs.FindLaws.{all_append, either_true, member_true, one_true}
 
 sum_below : (g : ℕ → ℕ) (i m n : ℕ) → i < n → sum_from g m i + g (m + i) ≤ sum_from g m n

@@ -1,6 +1,5 @@
 mod FindLaws
 mod FreeLaws
-mod JudgeSteps
 mod LookSteps
 mod NamedLaws
 pub mod Agree
@@ -12,4 +11,4 @@ mod TupleLaws
 mod ReadLaws
 mod OpenWhole
 mod AddLaws
-mod EarlySteps
+mod PickLaws

@@ -1,11 +1,9 @@
 -- What one step of the walk finds.
-use Rattle.std.proofs.Common.{◌≡◌, ◌≢◌, ◌∙◌, ℕ, zero, suc, ◌+◌, ◌<◌, max, Bool, true, false, not, ◌&&◌, ◌||◌, nat_lt, Option, None, Some, List, [], ◌∷◌, ◌++◌, flat_map, refl, sym, ap, ap₂, subst, arith, cond, inl, inr, append-nil, add-one, add-zero, ltb-true}
+use Rattle.std.proofs.Common.{◌≡◌, ◌∙◌, ℕ, zero, suc, ◌+◌, ◌<◌, max, Bool, true, false, not, ◌&&◌, ◌||◌, nat_lt, Option, List, [], ◌∷◌, ◌++◌, flat_map, refl, sym, ap, ap₂, subst, arith, inl, inr, add-one, add-zero}
 use mathlib.Core.Path.{fun_ext}
 use Rattle.std.proofs.lemmas.Bool.{cases_Bool, false≢true, or_left, or_right}
 use Rattle.csdn_core.specs.declared.terms.Sort.{Sort}
 use Rattle.csdn_core.specs.declared.terms.VarId.{VarId}
-use Rattle.csdn_core.specs.declared.terms.Pred.{Pred}
-use Rattle.csdn_core.specs.declared.terms.Term.{Term}
 use Rattle.clause_log.specs.Literals.{Literal, clause_true, literal_true}
 use Rattle.csdn_core.specs.Members.{IsIn}
 use Rattle.fol_forms.specs.Forms.{Form, Fixed, Atom, Same, And, Or, ForAll, ForSome}
@@ -15,12 +13,13 @@ use Rattle.decision_laws.specs.Copies.{Copy, Each, Leaf, Fact, Scope, copies, ea
 use Rattle.decision_laws.specs.Clauses.{yes, size, sum_from, top, node_clauses, member_clause, either_clauses}
 use Rattle.decision_laws.specs.Weights.{weight}
 use Rattle.decision_laws.proofs.Weights.{size-copies}
-use Rattle.ground_inst.specs.Walk.{Ways, State, bound, copies_at, literal_of, numbered, tuple_fact, equation_fact, ways_of}
+use Rattle.ground_inst.specs.Walk.{Ways, State, bound, copies_at, literal_of, numbered, ways_of}
 use Rattle.ground_inst.proofs.Steps.{each_by, flat-more, moved, sum-more}
-use Rattle.lazy_ground.specs.declared.reading.Reading.{Reading}
+use Rattle.copy_truth.specs.declared.reading.Reading.{Reading}
 use Rattle.lazy_ground.specs.declared.looking.Seen.{Seen}
-use Rattle.lazy_ground.specs.Readings.{Completes, IsFree, IsGiven, given_unless, makes_node, named_by, node_value, said_by}
-use Rattle.lazy_ground.specs.Found.{Finds, IsOpen, Looks, LooksAt, LooksBound, LooksInto, LooksMember, Moves}
+use Rattle.lazy_ground.specs.Readings.{Completes, IsFree, IsGiven, given_unless, makes_node, named_by, node_value}
+use Rattle.copy_truth.specs.Said.{said_by}
+use Rattle.lazy_ground.specs.Found.{Finds, IsOpen, Looks, LooksAt, LooksBound, LooksInto, LooksMember}
 use Rattle.lazy_ground.proofs.FindLaws.{either_false, either_true, finds_both, finds_false, finds_some, finds_true, member_false, member_true, not_more, one_false, one_true, open_at}
 use Rattle.lazy_ground.proofs.FreeLaws.{free_top, free_true}
 

@@ -1,6 +1,5 @@
 -- The atoms of clauses as a list.
-use Rattle.std.proofs.Common.{◌≡◌, ◌∙◌, ℕ, Bool, true, false, ◌||◌, ◌&&◌, ◌==◌, eqb, List, [], ◌∷◌, ◌++◌, filter, flat_map, map, refl, sym, ap, ap₂, eqb-true, subst, inl, inr, cond, if◌then◌else◌}
-use Rattle.std.proofs.lemmas.Bool.{cases_Bool}
+use Rattle.std.proofs.Common.{◌≡◌, ◌∙◌, ℕ, Bool, true, false, ◌||◌, ◌&&◌, eqb, List, [], ◌∷◌, ◌++◌, filter, flat_map, refl, sym, ap, ap₂, eqb-true, if◌then◌else◌}
 use Rattle.std.proofs.Math.Bool.{or_assoc}
 use Rattle.std.specs.List.{list_any}
 use Rattle.clause_log.specs.Literals.{Literal, has_atom, truths}

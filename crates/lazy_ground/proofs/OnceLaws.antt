@@ -1,6 +1,6 @@
 -- Clauses, each once.
-use Rattle.std.proofs.Common.{◌≡◌, ◌∙◌, ◌⊎◌, ℕ, Bool, true, false, ◌&&◌, List, [], ◌∷◌, ◌++◌, refl, sym, ap, ap₂, subst, cond, inl, inr, eq-eqb, eqb, eqb-true}
-use Rattle.std.proofs.lemmas.Bool.{and_from, and_parts, cases_Bool, false≢true}
+use Rattle.std.proofs.Common.{◌≡◌, ◌∙◌, ◌⊎◌, Bool, true, false, List, [], ◌∷◌, ◌++◌, refl, sym, ap₂, subst, cond, inl, inr, eq-eqb, eqb, eqb-true}
+use Rattle.std.proofs.lemmas.Bool.{and_from, and_parts, false≢true}
 use Rattle.csdn_core.specs.Members.{AreDistinct, IsIn}
 use Rattle.csdn_core.proofs.Members.{in_both, in_left, in_right, one_in}
 use Rattle.csdn_core.specs.Truth.{same_truth}

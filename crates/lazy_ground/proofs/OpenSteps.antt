@@ -1,18 +1,18 @@
 -- What one step of the walk over the parts under no `forall` adds.
-use Rattle.std.proofs.Common.{◌≡◌, ℕ, zero, suc, ◌+◌, ◌*◌, max, Bool, List, [], ◌∷◌, ◌++◌, refl, sym, ap, ap₂, ◌∙◌, subst, arith, append_assoc, append-nil, add-one, add-zero, length}
+use Rattle.std.proofs.Common.{◌≡◌, ℕ, zero, suc, ◌+◌, ◌*◌, max, Bool, List, [], ◌∷◌, ◌++◌, refl, sym, ap, ap₂, ◌∙◌, subst, arith, append_assoc, append-nil, add-one, add-zero}
 use mathlib.Core.Path.{fun_ext}
 use Rattle.csdn_core.specs.declared.terms.Sort.{Sort}
 use Rattle.csdn_core.specs.declared.terms.VarId.{VarId}
 use Rattle.csdn_core.specs.declared.terms.Pred.{Pred}
 use Rattle.csdn_core.specs.declared.terms.Term.{Term}
 use Rattle.clause_log.specs.Literals.{Literal}
-use Rattle.fol_forms.specs.Forms.{Form, Atom, Same, And, Or, ForAll, ForSome}
+use Rattle.fol_forms.specs.Forms.{Form, Atom, And, Or, ForAll, ForSome}
 use Rattle.fol_forms.specs.Constants.{need, one_if}
 use Rattle.decision_laws.specs.Copies.{Copy, Each, each, Scope, copies}
-use Rattle.decision_laws.specs.Clauses.{yes, size, sum_from, top, member_clause, either_clauses}
+use Rattle.decision_laws.specs.Clauses.{yes, size, top, member_clause, either_clauses}
 use Rattle.decision_laws.specs.Weights.{each_weight, weight}
 use Rattle.decision_laws.proofs.Weights.{size-copies}
-use Rattle.ground_inst.specs.Walk.{Ways, State, tuple_fact, equation_fact, literal_of, numbered, copies_at}
+use Rattle.ground_inst.specs.Walk.{Ways, State, tuple_fact, literal_of, numbered, copies_at}
 use Rattle.ground_inst.proofs.Steps.{each_by, moved}
 use Rattle.lazy_ground.specs.First.{open_clauses}
 use Rattle.lazy_ground.specs.Opened.{AddsAt, AddsMember, AddsOpen}

@@ -1,5 +1,5 @@
 -- The clauses of whole copies that stand under no `forall`.
-use Rattle.std.proofs.Common.{◌≡◌, ◌∙◌, ℕ, Bool, true, false, Option, None, Some, List, [], ◌∷◌, ◌++◌, length, refl, ap, ap₂, append_assoc}
+use Rattle.std.proofs.Common.{◌≡◌, ◌∙◌, ℕ, true, false, None, Some, [], ◌∷◌, ◌++◌, length, refl, ap, ap₂, append_assoc}
 use mathlib.Core.Path.{fun_ext}
 use Rattle.csdn_core.specs.declared.terms.Sort.{Sort}
 use Rattle.csdn_core.specs.declared.program.Parts.{Parts}

@@ -1,36 +1,17 @@
 -- What is read: needs, ranges of atoms, literals of facts, and clauses put one after another.
-use Rattle.std.proofs.Common.{◌≡◌, ◌∙◌, ℕ, zero, suc, ◌+◌, ◌-◌, ◌<◌, ◌≤◌, Bool, true, false, ◌||◌, List, [], ◌∷◌, ◌++◌, length, get_or, take, drop, flat_map, map, Err, refl, sym, ap, ap₂, subst, arith, inl, inr, eqb, eqb-true}
+use Rattle.std.proofs.Common.{◌≡◌, ◌∙◌, ℕ, suc, ◌+◌, ◌-◌, ◌<◌, ◌≤◌, Bool, false, ◌||◌, List, [], ◌∷◌, ◌++◌, length, get_or, take, drop, flat_map, map, refl, sym, ap, arith, inl, inr, eqb, eqb-true}
 use Rattle.std.proofs.lemmas.Bool.{cases_Bool, cases_lt}
 use Rattle.std.proofs.lemmas.List.{take_more}
-use Rattle.std.proofs.lemmas.List.Sorted.{searched}
-use Rattle.std.specs.List.Sorted.{IsBinarySearchResult, IsNonDecreasing}
-use Rattle.std.specs.Ordering.{nat_cmp}
-use mathlib.Core.Path.{fun_ext}
+use Rattle.std.specs.List.Sorted.{IsNonDecreasing}
 use Rattle.general_facts.proofs.Lists.{rest_is}
-use Rattle.csdn_core.specs.declared.terms.Sort.{Sort}
-use Rattle.csdn_core.specs.declared.terms.Sort.TheVariants.{Ho, Pr, Sw}
 use Rattle.clause_log.specs.Literals.{Literal, literal_true, signed, truths}
-use Rattle.fol_forms.specs.Constants.{need}
-use Rattle.fol_forms.specs.Counts.{count_of}
-use Rattle.fol_forms.specs.Forms.{Form}
-use Rattle.fol_forms.specs.declared.instances.Counts.{Counts}
 use Rattle.decision_laws.specs.Copies.{Fact}
-use Rattle.decision_laws.proofs.Basics.{signed-same}
 use Rattle.ground_inst.specs.Facts.{num_of}
 use Rattle.ground_inst.specs.Walk.{literal_of, ways_of}
-use Rattle.lazy_ground.specs.declared.reading.Reading.{Reading}
+use Rattle.copy_truth.specs.declared.reading.Reading.{Reading}
 use Rattle.lazy_ground.specs.Found.{once, put_clause}
-use Rattle.lazy_ground.specs.Judged.{said_signed}
-use Rattle.lazy_ground.specs.Readings.{IsFree, IsPast, said_by, true_by}
-
-past_by : (base : Counts) (f : Form) (a b c : ℕ) → a ≡ base.sw + need f Sw → b ≡ base.ho + need f Ho → c ≡ base.pr + need f Pr → (t : Sort) → count_of (record { sw = a; ho = b; pr = c }) t ≡ count_of base t + need f t
-unfolding count_of
-past_by base f a b c d e g Sw = d
-past_by base f a b c d e g Ho = e
-past_by base f a b c d e g Pr = g
-
-pub past_counts : (base : Counts) (f : Form) (a b c : ℕ) → a ≡ base.sw + need f Sw → b ≡ base.ho + need f Ho → c ≡ base.pr + need f Pr → count_of (record { sw = a; ho = b; pr = c }) ≡ (λ t. count_of base t + need f t)
-past_counts base f a b c d e g = fun_ext (past_by base f a b c d e g)
+use Rattle.lazy_ground.specs.Readings.{IsFree, IsPast, true_by}
+use Rattle.copy_truth.specs.Said.{said_by}
 
 -- an atom that stands at no place of a list
 not_there : (xs : List ℕ) (x : ℕ) → ((k : ℕ) → k < length xs → get_or xs k 0 ≡ x → ⊥) → truths xs x ≡ false
@@ -51,10 +32,6 @@ free_between xs first place count rises before past x low high =
       | inl s ↦ (let b = before k s in omega (arith, b, e, low))
       | inr s ↦ (let r = rises place k s l in let p = past (omega (arith, s, l)) in omega (arith, r, p, e, high))
     ])
-
-pub said_literal : (r : Reading) (sign : Bool) (fact : Fact) → literal_true (true_by r) (literal_of (ways_of r.names) sign fact) ≡ said_signed r sign fact
-unfolding said_by
-said_literal r sign fact = signed-same sign (truths r.trues.now (num_of r.names.facts.now fact))
 
 pub leaf_value : (r : Reading) (sign : Bool) (fact : Fact) (l : Literal) (b : Bool) → b ≡ literal_true (true_by r) l → l ≡ literal_of (ways_of r.names) sign fact → (w : ℕ → Bool) → w (num_of r.names.facts.now fact) ≡ said_by r fact → b ≡ literal_true w (literal_of (ways_of r.names) sign fact)
 unfolding said_by

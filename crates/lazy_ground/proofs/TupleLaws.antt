@@ -1,8 +1,8 @@
 -- The clauses of true tuples are all that say something.
-use Rattle.std.proofs.Common.{◌≡◌, ◌∙◌, ℕ, suc, ◌+◌, ◌-◌, ◌<◌, Bool, true, false, not, ◌||◌, ◌&&◌, Option, Some, None, List, [], ◌∷◌, ◌++◌, refl, sym, ap, ap₂, subst, arith, cond, inl, inr, flat_map, nat_lt, lt-ltb, ltb-true, eqb, eqb-true, append_assoc, length, get_or, take, drop, if◌then◌else◌}
+use Rattle.std.proofs.Common.{◌≡◌, ◌∙◌, ℕ, suc, ◌+◌, ◌-◌, ◌<◌, Bool, true, false, not, ◌||◌, ◌&&◌, Option, Some, None, List, [], ◌∷◌, ◌++◌, refl, sym, ap, ap₂, subst, arith, cond, inl, inr, flat_map, nat_lt, lt-ltb, ltb-true, append_assoc, length, get_or, take, drop, if◌then◌else◌}
 use mathlib.Core.Path.{fun_ext}
 use Rattle.csdn_core.specs.declared.terms.Sort.TheVariants.{Sw}
-use Rattle.std.proofs.lemmas.Bool.{and_from, and_parts, cases_Bool, false≢true, or_right}
+use Rattle.std.proofs.lemmas.Bool.{and_from, and_parts, cases_Bool}
 use Rattle.csdn_core.specs.Members.{IsIn}
 use Rattle.csdn_core.proofs.Members.{flat_in, in_both, in_flat, one_in}
 use Rattle.csdn_core.specs.Network.{same_pred}
@@ -16,38 +16,21 @@ use Rattle.decision_laws.specs.Clauses.{may_meet, no, replace_clause, replace_cl
 use Rattle.decision_laws.specs.Copies.{AreBelow, Equation, Fact, Tuple}
 use Rattle.decision_laws.specs.Numbers.{tuple_count, tuple_number, tuple_of}
 use Rattle.decision_laws.specs.Vocabulary.{Vocabulary, places_from}
-use Rattle.decision_laws.proofs.Basics.{any_gives}
 use Rattle.decision_laws.proofs.Facts.{tuple_number-below, tuple_of-below, tuple_of-number}
 use Rattle.decision_laws.proofs.Lists.{in_tuples, tuple_in}
 use Rattle.decision_laws.proofs.Read.{AllTrue}
 use Rattle.ground_inst.specs.Equality.{exchange_at, exchanges}
 use Rattle.ground_inst.proofs.Turns.{exchanged_clause, next_place}
-use Rattle.ground_inst.specs.Facts.{num_of, sorts_in, tuple_place, vocabulary_of}
+use Rattle.ground_inst.specs.Facts.{num_of, sorts_in, vocabulary_of}
 use Rattle.ground_inst.specs.declared.facts.Facts.{Facts}
 use Rattle.ground_inst.specs.declared.facts.UsedRelation.{UsedRelation}
 use Rattle.lazy_ground.specs.Found.{Finds}
-use Rattle.lazy_ground.specs.Tuples.{tuple_clauses, used_in}
+use Rattle.copy_truth.specs.Early.{used_in}
+use Rattle.copy_truth.proofs.OpenTuples.{place_used, sorts_used, true_in}
+use Rattle.lazy_ground.specs.Tuples.{tuple_clauses}
 use Rattle.lazy_ground.proofs.FindLaws.{finds_none}
 
--- the relation that is used
-
-used_step : (b : Bool) (u : UsedRelation) (o : Option UsedRelation) (w : UsedRelation) (P : UsedRelation → Type 0) → (if b then Some u else o) ≡ Some w → (b ≡ true → P u) → (b ≡ false → o ≡ Some w → P w) → P w
-used_step true u o w P e f g = subst P (let same : u ≡ w = cc in same) (f refl)
-used_step false u o w P e f g = g refl e
-
-pub sorts_used : (us : List UsedRelation) (r : Pred) (w : UsedRelation) → used_in us r ≡ Some w → sorts_in us r ≡ w.sorts
-sorts_used [] r w e = absurd cc
-sorts_used (u ∷ us) r w e =
-    used_step (same_pred u.relation r) u (used_in us r) w (λ z. sorts_in (u ∷ us) r ≡ z.sorts) e
-    (λ t. ap (λ b. cond b u.sorts (sorts_in us r)) t)
-    (λ t q. ap (λ b. cond b u.sorts (sorts_in us r)) t ∙ sorts_used us r w q)
-
-pub place_used : (n : Sort → ℕ) (us : List UsedRelation) (none : ℕ) (r : Pred) (w : UsedRelation) (xs : List ℕ) → used_in us r ≡ Some w → tuple_place n us none r xs ≡ w.before + tuple_number n w.sorts xs
-place_used n [] none r w xs e = absurd cc
-place_used n (u ∷ us) none r w xs e =
-    used_step (same_pred u.relation r) u (used_in us r) w (λ z. tuple_place n (u ∷ us) none r xs ≡ z.before + tuple_number n z.sorts xs) e
-    (λ t. ap (λ b. cond b (u.before + tuple_number n u.sorts xs) (tuple_place n us none r xs)) t)
-    (λ t q. ap (λ b. cond b (u.before + tuple_number n u.sorts xs) (tuple_place n us none r xs)) t ∙ place_used n us none r w xs q)
+-- a relation that is not used
 
 unused_step : (b : Bool) (u : UsedRelation) (o : Option UsedRelation) (ss : List Sort) → (o ≡ None → ss ≡ []) → (if b then Some u else o) ≡ None → (if b then u.sorts else ss) ≡ []
 unused_step true u o ss h q = absurd cc
@@ -133,9 +116,6 @@ module _ (P : Parts) (facts : Facts) (r : Pred) (u : UsedRelation) (is : used_in
       let high : t - u.before - 1 < tuple_count n u.sorts = omega (arith, k, small) in
       ap (λ b. if b then exchanges P facts r u.sorts (tuple_of n u.sorts (t - u.before - 1)) else []) (and_from (nat_lt u.before t) (nat_lt (t - u.before - 1) (tuple_count n u.sorts)) (lt-ltb u.before t low) (lt-ltb (t - u.before - 1) (tuple_count n u.sorts) high))
       ∙ ap (exchanges P facts r u.sorts) (ap (tuple_of n u.sorts) k ∙ tuple_of-number n u.sorts xs below)
-
-  true_in : (x : ℕ) (ts : List ℕ) → truths ts x ≡ true → IsIn x ts
-  true_in x ts e = (let w = any_gives (λ t. eqb t x) ts e in subst (λ z. IsIn z ts) (eqb-true w.0 x w.2) w.1)
 
   -- what is found of the tuples of true atoms
   pub replaced_found : (old new : List (List Literal)) → Finds v (flat_map parts trues) old new → Finds v (replace_clauses (num_of facts) n voc r) old new

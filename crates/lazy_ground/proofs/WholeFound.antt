@@ -1,41 +1,37 @@
 -- What is found of a whole sentence.
-use Rattle.std.proofs.Common.{◌≡◌, ◌∙◌, ℕ, suc, ◌+◌, ◌<◌, Bool, true, false, ◌&&◌, ◌||◌, Option, None, Some, List, [], ◌∷◌, ◌++◌, length, refl, sym, ap, ap₂, subst, arith, cond, inl, inr}
+use Rattle.std.proofs.Common.{◌≡◌, ◌∙◌, ℕ, suc, ◌+◌, Bool, true, false, ◌&&◌, ◌||◌, None, Some, List, [], ◌∷◌, ◌++◌, length, refl, sym, ap, ap₂, subst, arith, cond, inl, inr}
 use mathlib.Core.Path.{fun_ext}
 use Rattle.std.specs.List.{list_all}
-use Rattle.std.proofs.lemmas.Bool.{cases_Bool, false≢true}
-use Rattle.csdn_core.specs.Members.{AreDistinct, IsIn}
-use Rattle.csdn_core.proofs.Members.{in_both}
+use Rattle.csdn_core.specs.Members.{IsIn}
 use Rattle.csdn_core.specs.declared.program.Parts.{Parts}
 use Rattle.csdn_core.specs.declared.syntax.Formula.{Formula}
 use Rattle.csdn_core.specs.declared.terms.Sort.{Sort}
-use Rattle.clause_log.specs.Literals.{IsModel, Literal, clause_true, is_clause, literal_true, truths}
+use Rattle.clause_log.specs.Literals.{Literal, clause_true, is_clause, literal_true}
 use Rattle.fol_forms.specs.Constants.{counts, names_of}
 use Rattle.fol_forms.specs.Counts.{count_of}
 use Rattle.fol_forms.specs.Forms.{Form, form_of}
 use Rattle.decision_laws.specs.Vocabulary.{vocabulary}
 use Rattle.decision_laws.specs.Copies.{Copy, Known, Leaf, Both, Either, Each, Fact, copies, judge, known}
 use Rattle.decision_laws.specs.Clauses.{equality_clauses, node_clauses, size, sum_from, top, whole_clauses}
-use Rattle.decision_laws.specs.Laws.{IsSentence, atoms, clauses, judged, name, naming, sentence_copies, words}
+use Rattle.decision_laws.specs.Laws.{IsSentence, atoms, clauses, name, naming, sentence_copies, words}
 use Rattle.decision_laws.specs.Simplified.{simplified}
-use Rattle.decision_laws.specs.Sublists.{AreBroken}
 use Rattle.decision_laws.proofs.Basics.{all_at, all_from}
 use Rattle.decision_laws.proofs.Bridge.{clauses_bounded, numbers_named}
 use Rattle.decision_laws.proofs.Complete.{AreNodes, some_first, whole_named}
 use Rattle.decision_laws.proofs.Made.{AllOver, copies_simple}
 use Rattle.decision_laws.proofs.Read.{IsPlain, IsSimple}
-use Rattle.ground_inst.specs.Copies.{copies_over}
 use Rattle.ground_inst.specs.Facts.{AreFactsOf, num_of, vocabulary_of}
-use Rattle.ground_inst.specs.declared.facts.Facts.{Facts}
 use Rattle.ground_inst.specs.Walk.{State, copied_value, copies_at, named_clauses, ways_of}
-use Rattle.ground_inst.proofs.FactLaws.{constants_are, facts_equality, facts_number}
+use Rattle.ground_inst.proofs.FactLaws.{facts_equality, facts_number}
 use Rattle.ground_inst.proofs.WholeClauses.{copies_are}
 use Rattle.ground_inst.proofs.Wholes.{copies_of_facts, whole_false, whole_named as whole_by_name, whole_true}
-use Rattle.lazy_ground.specs.declared.reading.Reading.{Reading}
+use Rattle.copy_truth.specs.declared.reading.Reading.{Reading}
 use Rattle.lazy_ground.specs.declared.looking.Seen.{Seen}
 use Rattle.lazy_ground.specs.Completed.{completed, is_named, said}
-use Rattle.lazy_ground.specs.Found.{Finds, Looks, once}
+use Rattle.lazy_ground.specs.Found.{Finds, IsPickedFrom, Looks, once}
 use Rattle.lazy_ground.specs.Lazy.{AreAllBroken}
-use Rattle.lazy_ground.specs.Readings.{Completes, named_by, node_value, said_by, true_by}
+use Rattle.lazy_ground.specs.Readings.{Completes, named_by, node_value, true_by}
+use Rattle.copy_truth.specs.Said.{said_by}
 use Rattle.lazy_ground.specs.Whole.{CompletesWhole, FindsBoth, FindsNodes, FindsWhole, copy_clauses, equal_clauses, first_node, form_copies}
 use Rattle.lazy_ground.proofs.Agree.{fact_completed, numerals_below, sentence_over}
 use Rattle.lazy_ground.proofs.EqualityAtoms.{clause_same, equality_atoms}
@@ -202,15 +198,15 @@ module _ (r : Reading) (F : Formula) (is : IsSentence r.names.parts.now F) (are 
     rows_bounded rows k h e =
         all_from (is_clause k) rows (λ c i. ap (λ a. is_clause a c) e ∙ all_at (is_clause (atoms P F)) (clauses P F) c (in_all rows h c i).0 (clauses_bounded P F is))
 
-    pub rows_broken : (rows kept : List (List Literal)) → FindsBoth r f rows → kept ≡ once [] rows → AreAllBroken P F w kept
-    rows_broken rows kept h e =
+    pub rows_broken : (rows some kept : List (List Literal)) → FindsBoth r f rows → IsPickedFrom rows some → kept ≡ once [] some → AreAllBroken P F w kept
+    rows_broken rows some kept h p e =
         subst (AreAllBroken P F w) (sym e)
         (record {
           broken = record {
-            part = record { distinct = once_distinct [] rows tt; within = λ c i. (in_all rows h c (once_within rows c i)).0 };
-            broken = λ c i. (in_all rows h c (once_within rows c i)).1;
+            part = record { distinct = once_distinct [] some tt; within = λ c i. (in_all rows h c (p.within c (once_within some c i))).0 };
+            broken = λ c i. (in_all rows h c (p.within c (once_within some c i))).1;
           };
-          none = λ q. all_from (clause_true w) (clauses P F) (λ c i. (rows_found rows h).all (once_empty rows q) c i);
+          none = λ q. all_from (clause_true w) (clauses P F) (λ c i. (rows_found rows h).all (p.one (once_empty some q)) c i);
         })
 
 -- The same, as the code comes to it.
@@ -222,7 +218,7 @@ pub bounded_from : (r : Reading) (P : Parts) (F : Formula) (cs : List (List Lite
 bounded_from r P F cs v reads is are f simple rows k h e =
     rows_bounded r F (subst (λ Q. IsSentence Q F) (sym reads.0) is) (subst (λ Q. AreFactsOf Q F r.names.facts.now) (sym reads.0) are) cs v reads.1 reads.2 f simple rows k h (e ∙ ap (λ Q. atoms Q F) (sym reads.0))
 
-pub broken_from : (r : Reading) (P : Parts) (F : Formula) (cs : List (List Literal)) (v : ℕ → Bool) → IsReading r P cs v → IsSentence P F → AreFactsOf P F r.names.facts.now → (f : Form) → f ≡ simplified (form_of F) → (rows kept : List (List Literal)) → FindsBoth r f rows → kept ≡ once [] rows → AreAllBroken P F (completed P F cs v) kept
-broken_from r P F cs v reads is are f simple rows kept h e =
+pub broken_from : (r : Reading) (P : Parts) (F : Formula) (cs : List (List Literal)) (v : ℕ → Bool) → IsReading r P cs v → IsSentence P F → AreFactsOf P F r.names.facts.now → (f : Form) → f ≡ simplified (form_of F) → (rows some kept : List (List Literal)) → FindsBoth r f rows → IsPickedFrom rows some → kept ≡ once [] some → AreAllBroken P F (completed P F cs v) kept
+broken_from r P F cs v reads is are f simple rows some kept h p e =
     subst (λ Q. AreAllBroken Q F (completed Q F cs v) kept) reads.0
-    (rows_broken r F (subst (λ Q. IsSentence Q F) (sym reads.0) is) (subst (λ Q. AreFactsOf Q F r.names.facts.now) (sym reads.0) are) cs v reads.1 reads.2 f simple rows kept h e)
+    (rows_broken r F (subst (λ Q. IsSentence Q F) (sym reads.0) is) (subst (λ Q. AreFactsOf Q F r.names.facts.now) (sym reads.0) are) cs v reads.1 reads.2 f simple rows some kept h p e)

@@ -5,15 +5,16 @@ use Rattle.csdn_core.specs.declared.terms.Sort.{Sort}
 use Rattle.csdn_core.specs.declared.terms.VarId.{VarId}
 use Rattle.csdn_core.specs.Members.{IsIn}
 use Rattle.csdn_core.specs.Truth.{same_truth}
-use Rattle.clause_log.specs.Literals.{Literal, clause_true, literal_true}
+use Rattle.clause_log.specs.Literals.{ClauseList, Literal, clause_true, literal_true}
 use Rattle.fol_forms.specs.Forms.{Form}
 use Rattle.fol_forms.specs.Constants.{need}
 use Rattle.decision_laws.specs.Copies.{judge}
 use Rattle.decision_laws.specs.Clauses.{size, top, node_clauses, member_clause}
 use Rattle.ground_inst.specs.Walk.{Ways, State, bound, copies_at, ways_of}
-use Rattle.lazy_ground.specs.declared.reading.Reading.{Reading}
+use Rattle.copy_truth.specs.declared.reading.Reading.{Reading}
 use Rattle.lazy_ground.specs.declared.looking.Seen.{Seen}
-use Rattle.lazy_ground.specs.Readings.{Completes, IsGiven, makes_node, said_by}
+use Rattle.lazy_ground.specs.Readings.{Completes, IsGiven}
+use Rattle.copy_truth.specs.Said.{said_by}
 use Rattle.std.specs.Prelude.{Option}
 
 -- a pass over these clauses puts some that the valuation breaks behind those that were found before; none only where it breaks
@@ -97,3 +98,17 @@ put_clause cs c = if has_clause cs c then cs else cs ++ c ∷ []
 abbrev pub once : List (List Literal) → List (List Literal) → List (List Literal)
 once done [] = done
 once done (c ∷ cs) = once (put_clause done c) cs
+
+-- some of these clauses, and at least one where there is one
+pub record IsPickedFrom (found some : List (List Literal)) : Type 0 where
+  pub within : (c : List Literal) → IsIn c some → IsIn c found
+  pub one : some ≡ [] → found ≡ []
+
+pub record Picks (found some : ClauseList) : Type 0 where
+  pub atoms : some.atoms ≡ found.atoms
+  pub picked : IsPickedFrom found.clauses some.clauses
+
+-- a clause is put behind the others, if it is wanted
+abbrev pub PutsIf : Bool → ClauseList → ClauseList → List Literal → Type 0
+PutsIf true old new c = new ≡ record { atoms = old.atoms; clauses = old.clauses ++ c ∷ [] }
+PutsIf false old new c = new ≡ old

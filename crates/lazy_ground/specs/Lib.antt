@@ -2,9 +2,7 @@ pub mod Completed
 pub mod First
 pub mod Lazy
 pub mod Readings
-pub mod Judged
 pub mod Found
 pub mod Tuples
 pub mod Whole
 pub mod Opened
-pub mod Early

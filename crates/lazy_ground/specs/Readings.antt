@@ -3,10 +3,11 @@ use Rattle.std.specs.Prelude.{◌≡◌, ℕ, suc, ◌+◌, ◌<◌, ◌≤◌, 
 use Rattle.csdn_core.specs.declared.terms.Sort.{Sort}
 use Rattle.clause_log.specs.Literals.{truths}
 use Rattle.fol_forms.specs.Forms.{Form, Fixed, Atom, Same, And, Or, ForAll, ForSome}
-use Rattle.decision_laws.specs.Copies.{Fact, Copy, Known, Leaf, Both, Either, Each, judge}
+use Rattle.decision_laws.specs.Copies.{Copy, Known, Leaf, Both, Either, Each, judge}
 use Rattle.decision_laws.specs.Clauses.{size, sum_from}
 use Rattle.ground_inst.specs.Facts.{num_of}
-use Rattle.lazy_ground.specs.declared.reading.Reading.{Reading}
+use Rattle.copy_truth.specs.declared.reading.Reading.{Reading}
+use Rattle.copy_truth.specs.Said.{said_by}
 
 -- none of so many atoms from k on is true
 abbrev pub IsFree : (ℕ → Bool) → ℕ → ℕ → Type 0
@@ -15,10 +16,6 @@ IsFree named k count = (x : ℕ) → k ≤ x → x < k + count → named x ≡ f
 -- no number from a place of the list on is below the end
 abbrev pub IsPast : List ℕ → ℕ → ℕ → Type 0
 IsPast xs place end = place < length xs → end ≤ slice_index_or xs place 0
-
--- what is said of a fact
-unfoldable pub said_by : Reading → Fact → Bool
-said_by r fact = truths r.trues.now (num_of r.names.facts.now fact)
 
 abbrev pub named_by : Reading → ℕ → Bool
 named_by r = truths r.named.now

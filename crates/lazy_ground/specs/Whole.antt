@@ -9,7 +9,7 @@ use Rattle.decision_laws.specs.Clauses.{equality_clauses, whole_clauses}
 use Rattle.ground_inst.specs.Copies.{copies_over}
 use Rattle.ground_inst.specs.Facts.{num_of, vocabulary_of}
 use Rattle.ground_inst.specs.Walk.{named_clauses}
-use Rattle.lazy_ground.specs.declared.reading.Reading.{Reading}
+use Rattle.copy_truth.specs.declared.reading.Reading.{Reading}
 use Rattle.lazy_ground.specs.Found.{Finds}
 use Rattle.lazy_ground.specs.Readings.{Completes, true_by}
 

@@ -17,10 +17,11 @@ use crate::collecting::{each_once, joined};
 use crate::equalities::find_equality;
 use crate::looking::look;
 use crate::naming::{both_true, named_atoms};
-use crate::needing::sum;
-use crate::reading::Reading;
+use crate::picking::picked;
 use crate::sentence::LazyGround;
 use clause_log::{Clauses, Valuation};
+use copy_truth::needing::sum;
+use copy_truth::reading::Reading;
 use csdn_core::program::{Parts, Program};
 use csdn_core::syntax::Formula;
 use ground_inst::places::Names;
@@ -72,17 +73,24 @@ fn broken_clauses(
         named: &named,
         trues: &trues,
     };
-    let rows = broken_rows(alloc, &reading, lazy.simple.get())?;
+    let mut marks = Vec::new(alloc);
+    let rows = broken_rows(alloc, &reading, lazy.simple.get(), &mut marks)?;
     let found = rows.into_clauses(lazy.made.clauses.atoms());
-    each_once(alloc, &found)
+    let some = picked(alloc, &found, &marks)?;
+    each_once(alloc, &some)
 }
 
 // The clauses of a formula's copies and of equality that are found.
-fn broken_rows(alloc: Global, r: &Reading, formula: &Formula) -> Result<Rows, AllocError>
+fn broken_rows(
+    alloc: Global,
+    r: &Reading,
+    formula: &Formula,
+    marks: &mut Vec<u64>,
+) -> Result<Rows, AllocError>
     ensures { IfOk result (λ rows. FindsBoth r.now (form_of formula.now) rows) }
 {
     let mut rows = Rows::new(alloc);
-    find_copies(alloc, r, formula, &mut rows)?;
+    find_copies(alloc, r, formula, marks, &mut rows)?;
     find_equality(alloc, r.names.parts, r.names.facts, r.trues, &mut rows)?;
     Ok(rows)
 }
@@ -92,6 +100,7 @@ fn find_copies(
     alloc: Global,
     r: &Reading,
     formula: &Formula,
+    marks: &mut Vec<u64>,
     rows: &mut Rows,
 ) -> Result<(), AllocError>
     ensures { OnOk result (FindsWhole r.now (form_of formula.now) rows.old rows.new) }
@@ -99,7 +108,7 @@ fn find_copies(
     match copied_value(&r.names.facts.counts, formula, true) {
         Some(true) => Ok(()),
         Some(false) => rows.push(&[]),
-        None => find_nodes(alloc, r, formula, rows),
+        None => find_nodes(alloc, r, formula, marks, rows),
     }
 }
 
@@ -108,6 +117,7 @@ fn find_nodes(
     alloc: Global,
     r: &Reading,
     formula: &Formula,
+    marks: &mut Vec<u64>,
     rows: &mut Rows,
 ) -> Result<(), AllocError>
     ensures { OnOk result (FindsNodes r.now (form_of formula.now) rows.old rows.new) }
@@ -118,7 +128,8 @@ fn find_nodes(
         next: sum(r.names.facts.count, 1)?,
         rows: replace(rows, Rows::new(alloc)),
     };
-    let seen = look(r, formula, true, None, &mut work)?;
+    let first = work.next;
+    let seen = look(r, formula, true, None, first, marks, &mut work)?;
     *rows = work.rows;
     if seen.value {
         return Ok(());

@@ -1,7 +1,7 @@
 //! The false clauses by which equal constants replace each other in true tuples.
 #![tactic(auto)]
 
-ghost use Rattle.std.specs.Prelude.{◌≡◌, ◌<◌, ◌++◌, [], ◌∷◌, OnOk, flat_map, length, option_copied, slice_index_or};
+ghost use Rattle.std.specs.Prelude.{◌≡◌, ◌<◌, ◌++◌, [], ◌∷◌, OnOk, flat_map, length, slice_index_or};
 ghost use Rattle.clause_log.specs.Literals.{truths};
 ghost use Rattle.fol_forms.specs.Counts.{count_of};
 ghost use Rattle.decision_laws.specs.Clauses.{no as no_of, replace_clauses};
@@ -11,15 +11,16 @@ ghost use Rattle.decision_laws.specs.Vocabulary.{places_from};
 ghost use Rattle.ground_inst.specs.Equality.{exchange_at, exchanges};
 ghost use Rattle.ground_inst.specs.Facts.{num_of, vocabulary_of};
 ghost use Rattle.lazy_ground.specs.Found.{Finds};
-ghost use Rattle.lazy_ground.specs.Tuples.{tuple_clauses, used_in};
+ghost use Rattle.lazy_ground.specs.Tuples.{tuple_clauses};
 
 use crate::reading::offer;
 use clause_log::{Lit, Valuation};
+use copy_truth::tuples::used_of;
 use csdn_core::terms::{Pred, Sort};
 use fol_forms::instances::Counts;
 use ground_inst::constants::Constants;
 use ground_inst::exchange::exchanged_atom;
-use ground_inst::facts::{Facts, UsedRelation, equation_atom, tuple_atom, tuple_count};
+use ground_inst::facts::{UsedRelation, equation_atom, tuple_atom, tuple_count};
 use ground_inst::places::literal;
 use ground_inst::rows::Rows;
 use std::alloc::AllocError;
@@ -39,20 +40,6 @@ pub fn find_replacements(
         None => Ok(()),
         Some(used) => find_tuples(constants, trues, relation, used, places, rows),
     }
-}
-
-// The first of the kept relations that is this one.
-fn used_of<'a>(facts: &'a Facts, relation: Pred) -> Option<&'a UsedRelation>
-    ensures { option_copied result ≡ used_in facts.now.relations relation }
-{
-    let mut rest = facts.relations.as_slice();
-    'relations: while let [used, more @ ..] = rest {
-        if used.relation.is_same(relation) {
-            return Some(used);
-        }
-        rest = more;
-    }
-    None
 }
 
 // The same of the tuples that are true.

@@ -6,15 +6,12 @@
 
 pub mod adding;
 mod collecting;
-mod early;
 mod equalities;
 mod exchanges;
-mod facts;
-mod judging;
 mod looking;
 pub mod naming;
-mod needing;
 mod opening;
+mod picking;
 mod reading;
 pub mod sentence;
 pub mod starting;

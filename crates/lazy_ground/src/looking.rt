@@ -10,14 +10,15 @@ ghost use Rattle.fol_forms.specs.Counts.{count_of};
 ghost use Rattle.fol_forms.specs.Forms.{And, Atom, ForAll, ForSome, Or, Same, normal_form};
 ghost use Rattle.decision_laws.specs.Weights.{weight as weight_of};
 ghost use Rattle.ground_inst.specs.Walk.{copies_at, scope, state_of, ways_of};
-ghost use Rattle.lazy_ground.specs.Judged.{judged_copies};
+ghost use Rattle.copy_truth.specs.Judged.{judged_copies};
 ghost use Rattle.lazy_ground.specs.Readings.{IsFree, IsGiven, given_unless as given_by, makes_node, named_by, node_value};
 ghost use Rattle.lazy_ground.specs.Found.{Looks, LooksAt, LooksBound, LooksInto, LooksMember};
 
-use crate::judging::judge;
-use crate::needing::{past, sum};
-use crate::reading::{Reading, is_free, is_true};
+use crate::reading::is_free;
 use clause_log::Lit;
+use copy_truth::judging::judge;
+use copy_truth::needing::{past, sum};
+use copy_truth::reading::{Reading, is_true};
 use csdn_core::syntax::Formula;
 use csdn_core::terms::{Pred, Sort, Term, Terms, VarId};
 use fol_forms::signed::{Signed, view};
@@ -36,12 +37,15 @@ pub struct Seen {
 
 #[cycle(look)]
 /// Appends clauses of the copies of a formula, or for the sign `false` of its negation, that the completed valuation breaks, and
-/// answers the literal of the whole. Where its truth value is given, it is not looked for.
+/// answers the literal of the whole. Where its truth value is given, it is not looked for. The foralls of a formula that stand one
+/// in another are one block; `marks` gets, for each clause, the number of its block, which for the formula itself is `block`.
 pub fn look(
     r: &Reading,
     formula: &Formula,
     sign: bool,
     given: Option<bool>,
+    block: u64,
+    marks: &mut Vec<u64>,
     work: &mut Work,
 ) -> Result<Seen, AllocError>
     ensures { IfOk result (λ seen. Looks r.now (normal_form sign formula.now) given (state_of work.old) (state_of work.new) seen) }
@@ -50,17 +54,19 @@ pub fn look(
         Signed::Truth(_) => Err(AllocError),
         Signed::Atom(sign, pred, terms) => look_tuple(r, sign, pred, terms, given, work),
         Signed::Equal(sign, t, u) => look_equation(r, sign, t, u, given, work),
-        Signed::Both(_, _) => look_node(r, formula, sign, given, work),
-        Signed::Either(_, _) => look_node(r, formula, sign, given, work),
+        Signed::Both(_, _) => look_node(r, formula, sign, given, block, marks, work),
+        Signed::Either(_, _) => look_node(r, formula, sign, given, block, marks, work),
         Signed::Cases(_, _) => Err(AllocError),
         Signed::Forall(var, sort, p) => {
             let count = r.names.facts.counts.of(sort);
             if count > 1 {
-                return look_node(r, formula, sign, given, work);
+                return look_node(r, formula, sign, given, block, marks, work);
             }
-            look_only(r, var, sort, p.formula, p.sign, given, work)
+            look_only(r, var, sort, p.formula, p.sign, given, block, marks, work)
         }
-        Signed::Exists(var, sort, p) => { look_free(r, var, sort, p.formula, p.sign, given, work) }
+        Signed::Exists(var, sort, p) => {
+            look_free(r, var, sort, p.formula, p.sign, given, block, marks, work)
+        }
     }
 }
 
@@ -152,6 +158,8 @@ fn look_node(
     formula: &Formula,
     sign: bool,
     given: Option<bool>,
+    block: u64,
+    marks: &mut Vec<u64>,
     work: &mut Work,
 ) -> Result<Seen, AllocError>
     ensures { IfOk result (λ seen. makes_node (ways_of r.now.names).count (normal_form sign formula.now) ≡ true → Looks r.now (normal_form sign formula.now) given (state_of work.old) (state_of work.new) seen) }
@@ -162,7 +170,7 @@ fn look_node(
     }
     let value = value_at(r, formula, sign, work)?;
     let top = literal(true, work.next)?;
-    look_into(r, formula, sign, value, work)?;
+    look_into(r, formula, sign, value, block, marks, work)?;
     Ok(Seen {
         literal: top,
         value,
@@ -176,6 +184,8 @@ fn look_into(
     formula: &Formula,
     sign: bool,
     value: bool,
+    block: u64,
+    marks: &mut Vec<u64>,
     work: &mut Work,
 ) -> Result<(), AllocError>
     ensures { OnOk result (LooksInto r.now (normal_form sign formula.now) value (state_of work.old) (state_of work.new)) }
@@ -185,17 +195,23 @@ fn look_into(
         Signed::Atom(_, _, _) => Err(AllocError),
         Signed::Equal(_, _, _) => Err(AllocError),
         Signed::Both(p, q) => {
-            look_into_both(r, p.formula, p.sign, q.formula, q.sign, value, work)
+            look_into_both(r, p.formula, p.sign, q.formula, q.sign, value, marks, work)
         }
         Signed::Either(p, q) => {
-            look_into_either(r, p.formula, p.sign, q.formula, q.sign, value, work)
+            look_into_either(r, p.formula, p.sign, q.formula, q.sign, value, marks, work)
         }
         Signed::Cases(_, _) => Err(AllocError),
         Signed::Forall(var, sort, p) => {
-            look_into_all(r, var, sort, p.formula, p.sign, value, work)
+            look_into_all(r, var, sort, p.formula, p.sign, value, block, marks, work)
         }
         Signed::Exists(_, _, _) => Err(AllocError),
     }
+}
+
+// Keeps, beside a clause, of which block it is.
+fn note(marks: &mut Vec<u64>, block: u64) -> Result<(), AllocError> {
+    marks.push(block)?;
+    Ok(())
 }
 
 // No value is given where it has to be known.
@@ -220,12 +236,15 @@ fn look_member(
     sign: bool,
     x: u64,
     asked: bool,
+    block: u64,
+    marks: &mut Vec<u64>,
     work: &mut Work,
 ) -> Result<bool, AllocError>
     ensures { IfOk result (λ still. LooksMember r.now (normal_form sign formula.now) x asked (state_of work.old) (state_of work.new) still) }
 {
-    let seen = look(r, formula, sign, given_unless(asked), work)?;
+    let seen = look(r, formula, sign, given_unless(asked), block, marks, work)?;
     if is_missing(asked, seen.value) {
+        note(marks, block)?;
         push_member(&mut work.rows, x, seen.literal)?;
         return Ok(false);
     }
@@ -241,13 +260,16 @@ fn look_into_both(
     q: &Formula,
     q_sign: bool,
     value: bool,
+    marks: &mut Vec<u64>,
     work: &mut Work,
 ) -> Result<(), AllocError>
     ensures { OnOk result (LooksInto r.now (And (normal_form p_sign p.now) (normal_form q_sign q.now)) value (state_of work.old) (state_of work.new)) }
 {
     let x = number(work)?;
-    look_member(r, p, p_sign, x, value, work)?;
-    look_member(r, q, q_sign, x, value, work)?;
+    let first = work.next;
+    look_member(r, p, p_sign, x, value, first, marks, work)?;
+    let second = work.next;
+    look_member(r, q, q_sign, x, value, second, marks, work)?;
     Ok(())
 }
 
@@ -260,19 +282,23 @@ fn look_into_either(
     q: &Formula,
     q_sign: bool,
     value: bool,
+    marks: &mut Vec<u64>,
     work: &mut Work,
 ) -> Result<(), AllocError>
     ensures { OnOk result (LooksInto r.now (Or (normal_form p_sign p.now) (normal_form q_sign q.now)) value (state_of work.old) (state_of work.new)) }
 {
     let x = number(work)?;
     let start = work.base;
-    let a = look(r, p, p_sign, given_unless(value), work)?;
+    let first = work.next;
+    let a = look(r, p, p_sign, given_unless(value), first, marks, work)?;
     let after = work.base;
     work.base = start;
     let wanted = is_missing(value, a.value);
-    let b = look(r, q, q_sign, given_unless(wanted), work)?;
+    let second = work.next;
+    let b = look(r, q, q_sign, given_unless(wanted), second, marks, work)?;
     work.base = larger(after, work.base);
     if is_missing(wanted, b.value) {
+        note(marks, x)?;
         return push_either(&mut work.rows, x, a.literal, b.literal);
     }
     Ok(())
@@ -286,12 +312,14 @@ fn look_at(
     formula: &Formula,
     sign: bool,
     given: Option<bool>,
+    block: u64,
+    marks: &mut Vec<u64>,
     work: &mut Work,
 ) -> Result<Seen, AllocError>
     ensures { IfOk result (λ seen. LooksAt r.now (normal_form sign formula.now) binding.var binding.sort binding.place given (state_of work.old) (state_of work.new) seen) }
 {
     bind(&mut work.env, binding)?;
-    let seen = look(r, formula, sign, given, work)?;
+    let seen = look(r, formula, sign, given, block, marks, work)?;
     work.env.pop();
     Ok(seen)
 }
@@ -305,6 +333,8 @@ fn look_only(
     formula: &Formula,
     sign: bool,
     given: Option<bool>,
+    block: u64,
+    marks: &mut Vec<u64>,
     work: &mut Work,
 ) -> Result<Seen, AllocError>
     ensures { IfOk result (λ seen. Looks r.now (ForAll var sort (normal_form sign formula.now)) given (state_of work.old) (state_of work.new) seen) }
@@ -318,7 +348,7 @@ fn look_only(
         sort,
         place: 0,
     };
-    let seen = look_at(r, binding, formula, sign, given, work)?;
+    let seen = look_at(r, binding, formula, sign, given, block, marks, work)?;
     work.base = start;
     Ok(seen)
 }
@@ -332,13 +362,24 @@ fn look_free(
     formula: &Formula,
     sign: bool,
     given: Option<bool>,
+    block: u64,
+    marks: &mut Vec<u64>,
     work: &mut Work,
 ) -> Result<Seen, AllocError>
     ensures { IfOk result (λ seen. Looks r.now (ForSome var sort (normal_form sign formula.now)) given (state_of work.old) (state_of work.new) seen) }
 {
     let place = work.base.of(sort);
     work.base = one_more(work.base, sort)?;
-    look_at(r, Binding { var, sort, place }, formula, sign, given, work)
+    look_at(
+        r,
+        Binding { var, sort, place },
+        formula,
+        sign,
+        given,
+        block,
+        marks,
+        work,
+    )
 }
 
 #[cycle(look)]
@@ -350,12 +391,14 @@ fn look_bound(
     sign: bool,
     x: u64,
     asked: bool,
+    block: u64,
+    marks: &mut Vec<u64>,
     work: &mut Work,
 ) -> Result<bool, AllocError>
     ensures { IfOk result (λ still. LooksBound r.now (normal_form sign formula.now) binding.var binding.sort binding.place x asked (state_of work.old) (state_of work.new) still) }
 {
     bind(&mut work.env, binding)?;
-    let still = look_member(r, formula, sign, x, asked, work)?;
+    let still = look_member(r, formula, sign, x, asked, block, marks, work)?;
     work.env.pop();
     Ok(still)
 }
@@ -369,6 +412,8 @@ fn look_into_all(
     formula: &Formula,
     sign: bool,
     value: bool,
+    block: u64,
+    marks: &mut Vec<u64>,
     work: &mut Work,
 ) -> Result<(), AllocError>
     ensures { OnOk result (LooksInto r.now (ForAll var sort (normal_form sign formula.now)) value (state_of work.old) (state_of work.new)) }
@@ -389,6 +434,8 @@ fn look_into_all(
             sign,
             x,
             asked,
+            block,
+            marks,
             work,
         )?;
     }

@@ -13,8 +13,8 @@ ghost use Rattle.ground_inst.specs.Walk.{state_of, ways_of};
 ghost use Rattle.lazy_ground.specs.First.{open_named, open_whole};
 ghost use Rattle.lazy_ground.specs.Opened.{AddsAt, AddsMember, AddsOpen};
 
-use crate::needing::sum;
 use clause_log::Lit;
+use copy_truth::needing::sum;
 use csdn_core::program::Parts;
 use csdn_core::syntax::Formula;
 use csdn_core::terms::{Sort, VarId};

@@ -2,30 +2,14 @@
 #![tactic(auto)]
 
 ghost use Rattle.std.specs.Prelude.{◌≡◌, ◌+◌, ◌∷◌, [], true, OnOk};
-ghost use Rattle.clause_log.specs.Literals.{clause_true, literal_true, truths};
+ghost use Rattle.clause_log.specs.Literals.{clause_true, truths};
 ghost use Rattle.lazy_ground.specs.Found.{Finds};
 ghost use Rattle.lazy_ground.specs.Readings.{IsFree, IsPast};
 
 use clause_log::{Lit, Valuation};
-use ground_inst::places::Names;
+use copy_truth::reading::is_true;
 use ground_inst::rows::Rows;
 use std::alloc::AllocError;
-
-/// The program's names and the facts of a sentence, the atoms that its clauses name, and the true ones among them.
-#[derive(Clone, Copy)]
-pub struct Reading<'a> {
-    pub names: Names<'a>,
-    pub named: &'a Valuation,
-    pub trues: &'a Valuation,
-}
-
-/// Whether a literal is true.
-pub fn is_true(trues: &Valuation, l: Lit) -> bool
-    ensures { result ≡ literal_true (truths trues.now) l }
-{
-    let value = trues.value(l.atom());
-    if l.is_positive() { value } else { !value }
-}
 
 // Whether a clause is true.
 fn is_clause_true(trues: &Valuation, literals: &[Lit]) -> bool

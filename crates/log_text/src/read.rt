@@ -27,16 +27,26 @@ pub enum LogRefusal {
     Memory,
 }
 
-// Where in a text one is, with what was read of the open block.
+/// Where in a text one is, with what was read of the open block.
 #[derive(Drop)]
 pub enum Place {
+    /// Before the first line.
     Header,
+    /// Outside of blocks.
     Between,
+    /// Behind `block NAME`.
     Named(Text),
+    /// Behind `atoms N`, with the clauses and steps so far.
     Open(Block),
 }
 
-/// The blocks of a log text.
+/// The blocks of a log text (docs/FORMATS.md, "Log text"). It goes over the text once; a line of n literals takes n log
+/// n steps.
+///
+/// # Errors
+///
+/// `Line` with the first line that is refused, counted from 1, or with the line one past the last, where a block is
+/// open there or the header is missing. `Memory` where memory ran out.
 pub fn read_log(alloc: Global, text: &[u8]) -> Result<Blocks, LogRefusal>
     ensures { Gives result (reading log_format text.now) }
 {

@@ -11,7 +11,7 @@ use clause_log::{Lit, MOST_HINT};
 use std::alloc::Global;
 use text_lines::{Words, behind_word, read_number};
 
-// Why a line isn't taken.
+/// Why a line isn't taken.
 #[derive(Clone, Copy, Debug)]
 pub enum Stop {
     Refused,
@@ -94,7 +94,7 @@ fn hints<'a>(words: Words<'a>, found: &mut Vec<u64>) -> Result<Words<'a>, Stop>
     }
 }
 
-/// Reads `vericon-log 1`.
+/// Reads `vericon-log 1`; `None` for every other line.
 #[tactic(auto, unfolding(crate::specs::Words::header_of))]
 pub fn header(words: Words) -> Option<()>
     ensures { result ≡ header_of words.entry }
@@ -130,7 +130,8 @@ fn is_name(name: &[u8]) -> bool
     are_printable(name)
 }
 
-/// Reads `block NAME`.
+/// The name of `block NAME`: the line behind its first word, of 1 to 200 bytes from 0x20 to 0x7e; `None` for every
+/// other line.
 #[tactic(auto, unfolding(crate::specs::Words::name_of))]
 pub fn name(line: &[u8]) -> Option<&[u8]>
     ensures { option_copied result ≡ name_of line.now }
@@ -144,7 +145,7 @@ pub fn name(line: &[u8]) -> Option<&[u8]>
     }
 }
 
-/// Reads `atoms N`.
+/// The number of `atoms N`, at most 2^62 - 1; `None` for every other line.
 #[tactic(auto, unfolding(crate::specs::Words::atoms_of))]
 pub fn atoms(words: Words) -> Option<u64>
     ensures value { result ≡ atoms_of words.entry }
@@ -160,7 +161,8 @@ pub fn atoms(words: Words) -> Option<u64>
     }
 }
 
-/// The literals of a clause line, from the words behind its first.
+/// The literals of `c LITERAL .. 0`, of distinct atoms from 1 to `atoms`, from the words behind `c`. Every other line
+/// is `Refused`. It takes n log n steps.
 #[tactic(auto, unfolding(crate::specs::Words::clause_of))]
 pub fn clause(alloc: Global, words: Words, atoms: u64) -> Result<Vec<Lit>, Stop>
     requires { atoms < 2 ^ 62 }
@@ -178,14 +180,15 @@ pub fn clause(alloc: Global, words: Words, atoms: u64) -> Result<Vec<Lit>, Stop>
     }
 }
 
-/// What a step line says.
+/// What a step line says: the clause that it adds, and the numbers of the clauses from which that follows.
 #[derive(Drop)]
 pub struct StepLine {
     pub literals: Vec<Lit>,
     pub hints: Vec<u64>,
 }
 
-/// The literals and hints of a step line, from the words behind its first.
+/// The literals and hints of `s LITERAL .. 0 HINT .. 0`, from the words behind `s`: literals as in a clause, and hints
+/// from 1 to 2^63 - 1. Every other line is `Refused`. It takes n log n steps.
 #[tactic(auto, unfolding(crate::specs::Words::step_of))]
 pub fn step(alloc: Global, words: Words, atoms: u64) -> Result<StepLine, Stop>
     requires { atoms < 2 ^ 62 }

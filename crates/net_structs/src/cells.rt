@@ -40,7 +40,7 @@ impl Cells {
         self.cells.push(element);
     }
 
-    /// These elements.
+    /// These elements, of which there are at most five.
     pub fn of(elements: &[u64]) -> Cells
         requires { length elements.now ≤ 5 }
         ensures { result ≡ elements.now }
@@ -52,6 +52,7 @@ impl Cells {
         cells
     }
 
+    /// The elements, in their order: at most five.
     pub fn as_slice(&self) -> &[u64]
         ensures value { result.now ≡ self.now }
         ensures fits { length result.now ≤ 5 }

@@ -33,6 +33,7 @@ pub struct NetParts {
 /// Why parts are no network of a program.
 #[derive(Debug, Drop, Error)]
 pub enum NetRefusal {
+    /// The first sort without elements, in the order SW, HO, PR.
     #[error("a sort has no elements")]
     EmptySort { sort: Sort },
     /// The first element of the sort's list that stands earlier in it.
@@ -170,7 +171,7 @@ fn fault(network: &Network, program: &Program, rows: &[Row]) -> Option<NetRefusa
     }
 }
 
-/// The first of the numerals that is no port.
+/// The first of the numerals that is no port; `None` where all are.
 pub fn missing_port(network: &Network, numerals: &[u16]) -> Option<u16>
     ensures { result ≡ first_missing network.now.ports numerals.now }
 {

@@ -62,6 +62,7 @@ fn number_or(word: &[u8]) -> Result<u64, Stop>
     }
 }
 
+/// Reads `vericon-net 1`. Every other line is refused for `Header`.
 #[tactic(auto, unfolding(crate::specs::Lines::header_of))]
 pub fn header(words: Words) -> Result<(), Stop>
     ensures { Finds result (header_of words.entry) (λ u. u) }
@@ -75,7 +76,7 @@ pub fn header(words: Words) -> Result<(), Stop>
     end_or(words, Why::Header)
 }
 
-// The words behind the first, which has to be `key`.
+/// The words behind the first, which has to be `key`; else the line is refused for `Shape`.
 #[tactic(auto, unfolding(crate::specs::Lines::behind))]
 pub fn behind<'a>(key: &[u8], words: Words<'a>) -> Result<Words<'a>, Stop>
     ensures { Finds result (behind_of key.now words.entry) (λ rest. rest) }
@@ -104,6 +105,8 @@ fn elements(words: Words, found: &mut Elements) -> Result<(), Stop>
     }
 }
 
+/// The elements of a sort, from the words behind `sw`, `ho` or `pr`. Refused are, in order, a word that is no element
+/// (`Number`), no words (`Empty`), and an element twice (`Repeated`).
 #[tactic(auto, unfolding(crate::specs::Lines::sort_of))]
 pub fn sort(alloc: Global, words: Words) -> Result<Elements, Stop>
     ensures { Finds result (sort_of words.entry) (λ es. es) }
@@ -132,6 +135,8 @@ fn no_values(alloc: Global, constants: &[Constant]) -> Result<Values, AllocError
     Ok(values)
 }
 
+/// The network of these switches and hosts, and of the ports that the words behind `pr` are, without tuples and without
+/// values of constants. Refused as by `sort`, and then where a port that the program names is missing (`NoPort`).
 #[tactic(auto, unfolding(crate::specs::Lines::ports_of))]
 pub fn ports(
     alloc: Global,
@@ -182,7 +187,9 @@ fn has_value(values: &Values, constant: Option<(usize, Sort)>) -> bool
     }
 }
 
-// The network with the value of `c NAME E`, from the words behind `c`.
+/// The network with the value of `c NAME E`, from the words behind `c`. Refused are, in order, another number of words
+/// than two or a constant that has its value (`Shape`), a word that is no element (`Number`), a name that is no
+/// constant's (`Name`), and an element of another sort (`Stranger`).
 #[tactic(auto, unfolding(crate::specs::Lines::constant_of))]
 pub fn constant(program: &Program, draft: Open, words: Words) -> Result<Open, Stop>
     ensures { Finds result (constant_of program.now draft words.entry) (λ new. new) }
@@ -214,6 +221,7 @@ fn with_value(values: Values, at: usize, e: u64) -> Values
     values
 }
 
+/// The values of the constants, in the order of the program; `None` where one of them has none.
 pub fn all_values(alloc: Global, values: &Values) -> Result<Option<Elements>, AllocError>
     ensures { IfOk result (λ found. found ≡ values_from [] values.now) }
 {
@@ -257,7 +265,9 @@ fn cells(network: &Network, sorts: &[Sort], elements: &[u64]) -> Result<Cells, S
     Ok(Cells::of(elements))
 }
 
-// The relation and the tuple of `t NAME E ..`, from the words behind `t`.
+/// The relation and the tuple of `t NAME E ..`, from the words behind `t`. Refused are, in order, no words (`Shape`), a
+/// word that is no element (`Number`), a name that is not that of a relation of this kind (`Name`), another number of
+/// elements than it has (`Arity`), and an element of another sort (`Stranger`).
 #[tactic(auto, unfolding(crate::specs::Lines::tuple_of))]
 pub fn tuple(
     alloc: Global,
@@ -279,7 +289,9 @@ pub fn tuple(
     Ok((rel, cells))
 }
 
-// The tuple of `ft E E E E E` and of `sent E E E E E`, from the words behind their first.
+/// The tuple of `ft E E E E E` and of `sent E E E E E`, from the words behind their first. Refused are, in order, a
+/// word that is no element (`Number`), another number of words than five (`Arity`), and an element of another sort
+/// (`Stranger`).
 #[tactic(auto, unfolding(crate::specs::Lines::flow_of))]
 pub fn flow(alloc: Global, network: &Network, words: Words) -> Result<Cells, Stop>
     ensures { Finds result (flow_of network.now words.entry) (λ cells. cells) }
@@ -289,7 +301,9 @@ pub fn flow(alloc: Global, network: &Network, words: Words) -> Result<Cells, Sto
     cells(network, &FLOW_SORTS, found.as_slice())
 }
 
-// The packet of `packet E E E E`, from the words behind `packet`.
+/// The packet of `packet E E E E`, from the words behind `packet`: switch, source, destination and ingress port.
+/// Refused are, in order, another number of words than four (`Shape`), a word that is no element (`Number`), and an
+/// element of another sort (`Stranger`).
 #[tactic(auto, unfolding(crate::specs::Lines::packet_of))]
 pub fn packet(network: &Network, words: Words) -> Result<Packet, Stop>
     ensures { Finds result (packet_of network.now words.entry) (λ packet. packet) }

@@ -20,7 +20,8 @@ use text_lines::{put_line, put_line_end, put_next_number, put_next_word, put_wor
 /// The bytes of a text.
 pub type Text = Items<u8>;
 
-/// The text of a case: elements and tuples rising, constants and relations in the program's order.
+/// The text of a case (docs/FORMATS.md, "Network text"): elements and tuples rising, constants and relations in the
+/// program's order.
 pub fn print_net(alloc: Global, program: &Program, case: &Case) -> Result<Text, AllocError>
     ensures { IfOk result (λ text. text ≡ net_text program.now case.now) }
 {

@@ -15,7 +15,29 @@ use net_structs::state::State;
 use std::alloc::Global;
 use text_lines::{Lines, Next, Words};
 
-/// The network of a text, with its state and its packet.
+/// The network of a text, with its state and its packet (docs/FORMATS.md, "Network text"). It goes over the text once;
+/// looking an element or a tuple up takes log n steps.
+///
+/// # Errors
+///
+/// `Line` with the first line that is refused, counted from 1, and the first reason in the order of `Why`; or with the
+/// line one past the last, where the text ends too early. `Memory` where memory ran out.
+///
+/// # Example
+///
+/// From the tests `prints_in_order` and `refuses_headers_and_sorts` of net_tests, over a program that names port 2 and
+/// declares `const h:HO; const g:PR;`.
+///
+/// ```rust
+/// let text = b"vericon-net 1\nsw 1\nho 1\npr 2\nc g 2\nc h 1\nstate\nend\n";
+/// let case = read_net(alloc, &program, text)?;
+/// let printed = print_net(alloc, &program, &case)?;
+/// assert!(rt; printed.as_slice() == b"vericon-net 1\nsw 1\nho 1\npr 2\nc h 1\nc g 2\nstate\nend\n".as_slice());
+/// match read_net(alloc, &program, b"vericon-net 1\nsw 1 x\n") {
+///     Err(NetTextRefusal::Line { number, why }) => assert!(rt; number == 2 && why == Why::Number),
+///     _ => assert!(rt; false),
+/// }
+/// ```
 pub fn read_net(alloc: Global, program: &Program, text: &[u8]) -> Result<Case, NetTextRefusal>
     ensures { Gives result (reading (net_format program.now) text.now) }
 {

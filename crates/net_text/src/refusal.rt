@@ -36,7 +36,7 @@ pub enum NetTextRefusal {
     Memory,
 }
 
-// Why a line isn't taken.
+/// Why a line isn't taken.
 #[derive(Clone, Copy, Debug)]
 pub enum Stop {
     Refused(Why),

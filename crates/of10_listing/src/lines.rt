@@ -59,12 +59,14 @@ pub fn why_name(why: WireWhy) -> &'static [u8]
 /// What a line says of a message.
 #[derive(Clone, Copy, Debug)]
 pub struct Line {
+    /// The number of its type.
     pub kind: u8,
+    /// In bytes, the header among them.
     pub length: usize,
     pub xid: u32,
 }
 
-/// Appends the line of a message whose frame begins at a place.
+/// Appends the line of a message whose frame begins at this byte of the stream (docs/COMMANDS.md, "frames").
 pub fn put_message_line(out: &mut Vec<u8>, at: usize, line: Line) -> Result<(), AllocError>
     ensures { OnOk result (out.new.items ≡ out.old.items ++ frame_line at line.kind line.length line.xid) }
 {
@@ -101,7 +103,7 @@ fn put_refused_line(out: &mut Vec<u8>, at: usize, why: WireWhy) -> Result<(), Al
     put_line_end(out)
 }
 
-/// Appends the line of what is left from a place on.
+/// Appends the line of what is left from this byte of the stream on; none where nothing is left.
 pub fn put_tail_line(out: &mut Vec<u8>, at: usize, tail: Tail) -> Result<(), AllocError>
     requires { IsNear at tail }
     ensures { OnOk result (out.new.items ≡ out.old.items ++ tail_line at tail) }

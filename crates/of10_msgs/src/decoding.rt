@@ -86,12 +86,29 @@ fn read(alloc: Global, bytes: &[u8]) -> Result<Message, WireRefusal>
     }
 }
 
-/// The message that these bytes are.
+/// The message that these bytes are, which are one whole frame (docs/OPENFLOW.md, "Frames"). It goes over them once.
 ///
 /// # Errors
 ///
-/// The first rule that the bytes break, with its place: first what the header shows, then the length, then the body
-/// from left to right. `Memory` where memory ran out.
+/// The first rule that the bytes break, with its place in bytes from 0: first what the header shows, then the length,
+/// then the body from left to right (docs/OPENFLOW.md, "Refusals"). `Memory` where memory ran out.
+///
+/// # Example
+///
+/// From the tests `each_field_has_its_place` and `each_rule_refuses_at_its_place` of this crate.
+///
+/// ```rust
+/// match decode(alloc, &[1, 2, 0, 12, 0, 0, 0, 9, b'a', b'b', b'c', b'd'])? {
+///     Message::EchoRequest { xid, body } => {
+///         assert!(rt; xid == 9 && body.as_slice() == b"abcd".as_slice());
+///     }
+///     _ => assert!(rt; false),
+/// }
+/// match decode(alloc, &[1, 22, 0, 9, 0, 0, 0, 1]) {
+///     Ok(_) => assert!(rt; false),
+///     Err(refusal) => assert_eq!(rt; refusal, WireRefusal { at: 1, why: WireWhy::BadType }),
+/// }
+/// ```
 pub fn decode(alloc: Global, bytes: &[u8]) -> Result<Message, WireRefusal>
     // What is read is spelled so.
     ensures found { IfOk result (λ m. spells m bytes.now) }

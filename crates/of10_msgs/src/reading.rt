@@ -16,6 +16,7 @@ use of10_wire::{
 };
 use std::alloc::{AllocError, Global};
 
+/// Reads a whole HELLO frame (OpenFlow Switch Specification 1.0.0, section 5.5.1): 8 bytes or more, of any version.
 #[tactic(auto, unfolding(of10_wire::specs::Layout::Stand, crate::specs::Messages::message_slots))]
 pub fn hello(alloc: Global, bytes: &[u8]) -> Result<Message, AllocError>
     requires kind { number 1 1 bytes.now ≡ 0 }
@@ -31,6 +32,7 @@ pub fn hello(alloc: Global, bytes: &[u8]) -> Result<Message, AllocError>
     })
 }
 
+/// Reads a whole ERROR frame (OpenFlow Switch Specification 1.0.0, section 5.4.4): 12 bytes or more.
 #[tactic(auto, unfolding(of10_wire::specs::Layout::Stand, crate::specs::Messages::message_slots))]
 pub fn error(alloc: Global, bytes: &[u8]) -> Result<Message, AllocError>
     requires opens { Opens 1 bytes.now }
@@ -46,6 +48,7 @@ pub fn error(alloc: Global, bytes: &[u8]) -> Result<Message, AllocError>
     })
 }
 
+/// Reads a whole ECHO_REQUEST frame (OpenFlow Switch Specification 1.0.0, section 5.5.2): 8 bytes or more.
 #[tactic(auto, unfolding(of10_wire::specs::Layout::Stand, crate::specs::Messages::message_slots))]
 pub fn echo_request(alloc: Global, bytes: &[u8]) -> Result<Message, AllocError>
     requires opens { Opens 2 bytes.now }
@@ -59,6 +62,7 @@ pub fn echo_request(alloc: Global, bytes: &[u8]) -> Result<Message, AllocError>
     })
 }
 
+/// Reads a whole ECHO_REPLY frame (OpenFlow Switch Specification 1.0.0, section 5.5.3): 8 bytes or more.
 #[tactic(auto, unfolding(of10_wire::specs::Layout::Stand, crate::specs::Messages::message_slots))]
 pub fn echo_reply(alloc: Global, bytes: &[u8]) -> Result<Message, AllocError>
     requires opens { Opens 3 bytes.now }
@@ -72,6 +76,7 @@ pub fn echo_reply(alloc: Global, bytes: &[u8]) -> Result<Message, AllocError>
     })
 }
 
+/// Reads a whole VENDOR frame (OpenFlow Switch Specification 1.0.0, section 5.5.4): 12 bytes or more.
 #[tactic(auto, unfolding(of10_wire::specs::Layout::Stand, crate::specs::Messages::message_slots))]
 pub fn vendor(alloc: Global, bytes: &[u8]) -> Result<Message, AllocError>
     requires opens { Opens 4 bytes.now }
@@ -86,6 +91,7 @@ pub fn vendor(alloc: Global, bytes: &[u8]) -> Result<Message, AllocError>
     })
 }
 
+/// Reads a whole FEATURES_REQUEST frame (OpenFlow Switch Specification 1.0.0, section 5.3.1): 8 bytes.
 #[tactic(auto, unfolding(of10_wire::specs::Layout::Stand, crate::specs::Messages::message_slots))]
 pub fn features_request(bytes: &[u8]) -> Message
     requires opens { Opens 5 bytes.now }
@@ -97,6 +103,8 @@ pub fn features_request(bytes: &[u8]) -> Message
     }
 }
 
+/// Reads a whole FEATURES_REPLY frame (OpenFlow Switch Specification 1.0.0, section 5.3.1): 32 bytes, and 48 for each
+/// port.
 #[tactic(auto, unfolding(of10_wire::specs::Layout::Stand, crate::specs::Messages::message_slots))]
 pub fn features_reply(alloc: Global, bytes: &[u8]) -> Result<Message, AllocError>
     requires opens { Opens 6 bytes.now }
@@ -116,6 +124,7 @@ pub fn features_reply(alloc: Global, bytes: &[u8]) -> Result<Message, AllocError
     })
 }
 
+/// Reads a whole GET_CONFIG_REQUEST frame (OpenFlow Switch Specification 1.0.0, section 5.3.2): 8 bytes.
 #[tactic(auto, unfolding(of10_wire::specs::Layout::Stand, crate::specs::Messages::message_slots))]
 pub fn get_config_request(bytes: &[u8]) -> Message
     requires opens { Opens 7 bytes.now }
@@ -127,6 +136,7 @@ pub fn get_config_request(bytes: &[u8]) -> Message
     }
 }
 
+/// Reads a whole GET_CONFIG_REPLY frame (OpenFlow Switch Specification 1.0.0, section 5.3.2): 12 bytes.
 #[tactic(auto, unfolding(of10_wire::specs::Layout::Stand, crate::specs::Messages::message_slots))]
 pub fn get_config_reply(bytes: &[u8]) -> Message
     requires opens { Opens 8 bytes.now }
@@ -140,6 +150,7 @@ pub fn get_config_reply(bytes: &[u8]) -> Message
     }
 }
 
+/// Reads a whole SET_CONFIG frame (OpenFlow Switch Specification 1.0.0, section 5.3.2): 12 bytes.
 #[tactic(auto, unfolding(of10_wire::specs::Layout::Stand, crate::specs::Messages::message_slots))]
 pub fn set_config(bytes: &[u8]) -> Message
     requires opens { Opens 9 bytes.now }
@@ -153,6 +164,7 @@ pub fn set_config(bytes: &[u8]) -> Message
     }
 }
 
+/// Reads a whole PACKET_IN frame (OpenFlow Switch Specification 1.0.0, section 5.4.1): 18 bytes or more.
 #[tactic(auto, unfolding(of10_wire::specs::Layout::Stand, crate::specs::Messages::message_slots))]
 pub fn packet_in(alloc: Global, bytes: &[u8]) -> Result<Message, AllocError>
     requires opens { Opens 10 bytes.now }
@@ -170,6 +182,7 @@ pub fn packet_in(alloc: Global, bytes: &[u8]) -> Result<Message, AllocError>
     })
 }
 
+/// Reads a whole FLOW_REMOVED frame (OpenFlow Switch Specification 1.0.0, section 5.4.2): 88 bytes.
 #[tactic(auto, unfolding(of10_wire::specs::Layout::Stand, of10_wire::specs::Parts::match_slots, crate::specs::Messages::message_slots))]
 pub fn flow_removed(bytes: &[u8]) -> Message
     requires opens { Opens 11 bytes.now }
@@ -190,6 +203,7 @@ pub fn flow_removed(bytes: &[u8]) -> Message
     }
 }
 
+/// Reads a whole PORT_STATUS frame (OpenFlow Switch Specification 1.0.0, section 5.4.3): 64 bytes.
 #[tactic(auto, unfolding(of10_wire::specs::Layout::Stand, of10_wire::specs::Parts::port_slots, crate::specs::Messages::message_slots))]
 pub fn port_status(bytes: &[u8]) -> Message
     requires opens { Opens 12 bytes.now }
@@ -203,6 +217,8 @@ pub fn port_status(bytes: &[u8]) -> Message
     }
 }
 
+/// Reads a whole PACKET_OUT frame (OpenFlow Switch Specification 1.0.0, section 5.3.6): 16 bytes or more. Refused are,
+/// in order, more bytes of actions than are there (`BadLength` at 14), and the first action that is none.
 #[tactic(auto, unfolding(of10_wire::specs::Layout::Stand, crate::specs::Messages::message_slots))]
 pub fn packet_out(alloc: Global, bytes: &[u8]) -> Result<Message, WireRefusal>
     requires opens { Opens 13 bytes.now }
@@ -227,6 +243,8 @@ pub fn packet_out(alloc: Global, bytes: &[u8]) -> Result<Message, WireRefusal>
     })
 }
 
+/// Reads a whole FLOW_MOD frame (OpenFlow Switch Specification 1.0.0, section 5.3.3): 72 bytes or more. Refused is the
+/// first action that is none.
 #[tactic(auto, unfolding(of10_wire::specs::Layout::Stand, of10_wire::specs::Parts::match_slots, crate::specs::Messages::message_slots))]
 pub fn flow_mod(alloc: Global, bytes: &[u8]) -> Result<Message, WireRefusal>
     requires opens { Opens 14 bytes.now }
@@ -249,6 +267,7 @@ pub fn flow_mod(alloc: Global, bytes: &[u8]) -> Result<Message, WireRefusal>
     })
 }
 
+/// Reads a whole PORT_MOD frame (OpenFlow Switch Specification 1.0.0, section 5.3.3): 32 bytes.
 #[tactic(auto, unfolding(of10_wire::specs::Layout::Stand, crate::specs::Messages::message_slots))]
 pub fn port_mod(bytes: &[u8]) -> Message
     requires opens { Opens 15 bytes.now }
@@ -265,6 +284,8 @@ pub fn port_mod(bytes: &[u8]) -> Message
     }
 }
 
+/// Reads a whole STATS_REQUEST frame (OpenFlow Switch Specification 1.0.0, section 5.3.5): 12 bytes or more. Refused as
+/// by `read_request`.
 #[tactic(auto, unfolding(of10_wire::specs::Layout::Stand, crate::specs::Messages::message_slots))]
 pub fn stats_request(alloc: Global, bytes: &[u8]) -> Result<Message, WireRefusal>
     requires opens { Opens 16 bytes.now }
@@ -279,6 +300,8 @@ pub fn stats_request(alloc: Global, bytes: &[u8]) -> Result<Message, WireRefusal
     })
 }
 
+/// Reads a whole STATS_REPLY frame (OpenFlow Switch Specification 1.0.0, section 5.3.5): 12 bytes or more. Refused as
+/// by `read_reply`.
 #[tactic(auto, unfolding(of10_wire::specs::Layout::Stand, crate::specs::Messages::message_slots))]
 pub fn stats_reply(alloc: Global, bytes: &[u8]) -> Result<Message, WireRefusal>
     requires opens { Opens 17 bytes.now }
@@ -293,6 +316,7 @@ pub fn stats_reply(alloc: Global, bytes: &[u8]) -> Result<Message, WireRefusal>
     })
 }
 
+/// Reads a whole BARRIER_REQUEST frame (OpenFlow Switch Specification 1.0.0, section 5.3.7): 8 bytes.
 #[tactic(auto, unfolding(of10_wire::specs::Layout::Stand, crate::specs::Messages::message_slots))]
 pub fn barrier_request(bytes: &[u8]) -> Message
     requires opens { Opens 18 bytes.now }
@@ -304,6 +328,7 @@ pub fn barrier_request(bytes: &[u8]) -> Message
     }
 }
 
+/// Reads a whole BARRIER_REPLY frame (OpenFlow Switch Specification 1.0.0, section 5.3.7): 8 bytes.
 #[tactic(auto, unfolding(of10_wire::specs::Layout::Stand, crate::specs::Messages::message_slots))]
 pub fn barrier_reply(bytes: &[u8]) -> Message
     requires opens { Opens 19 bytes.now }
@@ -315,6 +340,7 @@ pub fn barrier_reply(bytes: &[u8]) -> Message
     }
 }
 
+/// Reads a whole QUEUE_GET_CONFIG_REQUEST frame (OpenFlow Switch Specification 1.0.0, section 5.3.4): 12 bytes.
 #[tactic(auto, unfolding(of10_wire::specs::Layout::Stand, crate::specs::Messages::message_slots))]
 pub fn queue_get_config_request(bytes: &[u8]) -> Message
     requires opens { Opens 20 bytes.now }
@@ -327,6 +353,8 @@ pub fn queue_get_config_request(bytes: &[u8]) -> Message
     }
 }
 
+/// Reads a whole QUEUE_GET_CONFIG_REPLY frame (OpenFlow Switch Specification 1.0.0, section 5.3.4): 16 bytes or more.
+/// Refused is the first queue or property that is none.
 #[tactic(auto, unfolding(of10_wire::specs::Layout::Stand, crate::specs::Messages::message_slots))]
 pub fn queue_get_config_reply(alloc: Global, bytes: &[u8]) -> Result<Message, WireRefusal>
     requires opens { Opens 21 bytes.now }

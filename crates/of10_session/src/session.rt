@@ -36,12 +36,15 @@ pub enum Phase {
 /// The ask that waits for its answer. A packet's buffer, port and bytes are kept for its reply.
 pub enum Pending {
     Nothing,
+    /// A switch joined.
     Joining,
+    /// A packet came in.
     Arriving {
         buffer_id: u32,
         in_port: u16,
         body: Body,
     },
+    /// A rule ended.
     Expiring,
 }
 

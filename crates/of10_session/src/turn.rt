@@ -14,7 +14,8 @@ pub enum Ask {
         b: u64,
         i: u64,
     },
-    /// To take note that the rule of a match ended, with the cookie of the rule.
+    /// To take note that the rule of a match ended, by its switch, source, destination and ingress port, with the
+    /// cookie of the rule.
     Expire {
         s: u64,
         a: u64,
@@ -36,7 +37,10 @@ pub enum TurnEnd {
 /// What comes after a message: the next one, an answer to an ask, or nothing more.
 #[derive(Clone, Copy, Debug, PartialEq, Eq)]
 pub enum Turn {
+    /// The session goes on with the next message.
     Go,
+    /// It waits for the answer to this ask.
     Ask(Ask),
+    /// It ends.
     End(TurnEnd),
 }

@@ -1,5 +1,5 @@
 -- A session that is given its bytes one by one.
-use Rattle.std.proofs.Common.{◌≡◌, ℕ, ◌+◌, List, [], ◌∷◌, ◌++◌, length, drop, refl, sym, subst, ◌∙◌, inl, inr, arith, length-append}
+use Rattle.std.proofs.Common.{◌≡◌, ℕ, ◌+◌, List, [], ◌∷◌, ◌++◌, length, drop, ap, refl, sym, subst, ◌∙◌, inl, inr, arith, length-append}
 use Rattle.std.proofs.lemmas.List.{drop_at}
 use Rattle.of10_stream.specs.Framings.{Framing}
 use Rattle.of10_session.specs.Progresses.{Progress}
@@ -26,3 +26,7 @@ one_byte t u number taken b f s g s' r before now after further w h on =
     let there : Hears t u f s (drop (length taken) whole) g s' r now after = subst (λ (l : List ℕ). Hears t u f s l g s' r now after) (sym (drop_at taken (b ∷ []) (length taken) refl)) h in
     let all : length taken + r.used ≡ length whole = omega (arith, length-append taken (b ∷ []), used_one t u f s b g s' r now after h on) in
     subst (λ (n : ℕ). Following u number whole n g s' before after) all (following_next t u number whole (length taken) f s g s' r before now after further (following_more t number taken (b ∷ []) f s before now w) there on)
+
+-- one byte more has come
+pub one_longer : (x : ℕ) (old new : List ℕ) → new ≡ old ++ x ∷ [] → length new ≡ length old + 1
+one_longer x old new is = ap (λ (l : List ℕ). length l) is ∙ length-append old (x ∷ [])

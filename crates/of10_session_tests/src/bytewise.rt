@@ -1,6 +1,6 @@
 //! A stream that comes byte by byte.
 
-ghost use Rattle.std.specs.Prelude.{◌≡◌, [], ◌++◌, IfOk, OnOk};
+ghost use Rattle.std.specs.Prelude.{◌≡◌, ◌*◌, ◌≤◌, [], ◌++◌, length, IfOk, OnOk};
 ghost use Rattle.of10_stream.specs.Framings.{framing};
 ghost use Rattle.of10_session.specs.Sessions.{spelled};
 ghost use Rattle.of10_speech.specs.Speeches.{opening};
@@ -31,6 +31,7 @@ pub fn speak_bytewise<P: Answers>(
 ) -> Result<Spoken, Broken>
     requires given { P.given program.old ≡ [] }
     requires asked { P.asked program.old ≡ [] }
+    requires left { length bytes.now ≤ 16 * P.left program.old }
 {
     let Ok((mut framer, mut session)) = begin(alloc, out) else {
         return Err(Broken::Memory);

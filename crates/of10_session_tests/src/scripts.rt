@@ -1,6 +1,6 @@
 //! A program whose replies are written down.
 
-ghost use Rattle.std.specs.Prelude.{◌≡◌, [], IfOk};
+ghost use Rattle.std.specs.Prelude.{◌≡◌, ◌^◌, [], true, IfOk};
 ghost use Rattle.of10_session_tests.specs.Scripts.{declared_where};
 
 use crate::replies::{Step, reply_of};
@@ -51,6 +51,10 @@ impl<'a> Answers for Script<'a> {
     ghost given = { λ s. s.given.items };
 
     ghost asked = { λ s. s.asked.items };
+
+    ghost is_full = { λ _. true };
+
+    ghost left = { λ _. 2 ^ 60 };
 
     ghost source = { λ s. tt };
 

@@ -12,9 +12,10 @@ type Texts = &'static [&'static [u8]];
 /// A stream, the steps that answer its asks, whether rules end, what is said, and how the session stands then.
 type Row = (Texts, &'static [Step], bool, Texts, Spoken);
 
+/// A switch's HELLO, in hexadecimal digits.
 pub const HELLO: &[u8] = b"01000008 00000000";
 
-/// From switch 1.
+/// A FEATURES_REPLY of switch 1, in hexadecimal digits.
 pub const FEATURES: &[u8] =
     b"01060020 00000002 0000000000000001 00000100 01000000 00000000 00000fff";
 
@@ -61,6 +62,7 @@ const SAID_PACKET: &[u8] = b"010d0018 00000006 00000005 0001 0008 0000 0008 0002
 const SAID_IDLE_RULE: &[u8] =
     b"010e0050 00000005 003ffff2 0001 000000000001 000000000002 00000000000000000000000000000000000000000000 0000000000000002 0000 001e 0000 8000 ffffffff ffff 0001 0000 0008 0002 0000";
 
+/// Nothing is changed or sent, as in the answer to a join without rules.
 pub const JOINED: Step = Step {
     change: Change::Same,
     sending: Sending::Nowhere,

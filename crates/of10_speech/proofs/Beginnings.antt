@@ -57,14 +57,14 @@ one_more t x m Goes on h =
 one_more t x m Waits on h = stopped_says t x m Waits on (λ e. cc) h
 one_more t x m (Ends end) on h = stopped_says t x m (Ends end) on (λ e. cc) h
 
-many_more : (t : Told) (x : Speech) (ms : List Message) → Listens x → IsBeginning x (hear_all t x ms)
+pub many_more : (t : Told) (x : Speech) (ms : List Message) → Listens x → IsBeginning x (hear_all t x ms)
 many_more t x [] h = all_said x
 many_more t x (m ∷ ms) h =
     let first = one_more t x m x.stop refl h in
     later x (hear t x m) (hear_all t (hear t x m) ms) first.0 (many_more t (hear t x m) ms first.1)
 
 -- the tail adds nothing
-to_the_tail : (x y : Speech) (stop : Stop) (tail : Tail) → IsBeginning x y → IsBeginning x (ended_by stop tail y)
+pub to_the_tail : (x y : Speech) (stop : Stop) (tail : Tail) → IsBeginning x y → IsBeginning x (ended_by stop tail y)
 to_the_tail x y Goes (Cut n) h = h
 to_the_tail x y Goes (Broken e) h = record { sent_behind = h.sent_behind; sent = h.sent; asks_behind = h.asks_behind; asks = h.asks; ignored = h.ignored }
 to_the_tail x y Waits tail h = h

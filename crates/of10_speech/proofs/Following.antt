@@ -7,9 +7,9 @@ use Rattle.csdn_history.specs.declared.reply.Reply.{Reply}
 use Rattle.of10_wire.specs.declared.refusal.WireRefusal.{WireRefusal}
 use Rattle.of10_wire.proofs.Openings.{wants-short}
 use Rattle.of10_msgs.specs.declared.message.Message.{Message}
-use Rattle.of10_msgs.specs.Messages.{zeroed}
+use Rattle.of10_msgs.specs.Messages.{spells, zeroed}
 use Rattle.of10_stream.specs.declared.tail.Tail.TheVariants.{Cut, Broken}
-use Rattle.of10_stream.specs.Framings.{Framing, framing, IsOpen}
+use Rattle.of10_stream.specs.Framings.{IsFrame, Framing, framing, IsOpen}
 use Rattle.of10_stream.specs.Streams.{IsRead, IsTail, frame_width}
 use Rattle.of10_stream.proofs.ReadLaws.{read-more}
 use Rattle.of10_stream.proofs.Once.{one}
@@ -79,26 +79,34 @@ follows_message t u number taken f s x piece g s' r before after further w k on 
 pub bytes_after : (x : Speech) (n : ℕ) (y : Said) (start before after : List ℕ) → before ≡ start ++ spelled x.sent → after ≡ before ++ spelled y.sent → after ≡ start ++ spelled (with_said x n y).sent
 bytes_after x n y start before after b a = a ∙ (ap (λ (l : List ℕ). l ++ spelled y.sent) b ∙ (append_assoc start (spelled x.sent) (spelled y.sent) ∙ ap (λ (l : List ℕ). start ++ l) (sym (flat_map-append zeroed x.sent y.sent))))
 
+-- a message that became whole in a piece was read
+pub found_read : (taken : List ℕ) (ms : List Message) (held piece : List ℕ) (used : ℕ) (m : Message) → IsRead taken ms held → IsFrame (held ++ take used piece) → spells m (held ++ take used piece) → IsRead (taken ++ piece) (ms ++ m ∷ []) (drop used piece)
+found_read taken ms held piece used m h frame spelled =
+    let all : (taken ++ take used piece) ++ drop used piece ≡ taken ++ piece = append_assoc taken (take used piece) (drop used piece) ∙ ap (λ (l : List ℕ). taken ++ l) (take-append-drop used piece) in
+    subst (λ (l : List ℕ). IsRead l (ms ++ m ∷ []) (drop used piece)) all (read-more (ms ++ m ∷ []) (taken ++ take used piece) [] (drop used piece) (read_frame taken ms held (take used piece) m h frame spelled))
+
 -- a message at which the session stops
+pub stops_said : (t u : Told) (number : ℕ) (taken : List ℕ) (f : Framing) (s : Progress) (x : Speech) (piece : List ℕ) (used : ℕ) (m : Message) → Further t u → Follows t number taken f s x
+    → IsFrame (f.held ++ take used piece) → spells m (f.held ++ take used piece) → (said_to u f.start (length t.replies) s m).stop ≢ Goes
+    → IsSpoken u number (taken ++ piece) (with_said x (frame_width m) (said_to u f.start (length t.replies) s m))
+stops_said t u number taken f s x piece used m further w frame spelled off =
+    let heard : List Message = w.messages ++ m ∷ [] in
+    let later = one (drop used piece) in
+    let y : Speech = with_said x (frame_width m) (said_to u f.start (length t.replies) s m) in
+    let longer : speech u number (heard ++ later.messages) ≡ y =
+    hear_all-append u (opening number) heard later.messages ∙ (ap (λ (z : Speech). hear_all u z later.messages) (after_message t u number taken f s x further w m) ∙ stopped u y later.messages off) in
+    record {
+      messages = heard ++ later.messages;
+      tail = later.tail;
+      stream = stream_behind heard later.messages (taken ++ piece) (drop used piece) later.tail (found_read taken w.messages f.held piece used m w.begins frame spelled) later.is;
+      said = sym (ap (λ (z : Speech). ended_by z.stop later.tail z) longer ∙ ended_stopped y.stop later.tail y off);
+    }
+
 pub stops_message : (t u : Told) (number : ℕ) (taken : List ℕ) (f : Framing) (s : Progress) (x : Speech) (piece : List ℕ) (g : Framing) (s' : Progress) (r : Hearing) (before after : List ℕ) → Further t u
     → Follows t number taken f s x → (k : TookMessage t u f s piece g s' r before after) → r.stop ≢ Goes
     → IsSpoken u number (taken ++ piece) (with_said x (frame_width k.message) (said_to u f.start (length t.replies) s k.message))
 stops_message t u number taken f s x piece g s' r before after further w k off =
-    let all : (taken ++ take r.used piece) ++ drop r.used piece ≡ taken ++ piece = append_assoc taken (take r.used piece) (drop r.used piece) ∙ ap (λ (l : List ℕ). taken ++ l) (take-append-drop r.used piece) in
-    let heard : List Message = w.messages ++ k.message ∷ [] in
-    let read : IsRead (taken ++ piece) heard (drop r.used piece) =
-    subst (λ (l : List ℕ). IsRead l heard (drop r.used piece)) all (read-more heard (taken ++ take r.used piece) [] (drop r.used piece) (read_frame taken w.messages f.held (take r.used piece) k.message w.begins k.frame k.spelled_as)) in
-    let later = one (drop r.used piece) in
-    let y : Speech = with_said x (frame_width k.message) (said_to u f.start (length t.replies) s k.message) in
-    let off_there : y.stop ≢ Goes = λ h. off (k.says.stops ∙ h) in
-    let longer : speech u number (heard ++ later.messages) ≡ y =
-    hear_all-append u (opening number) heard later.messages ∙ (ap (λ (z : Speech). hear_all u z later.messages) (after_message t u number taken f s x further w k.message) ∙ stopped u y later.messages off_there) in
-    record {
-      messages = heard ++ later.messages;
-      tail = later.tail;
-      stream = stream_behind heard later.messages (taken ++ piece) (drop r.used piece) later.tail read later.is;
-      said = sym (ap (λ (z : Speech). ended_by z.stop later.tail z) longer ∙ ended_stopped y.stop later.tail y off_there);
-    }
+    stops_said t u number taken f s x piece r.used k.message further w k.frame k.spelled_as (λ h. off (k.says.stops ∙ h))
 
 pub stops_refused : (t u : Told) (number : ℕ) (taken : List ℕ) (f : Framing) (s : Progress) (x : Speech) (piece : List ℕ) (e : WireRefusal) → Further t u → Follows t number taken f s x → IsTail (f.held ++ piece) (Broken e) → IsSpoken u number (taken ++ piece) (refused_speech x e)
 stops_refused t u number taken f s x piece e further w tail = record {

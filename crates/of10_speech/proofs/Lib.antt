@@ -6,3 +6,6 @@ pub mod Asked
 pub mod Frames
 pub mod Following
 pub mod Beginnings
+pub mod Echoed
+pub mod Wide
+pub mod Breaks

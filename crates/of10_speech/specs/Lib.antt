@@ -1,2 +1,3 @@
 pub mod Speeches
 pub mod Hearings
+pub mod Echoes

@@ -1,18 +1,20 @@
 //! One step of a session that hears a stream.
 
-ghost use Rattle.std.specs.Prelude.{◌≡◌, ◌≢◌, ◌+◌, ◌++◌, ◌<◌, ◌^◌, length, IfOk, OnErr};
+ghost use Rattle.std.specs.Prelude.{◌≡◌, ◌≢◌, ◌+◌, ◌*◌, ◌++◌, ◌<◌, ◌≤◌, ◌^◌, true, [], length, IfOk, IfErr, OnErr};
 ghost use Rattle.of10_msgs.specs.Sending.{IsSendable};
-ghost use Rattle.of10_stream.specs.Framings.{IsOpen, IsReady};
+ghost use Rattle.of10_stream.specs.Framings.{framing, IsFrame, IsOpen, IsReady};
+ghost use Rattle.of10_stream.specs.Streams.{frame_width};
 ghost use Rattle.of10_session.specs.Progresses.{IsListening};
 ghost use Rattle.of10_speech.specs.Speeches.{told, Further, said_to, on_ask};
-ghost use Rattle.of10_speech.specs.Hearings.{Says, Hears, HearsFrame, is_ended};
+ghost use Rattle.of10_speech.specs.Hearings.{Breaks, BreaksAtFrame, BreaksOff, Says, Hears, HearsFrame, TookFew, is_ended};
 
 use crate::answers::{Answers, Unanswered};
+use crate::echoes::{asks_for_echo, echo};
 use crate::stops::{Broken, SpokenEnd, Stop};
 use of10_msgs::Message;
 use of10_session::{Ask, Pending, Session, Turn, TurnEnd};
 use of10_stream::{Framer, read_frame};
-use of10_wire::WireRefusal;
+use of10_wire::{Opening, WireRefusal, opening_of};
 use std::alloc::Global;
 
 /// Settles the ask of a session.
@@ -25,8 +27,13 @@ fn settle<P: Answers>(
 ) -> Result<Stop, Broken>
     requires pending { session.old.pending ≢ Pending.Nothing }
     requires room { session.old.ignored + 1 < 2 ^ 64 }
+    requires left { 0 < P.left program.old }
     ensures said { IfOk result (λ stop. Says (on_ask (told P.declares P.given P.asked program.new) (length (P.given program.old)) session.old ask) stop session.new out.old.items out.new.items) }
     ensures err { OnErr result ((session.new ≡ session.old) × (out.new.items ≡ out.old.items)) }
+    ensures broken { IfErr result (λ why. BreaksOff (on_ask (told P.declares P.given P.asked program.new) (length (P.given program.old)) session.old ask) (told P.declares P.given P.asked program.old) (told P.declares P.given P.asked program.new) session.old why) }
+    ensures waits { IfOk result (λ stop. stop ≡ Stop.Waits → P.is_full program.new ≡ true) }
+    ensures full { IfErr result (λ why. why ≡ Broken.Full → P.is_full program.new ≡ true) }
+    ensures left { P.left program.old ≤ P.left program.new + 1 }
     ensures further { Further (told P.declares P.given P.asked program.old) (told P.declares P.given P.asked program.new) }
     ensures source { P.source program.new ≡ P.source program.old }
     ensures counts { IfOk result (λ stop. stop ≡ Stop.Goes → length (P.given program.new) ≡ length (P.given program.old) + length (on_ask (told P.declares P.given P.asked program.new) (length (P.given program.old)) session.old ask).asks) }
@@ -67,8 +74,13 @@ pub fn hear<P: Answers>(
     requires listening { IsListening session.old }
     requires room { session.old.ignored + 1 < 2 ^ 64 }
     requires sendable { IsSendable message }
+    requires left { frame_width message ≤ 16 * P.left program.old }
     ensures said { IfOk result (λ stop. Says (said_to (told P.declares P.given P.asked program.new) place (length (P.given program.old)) session.old message) stop session.new out.old.items out.new.items) }
     ensures err { OnErr result ((session.new.ignored ≡ session.old.ignored) × (out.new.items ≡ out.old.items)) }
+    ensures broken { IfErr result (λ why. BreaksOff (said_to (told P.declares P.given P.asked program.new) place (length (P.given program.old)) session.old message) (told P.declares P.given P.asked program.old) (told P.declares P.given P.asked program.new) session.old why) }
+    ensures waits { IfOk result (λ stop. stop ≡ Stop.Waits → P.is_full program.new ≡ true) }
+    ensures full { IfErr result (λ why. why ≡ Broken.Full → P.is_full program.new ≡ true) }
+    ensures left { TookFew (P.left program.old) (P.left program.new) (frame_width message) }
     ensures further { Further (told P.declares P.given P.asked program.old) (told P.declares P.given P.asked program.new) }
     ensures source { P.source program.new ≡ P.source program.old }
     ensures counts { IfOk result (λ stop. stop ≡ Stop.Goes → length (P.given program.new) ≡ length (P.given program.old) + length (said_to (told P.declares P.given P.asked program.new) place (length (P.given program.old)) session.old message).asks) }
@@ -101,7 +113,75 @@ fn ended(start: u64, refusal: WireRefusal) -> Stop
     })
 }
 
-/// Hears the next message of a piece, or takes all of the piece.
+/// Hears the message of a whole frame, which begins at this place of the stream. A message takes much room on the stack, which is
+/// cleared at each call: so this stands apart.
+#[inline(never)]
+fn hear_decoded<P: Answers>(
+    alloc: Global,
+    session: &mut Session,
+    place: u64,
+    frame: &[u8],
+    program: &mut P,
+    out: &mut Vec<u8>,
+) -> Result<Stop, Broken>
+    requires frame { IsFrame frame.now }
+    requires short { length frame.now ≤ 65535 }
+    requires room { place + length frame.now < 2 ^ 64 }
+    requires listening { IsListening session.old }
+    requires count { session.old.ignored + 1 < 2 ^ 64 }
+    requires left { length frame.now ≤ 16 * P.left program.old }
+    ensures hears { IfOk result (λ stop. HearsFrame (told P.declares P.given P.asked program.old) (told P.declares P.given P.asked program.new) (framing place frame.now) session.old (framing (place + length frame.now) []) session.new stop out.old.items out.new.items) }
+    ensures err { OnErr result ((session.new.ignored ≡ session.old.ignored) × (out.new.items ≡ out.old.items)) }
+    ensures broken { IfErr result (λ why. BreaksAtFrame (told P.declares P.given P.asked program.old) (told P.declares P.given P.asked program.new) (framing place frame.now) session.old why) }
+    ensures waits { IfOk result (λ stop. stop ≡ Stop.Waits → P.is_full program.new ≡ true) }
+    ensures full { IfErr result (λ why. why ≡ Broken.Full → P.is_full program.new ≡ true) }
+    ensures left { TookFew (P.left program.old) (P.left program.new) (length frame.now) }
+    ensures further { Further (told P.declares P.given P.asked program.old) (told P.declares P.given P.asked program.new) }
+    ensures source { P.source program.new ≡ P.source program.old }
+{
+    match read_frame(alloc, frame) {
+        Err(_) => Err(Broken::Memory),
+        Ok(Err(refusal)) => Ok(ended(place, refusal)),
+        Ok(Ok(message)) => hear(alloc, session, place, message, program, out),
+    }
+}
+
+/// Hears a whole frame, which begins at this place of the stream. One that asks for an echo takes memory for what is sent
+/// alone.
+fn hear_bytes<P: Answers>(
+    alloc: Global,
+    session: &mut Session,
+    place: u64,
+    frame: &[u8],
+    program: &mut P,
+    out: &mut Vec<u8>,
+) -> Result<Stop, Broken>
+    requires frame { IsFrame frame.now }
+    requires short { length frame.now ≤ 65535 }
+    requires room { place + length frame.now < 2 ^ 64 }
+    requires listening { IsListening session.old }
+    requires count { session.old.ignored + 1 < 2 ^ 64 }
+    requires left { length frame.now ≤ 16 * P.left program.old }
+    ensures hears { IfOk result (λ stop. HearsFrame (told P.declares P.given P.asked program.old) (told P.declares P.given P.asked program.new) (framing place frame.now) session.old (framing (place + length frame.now) []) session.new stop out.old.items out.new.items) }
+    ensures err { OnErr result ((session.new.ignored ≡ session.old.ignored) × (out.new.items ≡ out.old.items)) }
+    ensures broken { IfErr result (λ why. BreaksAtFrame (told P.declares P.given P.asked program.old) (told P.declares P.given P.asked program.new) (framing place frame.now) session.old why) }
+    ensures waits { IfOk result (λ stop. stop ≡ Stop.Waits → P.is_full program.new ≡ true) }
+    ensures full { IfErr result (λ why. why ≡ Broken.Full → P.is_full program.new ≡ true) }
+    ensures left { TookFew (P.left program.old) (P.left program.new) (length frame.now) }
+    ensures further { Further (told P.declares P.given P.asked program.old) (told P.declares P.given P.asked program.new) }
+    ensures source { P.source program.new ≡ P.source program.old }
+{
+    if asks_for_echo(frame) {
+        return match echo(frame, out) {
+            Ok(()) => Ok(Stop::Goes),
+            Err(_) => Err(Broken::Memory),
+        };
+    }
+    hear_decoded(alloc, session, place, frame, program, out)
+}
+
+/// Hears the next message of a piece, or takes all of the piece. A frame that is whole in the piece is read there, and a
+/// request for an echo costs its bytes alone.
 ///
 /// # Errors
 ///
@@ -119,11 +199,24 @@ pub fn hear_next<P: Answers>(
     requires room { (framer.old.start + length framer.old.held) + length piece.now < 2 ^ 64 }
     requires listening { IsListening session.old }
     requires count { session.old.ignored + 1 < 2 ^ 64 }
+    requires left { length framer.old.held + length piece.now ≤ 16 * P.left program.old }
     ensures hears { IfOk result (λ r. Hears (told P.declares P.given P.asked program.old) (told P.declares P.given P.asked program.new) framer.old session.old piece.now framer.new session.new r out.old.items out.new.items) }
     ensures err { OnErr result ((session.new.ignored ≡ session.old.ignored) × (out.new.items ≡ out.old.items)) }
+    ensures broken { IfErr result (λ why. Breaks (told P.declares P.given P.asked program.old) (told P.declares P.given P.asked program.new) framer.old session.old piece.now why) }
+    ensures waits { IfOk result (λ r. r.stop ≡ Stop.Waits → P.is_full program.new ≡ true) }
+    ensures full { IfErr result (λ why. why ≡ Broken.Full → P.is_full program.new ≡ true) }
+    ensures left { TookFew (P.left program.old) (P.left program.new) (length framer.old.held + length piece.now) }
+    ensures going { IfOk result (λ r. r.stop ≡ Stop.Goes → 16 * P.left program.old + framer.old.start ≤ 16 * P.left program.new + framer.new.start) }
     ensures further { Further (told P.declares P.given P.asked program.old) (told P.declares P.given P.asked program.new) }
     ensures source { P.source program.new ≡ P.source program.old }
 {
+    if framer.is_empty() {
+        if let Opening::Frame(len) = opening_of(piece) {
+            let stop = hear_bytes(alloc, session, framer.start(), &piece[..len], program, out)?;
+            framer.pass(len);
+            return Ok(Hearing { used: len, stop });
+        }
+    }
     match framer.feed(piece) {
         Err(refusal) => Ok(Hearing {
             used: piece.len(),
@@ -148,7 +241,7 @@ pub fn hear_next<P: Answers>(
     }
 }
 
-/// Hears the frame that is ready, and lets it go where it is a message.
+/// Hears the frame that is ready, and lets it go.
 fn hear_frame<P: Answers>(
     alloc: Global,
     framer: &mut Framer,
@@ -160,19 +253,18 @@ fn hear_frame<P: Answers>(
     requires room { framer.old.start + length framer.old.held < 2 ^ 64 }
     requires listening { IsListening session.old }
     requires count { session.old.ignored + 1 < 2 ^ 64 }
+    requires left { length framer.old.held ≤ 16 * P.left program.old }
     ensures hears { IfOk result (λ stop. HearsFrame (told P.declares P.given P.asked program.old) (told P.declares P.given P.asked program.new) framer.old session.old framer.new session.new stop out.old.items out.new.items) }
     ensures err { OnErr result ((session.new.ignored ≡ session.old.ignored) × (out.new.items ≡ out.old.items)) }
+    ensures broken { IfErr result (λ why. BreaksAtFrame (told P.declares P.given P.asked program.old) (told P.declares P.given P.asked program.new) framer.old session.old why) }
+    ensures waits { IfOk result (λ stop. stop ≡ Stop.Waits → P.is_full program.new ≡ true) }
+    ensures full { IfErr result (λ why. why ≡ Broken.Full → P.is_full program.new ≡ true) }
+    ensures left { TookFew (P.left program.old) (P.left program.new) (length framer.old.held) }
     ensures further { Further (told P.declares P.given P.asked program.old) (told P.declares P.given P.asked program.new) }
     ensures source { P.source program.new ≡ P.source program.old }
 {
     let place = framer.start();
-    match read_frame(alloc, framer.frame()) {
-        Err(_) => Err(Broken::Memory),
-        Ok(Err(refusal)) => Ok(ended(place, refusal)),
-        Ok(Ok(message)) => {
-            let stop = hear(alloc, session, place, message, program, out)?;
-            framer.next();
-            Ok(stop)
-        }
-    }
+    let stop = hear_bytes(alloc, session, place, framer.frame(), program, out)?;
+    framer.next();
+    Ok(stop)
 }

@@ -5,9 +5,11 @@ ghost use Rattle.of10_stream.specs.Framings.{Framing, framing};
 ghost use Rattle.of10_session.specs.Progresses.{Progress};
 ghost use Rattle.of10_session.specs.Sessions.{spelled};
 ghost use Rattle.of10_speech.specs.declared.hearing.Hearing.{Hearing as AnyHearing};
+ghost use Rattle.of10_speech.specs.declared.stops.Broken.{Broken as AnyBroken};
+ghost use Rattle.of10_speech.specs.declared.stops.Broken.TheVariants.{Full};
 ghost use Rattle.of10_speech.specs.declared.stops.Stop.TheVariants.{Goes, Waits};
 ghost use Rattle.of10_speech.specs.Speeches.{Told, Further, Speech, opening, IsSpoken, HasOneAnswer, IsBeginning};
-ghost use Rattle.of10_speech.specs.Hearings.{Following, Hears, IsAnswer};
+ghost use Rattle.of10_speech.specs.Hearings.{Awaits, Breaks, Following, HasAsked, Hears, IsAnswer};
 
 /// A law, whatever memory there is: to each list of bytes a session says one thing, where the replies are known.
 pub fn one_answer()
@@ -40,4 +42,8 @@ pub fn any_pieces()
     ensures closed { (t : Told) (number : ℕ) (bytes : List ℕ) (at : ℕ) (f : Framing) (s : Progress) (before now : List ℕ) → Following t number bytes at f s before now → length bytes ≤ at → IsAnswer t number bytes before now (record { stop = Goes; ignored = s.ignored }) }
     // Wherever it is cut off, what it said is a beginning of that answer.
     ensures cut_off { (t u : Told) (number : ℕ) (bytes : List ℕ) (at : ℕ) (f : Framing) (s : Progress) (before now : List ℕ) (y : Speech) → Further t u → (w : Following t number bytes at f s before now) → IsSpoken u number bytes y → IsBeginning w.speech_is y }
+    // At a full history its answer waits;
+    ensures full { (t u : Told) (number : ℕ) (bytes : List ℕ) (at : ℕ) (f : Framing) (s : Progress) (before now : List ℕ) → Further t u → Following t number bytes at f s before now → Breaks t u f s (drop at bytes) Full → Awaits u number bytes before now s.ignored }
+    // and wherever it breaks off, what it asked is a beginning of what that answer asks.
+    ensures asked { (t u : Told) (number : ℕ) (bytes : List ℕ) (at : ℕ) (f : Framing) (s : Progress) (before now : List ℕ) (why : AnyBroken) (y : Speech) → Further t u → Following t number bytes at f s before now → Breaks t u f s (drop at bytes) why → IsSpoken u number bytes y → HasAsked u y }
 {}

@@ -5,6 +5,7 @@
 #![tactic(auto)]
 
 mod answers;
+mod echoes;
 mod hearing;
 mod laws;
 mod speaking;

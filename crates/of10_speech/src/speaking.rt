@@ -1,6 +1,6 @@
 //! A session over bytes that are there.
 
-ghost use Rattle.std.specs.Prelude.{◌≡◌, [], IfOk};
+ghost use Rattle.std.specs.Prelude.{◌≡◌, ◌*◌, ◌≤◌, [], length, IfOk};
 ghost use Rattle.of10_speech.specs.Speeches.{told};
 ghost use Rattle.of10_speech.specs.Hearings.{IsAnswer};
 
@@ -33,6 +33,7 @@ pub fn speak<P: Answers>(
 ) -> Result<Spoken, Broken>
     requires given { P.given program.old ≡ [] }
     requires asked { P.asked program.old ≡ [] }
+    requires left { length bytes.now ≤ 16 * P.left program.old }
     ensures answer { IfOk result (IsAnswer (told P.declares P.given P.asked program.new) number bytes.now out.old.items out.new.items) }
     ensures declares { P.declares program.new ≡ P.declares program.old }
     ensures source { P.source program.new ≡ P.source program.old }

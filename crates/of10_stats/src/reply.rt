@@ -112,7 +112,9 @@ fn reply_refusal(bytes: &[u8]) -> Option<WireRefusal>
     })
 }
 
-/// The reply in a STATS_REPLY, whose kind stands at 8 and whose body stands at 12.
+/// The reply in a STATS_REPLY, whose kind stands at 8 and whose body stands at 12 (docs/OPENFLOW.md, "Statistics").
+/// Refused are, in order, another kind (`BadStat` at 8), a length that the kind's layout doesn't allow (`BadStat` at
+/// 12), and the first flow entry or action that is none.
 #[tactic(auto, unfolding(of10_wire::specs::Layout::Stand, crate::specs::Replies::reply_slots, crate::specs::Replies::reply_refusal))]
 pub fn read_reply(alloc: Global, bytes: &[u8]) -> Result<StatsReply, WireRefusal>
     requires { 12 ≤ length bytes.now }

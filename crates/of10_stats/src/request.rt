@@ -102,7 +102,9 @@ fn request_refusal(bytes: &[u8]) -> Option<WireRefusal>
     })
 }
 
-/// The request in a STATS_REQUEST, whose kind stands at 8 and whose body stands at 12.
+/// The request in a STATS_REQUEST, whose kind stands at 8 and whose body stands at 12 (docs/OPENFLOW.md, "Statistics").
+/// Refused are, in order, another kind (`BadStat` at 8) and a length that the kind's layout doesn't allow (`BadStat` at
+/// 12).
 #[tactic(auto, unfolding(of10_wire::specs::Layout::Stand, of10_wire::specs::Parts::match_slots, crate::specs::Requests::request_slots, crate::specs::Requests::request_refusal))]
 pub fn read_request(alloc: Global, bytes: &[u8]) -> Result<StatsRequest, WireRefusal>
     requires { 12 ≤ length bytes.now }

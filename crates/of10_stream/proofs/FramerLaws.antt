@@ -7,7 +7,9 @@ use Rattle.std.proofs.Math.Seq.{take-add}
 use Rattle.of10_wire.specs.declared.refusal.WireRefusal.{WireRefusal}
 use Rattle.of10_wire.specs.declared.rules.Opening.TheVariants.{Wants, Frame, Refused}
 use Rattle.of10_wire.specs.Headers.{opening_of}
-use Rattle.of10_wire.proofs.Openings.{framed, refused-stays, wants-short, wants-more, frame-full, wants-still}
+use Rattle.of10_wire.specs.Layout.{number}
+use Rattle.of10_wire.proofs.Openings.{framed, refused-stays, wants-short, wants-headed, wants-more, frame-full, wants-still}
+use Rattle.of10_stream.specs.declared.framer.Fed.{Fed}
 use Rattle.of10_stream.specs.Framings.{Framing, framing, IsOpen, Takes}
 
 framing_is : (f : Framing) (start : ℕ) (held : List ℕ) → f.start ≡ start → f.held ≡ held → f.ended ≡ false → f ≡ framing start held
@@ -46,42 +48,42 @@ module _ (old mid : Framing) (piece : List ℕ) (head : ℕ) (free : IsOpen old)
       let all : mid.held ++ drop head piece ≡ old.held ++ piece = ap (λ (l : List ℕ). l ++ drop head piece) held ∙ (append_assoc old.held (take head piece) (drop head piece) ∙ ap (λ (l : List ℕ). old.held ++ l) (take-append-drop head piece)) in
       ap opening_of (sym all) ∙ refused-stays mid.held (drop head piece) e refused
 
-  module _ (now : Framing) (len more size_now : ℕ) (wants : opening_of mid.held ≡ Wants len) (more_is : more ≡ min (length (drop head piece)) (len - length mid.held)) (held_now : now.held ≡ mid.held ++ take more (drop head piece)) (start_now : now.start ≡ mid.start) (ended_now : now.ended ≡ mid.ended) (size_is : size_now ≡ length now.held) where
-    grown : length now.held ≡ length mid.held + more
-    grown = omega (arith, ap (λ (l : List ℕ). length l) held_now, length-append mid.held (take more (drop head piece)), length-take more (drop head piece), more_is)
+  -- less than a header has come
+  pub takes_short : length mid.held < 8 → Takes old piece mid (record { used = head; ready = false })
+  takes_short short = record {
+    used = omega (arith, is);
+    came = framing_is mid old.start (old.held ++ take head piece) start held (ended ∙ free.on);
+    ready = λ e. absurd cc;
+    waits = λ e. (omega (arith, is, size, short), (8, wants-short mid.held short));
+  }
 
-    came : now ≡ framing old.start (old.held ++ take (head + more) piece)
-    came = framing_is now old.start (old.held ++ take (head + more) piece) (start_now ∙ start) (held_now ∙ (rw (held, take-add head more piece, append_assoc) refl)) (ended_now ∙ (ended ∙ free.on))
+  -- the header has come, and more of the piece is taken
+  pub takes_on : (now : Framing) (fed : Fed) → Takes mid (drop head piece) now fed → Takes old piece now (record { used = head + fed.used; ready = fed.ready })
+  takes_on now fed t =
+      let all : mid.held ++ take fed.used (drop head piece) ≡ old.held ++ take (head + fed.used) piece = rw (held, take-add head fed.used piece, append_assoc) refl in
+      record {
+        used = omega (arith, is, t.used, length-drop head piece);
+        came = t.came ∙ (λ i. framing (start i) (all i));
+        ready = t.ready;
+        waits = λ e. let w = t.waits e in (omega (arith, w.0, is, length-drop head piece), w.1);
+      }
 
-    -- the header has come
-    headed : 8 ≤ length mid.held → Takes old piece now (record { used = head + more; ready = nat_eq size_now len })
-    headed long = record {
-      used = omega (arith, is, more_is, length-drop head piece);
-      came = came;
-      ready = λ e. ap opening_of held_now ∙ (frame-full mid.held (take more (drop head piece)) len long wants (ap (λ (l : List ℕ). length l) (sym held_now) ∙ (sym size_is ∙ eqb-true size_now len e)) ∙ ap (λ (k : ℕ). Frame k) (sym (sym size_is ∙ eqb-true size_now len e)));
+-- bytes are taken of a frame whose header has come
+pub takes_body : (old now : Framing) (piece : List ℕ) (len used size : ℕ) → IsOpen old → 8 ≤ length old.held → len ≡ number 2 2 old.held → used ≡ min (length piece) (len - length old.held) → now.held ≡ old.held ++ take used piece
+    → now.start ≡ old.start → now.ended ≡ old.ended → size ≡ length now.held → Takes old piece now (record { used = used; ready = nat_eq size len })
+takes_body old now piece len used size free long len_is used_is held start ended size_is =
+    let w = wants-headed old.held free.wanting.0 long free.wanting.1 in
+    let wants : opening_of old.held ≡ Wants len = free.wanting.1 ∙ ap (λ (n : ℕ). Wants n) (sym w.1 ∙ sym len_is) in
+    let grown : length now.held ≡ length old.held + used = omega (arith, ap (λ (l : List ℕ). length l) held, length-append old.held (take used piece), length-take used piece, used_is) in
+    record {
+      used = omega (arith, used_is);
+      came = framing_is now old.start (old.held ++ take used piece) start held (ended ∙ free.on);
+      ready = λ e.
+          let full : length now.held ≡ len = sym size_is ∙ eqb-true size len e in
+          ap opening_of held ∙ (frame-full old.held (take used piece) len long wants (ap (λ (l : List ℕ). length l) (sym held) ∙ full) ∙ ap (λ (k : ℕ). Frame k) (sym full));
       waits = λ e.
-          let less : length now.held < len = omega (arith, eqb-false size_now len e, size_is, grown, more_is, wants-more mid.held len wants) in (
-            omega (arith, grown, less, more_is, is, length-drop head piece),
-            (len, ap opening_of held_now ∙ wants-still mid.held (take more (drop head piece)) len long wants (omega (arith, less, ap (λ (l : List ℕ). length l) held_now))),
+          let less : length now.held < len = omega (arith, eqb-false size len e, size_is, grown, used_is, wants-more old.held len wants) in (
+            omega (arith, grown, less, used_is),
+            (len, ap opening_of held ∙ wants-still old.held (take used piece) len long wants (omega (arith, less, ap (λ (l : List ℕ). length l) held))),
           );
     }
-
-    -- less than a header: the whole piece was taken at first
-    headless : length mid.held < 8 → Takes old piece now (record { used = head + more; ready = nat_eq size_now len })
-    headless short =
-        let eight : Wants len ≡ Wants 8 = sym wants ∙ wants-short mid.held short in
-        let l : len ≡ 8 = cc in
-        let none : more ≡ 0 = omega (arith, more_is, is, size, short, length-drop head piece) in
-        let less : length now.held < 8 = omega (arith, grown, none, short) in
-        record {
-          used = omega (arith, is, none);
-          came = came;
-          ready = λ e. absurd (omega (arith, eqb-true size_now len e, size_is, less, l));
-          waits = λ e. (omega (arith, none, is, size, short), (8, wants-short now.held less));
-        }
-
-    pub takes_more : Takes old piece now (record { used = head + more; ready = nat_eq size_now len })
-    takes_more = elim (cases_lt (length mid.held) 8) [
-      | inl short ↦ headless short
-      | inr long ↦ headed long
-    ]

@@ -1,10 +1,10 @@
 //! Frames from the pieces of a stream.
 
-ghost use Rattle.std.specs.Prelude.{◌≡◌, ◌≢◌, ◌+◌, ◌-◌, ◌≤◌, ◌<◌, ◌^◌, [], ◌++◌, length, take, min, true, IfOk, IfErr};
+ghost use Rattle.std.specs.Prelude.{◌≡◌, ◌≢◌, ◌↔◌, ◌+◌, ◌-◌, ◌≤◌, ◌<◌, ◌^◌, [], ◌++◌, length, take, min, true, IfOk, IfErr, IsTrue};
 ghost use Rattle.of10_wire.specs.declared.refusal.WireWhy.TheVariants.{Memory};
 ghost use Rattle.of10_stream.specs.Framings.{framing, IsOpen, IsReady, Takes, IsRefusedAt};
 
-use of10_wire::{Opening, WireWhy, opening_of, rest_from};
+use of10_wire::{Opening, WireWhy, opening_of, rest_from, u16_at};
 use std::alloc::{AllocError, Global};
 use std::marker::Model;
 
@@ -45,12 +45,15 @@ impl Model for Framer {
     ghost invariant = { λ f. (length f.buffer.items ≡ 65535) × (f.len ≤ 65535) };
 }
 
-/// Copies the piece to a place of the buffer.
+/// Copies the piece to a place of the buffer. One byte is copied without a call.
 fn put(buffer: &mut [u8], at: usize, piece: &[u8])
     requires { at + length piece.now ≤ length buffer.old }
     ensures { take (at + length piece.now) buffer.new ≡ take at buffer.old ++ piece.now }
 {
-    buffer[at..at + piece.len()].copy_from_slice(piece);
+    match piece {
+        [byte] => buffer[at] = *byte,
+        _ => buffer[at..at + piece.len()].copy_from_slice(piece),
+    }
 }
 
 impl Framer {
@@ -102,11 +105,32 @@ impl Framer {
         self.ended = true;
     }
 
-    /// Where the frame begins that it holds some bytes of.
-    fn place(&self) -> u64
+    /// Whether it holds no byte of a frame.
+    pub fn is_empty(&self) -> bool
+        ensures { IsTrue result ↔ (self.now.held ≡ []) }
+    {
+        self.len == 0
+    }
+
+    /// Where the frame begins that comes next, or has come in part.
+    pub fn start(&self) -> u64
         ensures { result ≡ self.now.start }
     {
         self.start
+    }
+
+    /// Takes bytes of a frame whose header has come.
+    fn take_body(&mut self, piece: &[u8]) -> Fed
+        requires open { IsOpen self.old }
+        requires headed { 8 ≤ length self.old.held }
+        ensures { Takes self.old piece.now self.new result }
+    {
+        let len = usize::from(u16_at(self.held(), 2));
+        let used = self.take_up_to(len, piece);
+        Fed {
+            used,
+            ready: self.len() == len,
+        }
     }
 
     /// Takes bytes of the piece until a frame is whole or the piece is used up.
@@ -123,10 +147,19 @@ impl Framer {
         ensures ended { IfErr result (λ e. self.new.ended ≡ true) }
         ensures named { IfErr result (λ e. e.why ≢ Memory) }
     {
+        if self.len() >= 8 {
+            return Ok(self.take_body(piece));
+        }
         let head = self.take_up_to(8, piece);
+        if self.len() < 8 {
+            return Ok(Fed {
+                used: head,
+                ready: false,
+            });
+        }
         match opening_of(self.held()) {
             Opening::Refused(refusal) => {
-                let at = self.place() + refusal.at as u64;
+                let at = self.start() + refusal.at as u64;
                 self.end();
                 Err(FrameRefusal {
                     at,
@@ -137,11 +170,11 @@ impl Framer {
                 used: head,
                 ready: true,
             }),
-            Opening::Wants(len) => {
-                let more = self.take_up_to(len, rest_from(piece, head));
+            Opening::Wants(_) => {
+                let body = self.take_body(rest_from(piece, head));
                 Ok(Fed {
-                    used: head + more,
-                    ready: self.len() == len,
+                    used: head + body.used,
+                    ready: body.ready,
                 })
             }
         }
@@ -156,14 +189,6 @@ impl Framer {
         &self.buffer[..self.len]
     }
 
-    /// Where that frame begins in the stream.
-    pub fn start(&self) -> u64
-        requires { IsReady self.now }
-        ensures { result ≡ self.now.start }
-    {
-        self.start
-    }
-
     /// Lets the frame go, so that bytes may be fed again.
     pub fn next(&mut self)
         requires ready { IsReady self.old }
@@ -173,5 +198,16 @@ impl Framer {
     {
         self.start += self.len as u64;
         self.len = 0;
+    }
+
+    /// Lets a frame of so many bytes go by, which was read where it stands.
+    pub fn pass(&mut self, width: usize)
+        requires open { IsOpen self.old }
+        requires none { self.old.held ≡ [] }
+        requires room { self.old.start + width < 2 ^ 64 }
+        ensures behind { self.new ≡ framing (self.old.start + width) [] }
+        ensures open { IsOpen self.new }
+    {
+        self.start += width as u64;
     }
 }

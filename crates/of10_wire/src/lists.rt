@@ -58,7 +58,8 @@ fn items<I: Item + Drop>(alloc: Global, bytes: &[u8], base: usize) -> Result<Ite
     Ok(Items::from_vec(list))
 }
 
-/// The parts that the bytes from one place to another are, where the bytes stand at `base` in their frame.
+/// The parts that the bytes from one place to another are, where the bytes stand at `base` in their frame. The refusal is
+/// that of the first that is none.
 pub fn items_at<I: Item + Drop>(
     alloc: Global,
     bytes: &[u8],

@@ -5,7 +5,7 @@ ghost use Rattle.std.specs.Prelude.{◌≢◌, ◌+◌, ◌≤◌, ◌∷◌, []
 ghost use Rattle.of10_wire.specs.Layout.{Number, Except, Raw, Pad};
 ghost use Rattle.of10_wire.specs.Writing.{Writes};
 
-/// The bytes, at the end.
+/// Appends bytes, for which there is room.
 pub fn put_bytes(out: &mut Vec<u8>, bytes: &[u8])
     requires { vec_len out.old + length bytes.now ≤ vec_capacity out.old }
     ensures { Writes out.old out.new (Raw (length bytes.now) bytes.now ∷ []) }
@@ -13,7 +13,7 @@ pub fn put_bytes(out: &mut Vec<u8>, bytes: &[u8])
     out.extend_from_slice(bytes).unwrap();
 }
 
-/// The number in 1 byte, the highest first.
+/// Appends a number in 1 byte, for which there is room.
 #[tactic(auto, unfolding(crate::specs::Layout::bytes_of))]
 pub fn put_u8(out: &mut Vec<u8>, x: u8)
     requires { vec_len out.old + 1 ≤ vec_capacity out.old }
@@ -22,7 +22,7 @@ pub fn put_u8(out: &mut Vec<u8>, x: u8)
     put_bytes(out, &x.to_be_bytes());
 }
 
-/// The number in 2 bytes, the highest first.
+/// Appends a number in 2 bytes, the highest first, for which there is room.
 #[tactic(auto, unfolding(crate::specs::Layout::bytes_of))]
 pub fn put_u16(out: &mut Vec<u8>, x: u16)
     requires { vec_len out.old + 2 ≤ vec_capacity out.old }
@@ -31,7 +31,7 @@ pub fn put_u16(out: &mut Vec<u8>, x: u16)
     put_bytes(out, &x.to_be_bytes());
 }
 
-/// A number that isn't `other`, in 2 bytes, the highest first.
+/// Appends a number that isn't `other`, in 2 bytes, the highest first, for which there is room.
 pub fn put_other_u16(out: &mut Vec<u8>, other: u16, x: u16)
     requires room { vec_len out.old + 2 ≤ vec_capacity out.old }
     requires apart { x ≢ other }
@@ -40,7 +40,7 @@ pub fn put_other_u16(out: &mut Vec<u8>, other: u16, x: u16)
     put_u16(out, x);
 }
 
-/// The number in 4 bytes, the highest first.
+/// Appends a number in 4 bytes, the highest first, for which there is room.
 #[tactic(auto, unfolding(crate::specs::Layout::bytes_of))]
 pub fn put_u32(out: &mut Vec<u8>, x: u32)
     requires { vec_len out.old + 4 ≤ vec_capacity out.old }
@@ -49,7 +49,7 @@ pub fn put_u32(out: &mut Vec<u8>, x: u32)
     put_bytes(out, &x.to_be_bytes());
 }
 
-/// The number in 8 bytes, the highest first.
+/// Appends a number in 8 bytes, the highest first, for which there is room.
 #[tactic(auto, unfolding(crate::specs::Layout::bytes_of))]
 pub fn put_u64(out: &mut Vec<u8>, x: u64)
     requires { vec_len out.old + 8 ≤ vec_capacity out.old }
@@ -58,7 +58,7 @@ pub fn put_u64(out: &mut Vec<u8>, x: u64)
     put_bytes(out, &x.to_be_bytes());
 }
 
-/// N zeros.
+/// Appends N zeros, for which there is room.
 pub fn put_pad<const N: usize>(out: &mut Vec<u8>)
     requires { vec_len out.old + N ≤ vec_capacity out.old }
     ensures { Writes out.old out.new (Pad N ∷ []) }

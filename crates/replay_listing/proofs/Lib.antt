@@ -1,6 +1,5 @@
 pub mod Cut
 pub mod SameAsks
 pub mod Taking
-pub mod Servable
 pub mod Replayed
 pub mod OneText

@@ -1,5 +1,5 @@
 -- A session of a journal has one text.
-use Rattle.std.proofs.Common.{◌≡◌, ◌∙◌, ap, ap₂, sym, refl, subst, ℕ, List, ◌++◌, Option, Some, None}
+use Rattle.std.proofs.Common.{◌≡◌, ◌∙◌, ap, ap₂, sym, subst, ℕ, List, ◌++◌, Option, Some, None}
 use Rattle.std.specs.List.{flat_map}
 use Rattle.csdn_core.specs.declared.program.Parts.{Parts}
 use Rattle.csdn_core.specs.Network.{Network}
@@ -10,7 +10,7 @@ use Rattle.of10_speech.proofs.Ends.{one_spoken}
 use Rattle.of10_stream.proofs.Cutting.{cuts-once}
 use Rattle.replay_listing.specs.declared.listing.Ending.{Ending}
 use Rattle.replay_listing.specs.Replays.{AreOutLines, IsListed, IsReplay, end_line, first_difference, out_line, rest_line}
-use Rattle.replay_listing.specs.Told.{asks_of, told_by}
+use Rattle.session_asks.specs.Told.{asks_of, told_by}
 
 one_outs : (bytes text other : List ℕ) → AreOutLines bytes text → AreOutLines bytes other → text ≡ other
 one_outs bytes text other a b =

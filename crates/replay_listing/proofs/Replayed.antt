@@ -1,16 +1,14 @@
 -- What is printed is the session's answer.
-use Rattle.std.proofs.Common.{◌≡◌, ◌≢◌, ◌∙◌, ap, ap₂, sym, refl, subst, ℕ, ◌+◌, Bool, true, false, if◌then◌else◌, List, [], ◌∷◌, ◌++◌, length, Option, Some, None, append_assoc, arith}
-use Rattle.std.proofs.lemmas.List.{append-nil}
+use Rattle.std.proofs.Common.{◌≡◌, ◌≢◌, ◌∙◌, ap, ap₂, sym, refl, subst, ℕ, ◌+◌, Bool, if◌then◌else◌, List, [], ◌∷◌, ◌++◌, length, Option, Some, None, append_assoc}
 use Rattle.csdn_core.specs.declared.program.Parts.{Parts}
 use Rattle.csdn_core.specs.Network.{Network}
 use Rattle.csdn_history.specs.declared.entry.Entry.{Entry}
 use Rattle.csdn_run.specs.Histories.{running}
-use Rattle.csdn_run.specs.Sessions.{replies, replies_from}
+use Rattle.csdn_run.specs.Sessions.{replies_from}
 use Rattle.journal_text.specs.declared.note.Note.{Note}
 use Rattle.csdn_run.specs.Standings.{after}
 use Rattle.csdn_run.proofs.SessionReplies.{replies-append}
 use Rattle.of10_session.specs.declared.turn.Ask.{Ask}
-use Rattle.of10_session.specs.Sessions.{spelled}
 use Rattle.of10_speech.specs.declared.speaking.Spoken.{Spoken}
 use Rattle.of10_speech.specs.declared.stops.Stop.{Stop}
 use Rattle.of10_speech.specs.declared.stops.Stop.TheVariants.{Waits}
@@ -23,9 +21,10 @@ use Rattle.replay_listing.specs.declared.listing.Ending.{Ending}
 use Rattle.replay_listing.specs.Journals.{Source, asked_of, given_by, listed, noted, source_of}
 use Rattle.replay_listing.specs.Replays.{AreOutLines, IsListed, IsReplay, IsTold, end_line, ending_of, first_difference}
 use Rattle.replay_listing.specs.Tellings.{AreLines, AreOver, IsDifference, IsOther, IsTelling, Tell, first_of, next_of}
-use Rattle.replay_listing.specs.Told.{asks_of, declares, same_ask, told_by}
+use Rattle.session_asks.specs.Told.{asks_of, declares, told_by}
 use Rattle.replay_listing.proofs.Taking.{source_at}
-use Rattle.replay_listing.proofs.SameAsks.{asks-append, differ_later}
+use Rattle.session_asks.proofs.SameAsks.{asks-append}
+use Rattle.replay_listing.proofs.SameAsks.{differ_later}
 
 abbrev pub IsReplayOf : Source → (bytes text : List ℕ) → Ending → Type 0
 IsReplayOf s bytes text ending = IsReplay s.program s.network s.entries s.session bytes text ending

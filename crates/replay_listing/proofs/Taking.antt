@@ -1,5 +1,5 @@
 -- Notes that are taken.
-use Rattle.std.proofs.Common.{◌≡◌, ◌≢◌, ◌∙◌, ap, ap₂, sym, refl, subst, ℕ, ◌==◌, Bool, true, false, if◌then◌else◌, List, [], ◌∷◌, ◌++◌, Option, Some, None, Result, Ok, Err, IfOk, append_assoc}
+use Rattle.std.proofs.Common.{◌≡◌, ◌≢◌, ◌∙◌, ap, ap₂, sym, ℕ, ◌==◌, Bool, true, false, if◌then◌else◌, List, [], ◌∷◌, ◌++◌, Option, Some, None, Result, Ok, Err, IfOk, append_assoc}
 use Rattle.std.specs.Prelude.{OnErr}
 use Rattle.std.proofs.lemmas.Bool.{eqb-true, false_from_ne_true}
 use Rattle.std.proofs.lemmas.List.{append-nil}
@@ -16,8 +16,8 @@ use Rattle.of10_speech.specs.declared.answers.Unanswered.{Unanswered}
 use Rattle.of10_speech.specs.declared.answers.Unanswered.TheVariants.{Stranger, NoEntry, Full, Memory}
 use Rattle.replay_listing.specs.declared.journal.Journal.{Journal}
 use Rattle.replay_listing.specs.Journals.{IsTaken, Passes, Source, asked_of, given_by, listed, noted, source_of}
-use Rattle.replay_listing.specs.Told.{ask_of, asks_of}
-use Rattle.replay_listing.proofs.SameAsks.{asks-next}
+use Rattle.session_asks.specs.Told.{ask_of, asks_of}
+use Rattle.session_asks.proofs.SameAsks.{asks-next}
 
 pub same_number : (m n : ℕ) → m ≡ n → (m == n) ≡ true
 same_number m n e = ap (λ (k : ℕ). k == n) e ∙ self_equal n

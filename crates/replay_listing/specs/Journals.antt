@@ -1,5 +1,5 @@
 -- A journal that answers the asks of a session.
-use Rattle.std.specs.Prelude.{◌≡◌, ℕ, ◌==◌, List, [], ◌∷◌, ◌++◌, Option, Some, None, Result, Ok, Err}
+use Rattle.std.specs.Prelude.{◌≡◌, ℕ, List, [], ◌∷◌, ◌++◌, Option, Some, None, Result, Ok, Err}
 use Rattle.csdn_core.specs.declared.program.Parts.{Parts}
 use Rattle.csdn_core.specs.Network.{Network}
 use Rattle.csdn_history.specs.declared.entry.Entry.{Entry}
@@ -10,9 +10,9 @@ use Rattle.journal_text.specs.declared.note.Note.TheVariants.{Kept, Flow}
 use Rattle.of10_session.specs.declared.turn.Ask.{Ask}
 use Rattle.of10_session.specs.Replies.{IsServable}
 use Rattle.of10_speech.specs.declared.answers.Unanswered.{Unanswered}
-use Rattle.of10_speech.specs.declared.answers.Unanswered.TheVariants.{Stranger, NoEntry, Full, Memory}
+use Rattle.of10_speech.specs.declared.answers.Unanswered.TheVariants.{NoEntry, Memory}
 use Rattle.replay_listing.specs.declared.journal.Journal.{Journal}
-use Rattle.replay_listing.specs.Told.{asks_of}
+use Rattle.session_asks.specs.Told.{asks_of}
 
 -- the entries that notes are; a packet that a rule sent is none
 abbrev pub noted : List Note → List Entry
@@ -54,5 +54,5 @@ pub record Passes (old new : Journal) : Type 0 where
 abbrev pub IsTaken : (old new : Journal) → Ask → Result Reply Unanswered → Type 0
 IsTaken old new ask (Ok reply) = IsServable reply × (source_of new ≡ source_of old) × (given_by new ≡ given_by old ++ reply ∷ []) × (asked_of new ≡ asked_of old ++ ask ∷ [])
 IsTaken old new ask (Err NoEntry) = (source_of new ≡ source_of old) × (given_by new ≡ given_by old) × (asked_of new ≡ asked_of old ++ ask ∷ [])
-IsTaken old new ask (Err Memory) = (source_of new ≡ source_of old) × (given_by new ≡ given_by old)
+IsTaken old new ask (Err Memory) = (source_of new ≡ source_of old) × (given_by new ≡ given_by old) × (asked_of new ≡ asked_of old)
 IsTaken old new ask (Err why) = ⊥

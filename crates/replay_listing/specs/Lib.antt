@@ -1,4 +1,3 @@
-pub mod Told
 pub mod Journals
 pub mod Refusals
 pub mod Replays

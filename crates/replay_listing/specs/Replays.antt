@@ -16,7 +16,7 @@ use Rattle.of10_stream.specs.Cuttings.{Cuts, joined}
 use Rattle.of10_stream.specs.Framings.{IsFrame}
 use Rattle.replay_listing.specs.declared.listing.Ending.{Ending}
 use Rattle.replay_listing.specs.declared.listing.Ending.TheVariants.{Closed, Ended, Differs}
-use Rattle.replay_listing.specs.Told.{IsSessionAnswer, asks_of, same_ask}
+use Rattle.session_asks.specs.Told.{IsSessionAnswer, asks_of, same_ask}
 
 -- ---- what was sent
 

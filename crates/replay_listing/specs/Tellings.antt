@@ -9,7 +9,7 @@ use Rattle.replay_listing.specs.declared.listing.Ending.{Ending}
 use Rattle.replay_listing.specs.declared.listing.Ending.TheVariants.{Differs}
 use Rattle.replay_listing.specs.Journals.{noted}
 use Rattle.replay_listing.specs.Replays.{AreOutLines, differs_text, end_line, ending_of}
-use Rattle.replay_listing.specs.Told.{asks_of, same_ask}
+use Rattle.session_asks.specs.Told.{asks_of, same_ask}
 
 abbrev pub first_of : List Ask → Option Ask
 first_of [] = None

@@ -1,18 +1,18 @@
 //! A journal that answers the asks of one session.
-ghost use Rattle.std.specs.Prelude.{◌≡◌, ◌<◌, [], ◌∷◌, ◌++◌, true, length, None, IfOk, OnOk, OnErr, IsTrue};
+ghost use Rattle.std.specs.Prelude.{◌≡◌, ◌<◌, ◌^◌, [], ◌∷◌, ◌++◌, true, length, None, IfOk, OnOk, OnErr, IsTrue};
 ghost use Rattle.csdn_run.specs.Histories.{running};
 ghost use Rattle.csdn_run.specs.Replies.{reply as reply_of};
 ghost use Rattle.csdn_run.specs.Standings.{is_declared as is_declared_in};
 ghost use Rattle.of10_session.specs.Replies.{IsServable};
 ghost use Rattle.replay_listing.specs.Journals.{IsTaken, Passes};
 
-use crate::asks::{ask_of, is_declared_ask, is_same, session_of};
 use csdn_history::entry::Entry;
 use csdn_history::reply::Reply;
 use csdn_run::Runtime;
 use journal_text::Note;
 use of10_session::Ask;
 use of10_speech::{Answers, Unanswered};
+use session_asks::{ask_of, is_declared_ask, is_same, session_of};
 use std::alloc::AllocError;
 
 /// A runtime, and the notes that it has not taken yet. It takes those up to the next entry of its session when that is
@@ -166,7 +166,7 @@ impl<'a> Journal<'a> {
 
 impl<'a> Answers for Journal<'a> {
     ghost use Rattle.replay_listing.specs.Journals.{Source, asked_of, given_by, source_of};
-    ghost use Rattle.replay_listing.specs.Told.{declares as declares_in};
+    ghost use Rattle.session_asks.specs.Told.{declares as declares_in};
 
     ghost Source = { Source };
 
@@ -177,6 +177,10 @@ impl<'a> Answers for Journal<'a> {
     ghost given = { given_by };
 
     ghost asked = { asked_of };
+
+    ghost is_full = { λ _. true };
+
+    ghost left = { λ _. 2 ^ 60 };
 
     fn ask(&mut self, ask: Ask) -> Result<Reply, Unanswered> {
         if !is_declared_ask(self.runtime.program(), self.runtime.network(), ask) {

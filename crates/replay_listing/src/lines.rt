@@ -76,7 +76,7 @@ fn put_stop(out: &mut Vec<u8>, stop: Stop) -> Result<(), AllocError>
     }
 }
 
-/// Appends the line of an end.
+/// Appends the line that says how the session ended, and how many messages it ignored (docs/COMMANDS.md, "replay").
 pub fn put_end(out: &mut Vec<u8>, stop: Stop, ignored: u64) -> Result<(), AllocError>
     ensures { OnOk result (out.new.items ≡ out.old.items ++ end_line stop ignored) }
 {

@@ -9,9 +9,8 @@ ghost use Rattle.replay_listing.specs.Journals.{noted};
 ghost use Rattle.replay_listing.specs.Refusals.{first_refused as first_refused_in};
 ghost use Rattle.replay_listing.specs.Replays.{IsReplay, differs_text, ending_of as ending_in};
 ghost use Rattle.replay_listing.specs.Tellings.{AreLines, AreOver, IsDifference, IsOther, IsTelling, Tells, first_of};
-ghost use Rattle.replay_listing.specs.Told.{asks_of, same_ask};
+ghost use Rattle.session_asks.specs.Told.{asks_of, same_ask};
 
-use crate::asks::{ask_of, is_same, session_of};
 use crate::journal::Journal;
 use crate::lines::{put_differs, put_end, put_outs};
 use crate::refusals::MOST_ENTRIES;
@@ -22,6 +21,7 @@ use journal_text::Note;
 use net_structs::network::Network;
 use of10_session::Ask;
 use of10_speech::{Spoken, Stop, speak};
+use session_asks::{ask_of, is_same, session_of};
 use std::alloc::{AllocError, Global};
 
 /// How a replay ended.

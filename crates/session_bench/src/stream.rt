@@ -1,5 +1,5 @@
 //! A session that hears a stream in pieces.
-ghost use Rattle.std.specs.Prelude.{◌≡◌, ◌+◌, ◌<◌, ◌^◌, [], length, false, OnOk};
+ghost use Rattle.std.specs.Prelude.{◌≡◌, ◌+◌, ◌<◌, ◌^◌, [], length, false, true, OnOk};
 ghost use Rattle.of10_stream.specs.Framings.{IsOpen};
 
 use crate::trouble::Trouble;
@@ -20,6 +20,10 @@ impl Answers for Nothing {
     ghost given = { λ _. [] };
 
     ghost asked = { λ _. [] };
+
+    ghost is_full = { λ _. true };
+
+    ghost left = { λ _. 2 ^ 60 };
 
     ghost source = { λ _. tt };
 

@@ -4,6 +4,7 @@ use std::alloc::AllocError;
 use thiserror::Error;
 use vericon_edge::files::FileFault;
 
+/// Why there is nothing to time: no memory, other words, a file that was not read, or a session that ended.
 #[derive(Debug, Drop, Error)]
 pub enum Trouble {
     #[error("out of memory")]

@@ -6,7 +6,9 @@ pub mod Passes
 pub mod Cuts
 pub mod Joins
 pub mod Rows
+pub mod Opened
 pub mod Answers
 pub mod Calls
 pub mod Endings
 pub mod Replied
+pub mod Crossing

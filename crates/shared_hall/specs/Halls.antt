@@ -2,12 +2,16 @@
 use Rattle.std.specs.Prelude.{◌≡◌, ℕ, ◌<◌, List, [], ◌∷◌, ◌++◌, length, map, All}
 use Rattle.std.specs.List.{range_with_len}
 use Rattle.atomic_table.specs.Seated.{TableId}
+use Rattle.csdn_core.specs.declared.program.Parts.{Parts}
+use Rattle.csdn_core.specs.Network.{IsNetwork, Network}
+use Rattle.csdn_core.specs.WellSorted.{IsWellSorted}
 use Rattle.csdn_history.specs.declared.entry.Entry.{Entry}
 use Rattle.csdn_history.specs.declared.reply.Reply.{Reply}
 use Rattle.csdn_run.specs.declared.runtime.RunRefusal.{RunRefusal}
 use Rattle.csdn_run.specs.declared.runtime.RunRefusal.TheVariants.{HistoryFull}
 use Rattle.csdn_run.specs.Histories.{Running, with_history}
 use Rattle.csdn_run.specs.Replies.{reply as reply_of}
+use Rattle.net_structs.specs.Networks.{IsServable}
 use Rattle.shared_hall.specs.declared.view.Account.{Account}
 use Rattle.shared_hall.specs.Views.{seat_of, StartsWith, mine, fresh_account}
 use Rattle.shared_hall.specs.Rules.{IsTold}
@@ -39,6 +43,12 @@ pub record IsTurnedAway (r : Running) (old new : Account) (why : RunRefusal) : T
   pub begins : StartsWith new.seen old.seen
   pub mine : mine new ≡ mine old
   pub full : why ≡ HistoryFull → length new.seen ≡ r.room
+
+-- The runtime that seats take turns at is one: the parts are a program's, and the network is a servable one of it.
+pub record CanServe (P : Parts) (N : Network) : Type 0 where
+  pub sorted : IsWellSorted P
+  pub network : IsNetwork P N
+  pub servable : IsServable N
 
 -- ---- opening and closing
 

@@ -4,7 +4,7 @@ ghost use Rattle.csdn_run.specs.Standings.{is_declared};
 ghost use Rattle.shared_hall.specs.Views.{seat_of, passed_with};
 ghost use Rattle.shared_hall.specs.Plays.{Starts};
 ghost use Rattle.shared_hall.specs.Turns.{CanDraw, CanPass, IsWaiting, Took};
-ghost use Rattle.shared_hall.specs.Halls.{Enters, IsTurnedAway};
+ghost use Rattle.shared_hall.specs.Halls.{CanServe, Enters, IsTurnedAway};
 
 use crate::bells::Bells;
 use crate::rule::{Draw, Look, Pass, Turns};
@@ -176,9 +176,11 @@ impl Hall {
         ensures seat { (seat.new.hall ≡ self.now) × (seat.new.account.number ≡ seat.old.account.number) × (seat.new.account.acts ≡ seat.old.account.acts + 1) }
         ensures ok { IfOk result (λ reply. Enters self.now.opening seat.old.account seat.new.account entry.now reply) }
         ensures err { IfErr result (λ why. IsTurnedAway self.now.opening seat.old.account seat.new.account why) }
+        ensures stands { CanServe self.now.opening.program self.now.opening.network }
         ensures stranger { (result ≡ ErrIs RunRefusal.Stranger) ↔ (is_declared self.now.opening.program self.now.opening.network entry.now ≡ false) }
     {
         let mut runtime = self.take(rt, &mut seat.seat);
+        runtime.stands();
         let answer = runtime.apply(entry);
         self.give(&mut seat.seat, runtime);
         seat.acts += 1;

@@ -36,7 +36,7 @@ impl<'a> Words<'a> {
         Words { rest: line }
     }
 
-    /// The next word, and the words behind it.
+    /// The next word, and the words behind it; `None` where no word is left.
     pub fn next(self) -> Option<(&'a [u8], Words<'a>)>
         ensures { option_map (λ x. (x.0.now, x.1)) result ≡ next self.entry }
     {
@@ -46,7 +46,8 @@ impl<'a> Words<'a> {
         }
     }
 
-    /// The next word, as a number that is at most `most`, and the words behind it.
+    /// The next word, as a decimal number that is at most `most`, and the words behind it; `None` where the next word
+    /// is no such number, or no word is left.
     #[tactic(auto, unfolding(crate::specs::Numbers::number_at))]
     pub fn number(self, most: u64) -> Option<(u64, Words<'a>)>
         ensures value { result ≡ number_at most self.entry }
@@ -57,7 +58,7 @@ impl<'a> Words<'a> {
         Some((n, rest))
     }
 
-    /// That no word is left.
+    /// That no word is left; `None` where one is.
     pub fn end(self) -> Option<()>
         ensures { result ≡ ended self.entry }
     {
@@ -68,7 +69,7 @@ impl<'a> Words<'a> {
     }
 }
 
-// The first word of a line, and the line behind it.
+/// The first word of a line, and the line behind it; `None` where there is no word.
 pub fn word_at(line: &[u8]) -> Option<(&[u8], &[u8])>
     ensures { option_map (λ x. (x.0.now, words x.1.now)) result ≡ next (words line.now) }
 {

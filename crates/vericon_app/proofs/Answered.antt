@@ -11,15 +11,15 @@ use Rattle.vericon_decide.specs.declared.answer.Answer.TheVariants.{Yes, Counter
 use Rattle.vericon_decide.specs.Levels.{IsUnmet}
 use Rattle.vericon_decide.specs.Answers.{IsAnswer, IsYes, IsCounter, IsUnknown}
 
-module _ (P : Parts) (most : ℕ) (answer : Answer) where
-  pub proven_by : (level : ℕ) (proofs : Vec Proof Global) → answer ≡ Yes level proofs → IsAnswer P most answer → IsYes P most level proofs.items
-  proven_by level proofs is right = subst (λ (a : Answer). IsAnswer P most a) is right
+module _ (P : Parts) (size most : ℕ) (answer : Answer) where
+  pub proven_by : (level : ℕ) (proofs : Vec Proof Global) → answer ≡ Yes level proofs → IsAnswer P size most answer → IsYes P size most level proofs.items
+  proven_by level proofs is right = subst (λ (a : Answer). IsAnswer P size most a) is right
 
-  pub broken_by : (level index : ℕ) (case : Case) → answer ≡ Counter level index case → IsAnswer P most answer → IsCounter P most level index case
-  broken_by level index case is right = subst (λ (a : Answer). IsAnswer P most a) is right
+  pub broken_by : (level index : ℕ) (case : Case) → answer ≡ Counter level index case → IsAnswer P size most answer → IsCounter P size most level index case
+  broken_by level index case is right = subst (λ (a : Answer). IsAnswer P size most a) is right
 
-  pub undecided_by : (level index : ℕ) (why : Why) → answer ≡ Unknown level index why → IsAnswer P most answer → IsUnknown P most level index why
-  undecided_by level index why is right = subst (λ (a : Answer). IsAnswer P most a) is right
+  pub undecided_by : (level index : ℕ) (why : Why) → answer ≡ Unknown level index why → IsAnswer P size most answer → IsUnknown P size most level index why
+  undecided_by level index why is right = subst (λ (a : Answer). IsAnswer P size most a) is right
 
-  pub unmet_by : (proof : Proof) → answer ≡ NoNetwork proof → IsAnswer P most answer → IsUnmet P proof
-  unmet_by proof is right = subst (λ (a : Answer). IsAnswer P most a) is right
+  pub unmet_by : (proof : Proof) → answer ≡ NoNetwork proof → IsAnswer P size most answer → IsUnmet P size proof
+  unmet_by proof is right = subst (λ (a : Answer). IsAnswer P size most a) is right

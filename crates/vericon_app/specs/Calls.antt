@@ -3,8 +3,9 @@ use Rattle.std.specs.Prelude.{◌≡◌, ℕ, List, [], ◌∷◌, slice_index_o
 use Rattle.command_words.specs.declared.table.Command.{Command}
 use Rattle.command_words.specs.declared.table.Command.TheVariants.{Check, Show, Eval, Trace, Conditions, Clauses, Frames, Make, Replay}
 use Rattle.command_words.specs.Call.{Call}
-use Rattle.command_words.specs.Calls.{number_at, option_number}
+use Rattle.command_words.specs.Calls.{number_at, option_number, option_size}
 use Rattle.command_words.specs.Options.{value_of}
+use Rattle.csdn_conditions.specs.Classes.{usual_size, greatest_size}
 use Rattle.file_loads.specs.declared.read.FileKind.{FileKind}
 use Rattle.file_loads.specs.declared.read.FileKind.TheVariants as kind
 use Rattle.file_loads.specs.Answers.{File}
@@ -88,6 +89,18 @@ level_of call = strength (option_number (codes "--strengthen") call.options)
 abbrev pub level_named : Option Call → ℕ
 level_named None = 0
 level_named (Some call) = level_of call
+
+-- the size by which a call decides conditions, which is at most 2^53: the number behind `--instances`, and the usual one where it isn't given
+abbrev pub chosen_size : Option ℕ → ℕ
+chosen_size None = usual_size
+chosen_size (Some size) = min size greatest_size
+
+abbrev pub size_of : Call → ℕ
+size_of call = chosen_size (option_size (codes "--instances") call.options)
+
+abbrev pub size_named : Option Call → ℕ
+size_named None = usual_size
+size_named (Some call) = size_of call
 
 -- the level of the condition that a call of `eval` asks for, likewise
 abbrev pub condition_level : Call → ℕ

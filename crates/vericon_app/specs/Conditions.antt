@@ -8,10 +8,10 @@ use Rattle.file_loads.specs.Writes.{Write}
 use Rattle.file_loads.specs.Outputs.{Then}
 use Rattle.file_loads.specs.Loads.{WithProgram}
 
--- the classes of the conditions of this level
-abbrev pub ClassesOutput : ℕ → Parts → List ℕ → ℕ → Type 0
-ClassesOutput level P text status = IsListed P 0 (conditions P level) text × (status ≡ 0)
+-- the classes of the conditions of this level, by the size
+abbrev pub ClassesOutput : ℕ → ℕ → Parts → List ℕ → ℕ → Type 0
+ClassesOutput size level P text status = IsListed P size 0 (conditions P level) text × (status ≡ 0)
 
--- `conditions PROGRAM`, at a level
-abbrev pub ConditionsOutput : ℕ → List ℕ → List Answer → Option Write → List ℕ → ℕ → Type 0
-ConditionsOutput level name = WithProgram name (λ P. Then (ClassesOutput level P))
+-- `conditions PROGRAM`, by a size and at a level
+abbrev pub ConditionsOutput : ℕ → ℕ → List ℕ → List Answer → Option Write → List ℕ → ℕ → Type 0
+ConditionsOutput size level name = WithProgram name (λ P. Then (ClassesOutput size level P))

@@ -3,6 +3,7 @@ use Rattle.std.specs.Prelude.{◌≡◌, ℕ, List, [], ◌++◌, length, codes,
 use Rattle.csdn_core.specs.declared.program.Parts.{Parts}
 use Rattle.csdn_read.specs.declared.refusal.ProgramWhy.{ProgramWhy}
 use Rattle.csdn_read.specs.Programs.{Spells, IsNoProgram}
+use Rattle.csdn_conditions.specs.Classes.{usual_size}
 use Rattle.csdn_conditions.specs.Kinds.{kinds}
 use Rattle.made_program.specs.Made.{made_text}
 use Rattle.file_loads.specs.Lines.{refused_text}
@@ -22,7 +23,7 @@ conditions_line count = codes "conditions " ++ decimal count ++ codes "\n"
 -- how long a text is, how many conditions of level 0 the program that it spells has, and what `check` says of that program
 pub record IsProgramLines (count bytes : ℕ) (P : Parts) (text : List ℕ) (status : ℕ) : Type 0 where
   pub said : List ℕ
-  pub checked : ProgramOutput 0 None P [] None said status
+  pub checked : ProgramOutput usual_size 0 None P [] None said status
   pub text_is : text ≡ made_line count bytes ++ conditions_line (length (kinds P 0)) ++ said
 
 -- What is said of a text of this count, once it stands in the file of this name: the lines of the program that it spells; or its length, and, as `check` says it, that it spells none.

@@ -8,7 +8,7 @@ use Rattle.file_loads.specs.Lines.{usage_text}
 use Rattle.file_loads.specs.Answers.{Answer}
 use Rattle.file_loads.specs.Writes.{Write}
 use Rattle.file_loads.specs.Outputs.{Then}
-use Rattle.vericon_app.specs.Calls.{file_name, count_of, session_of, level_of, condition_level, log_name}
+use Rattle.vericon_app.specs.Calls.{file_name, count_of, session_of, level_of, size_of, condition_level, log_name}
 use Rattle.vericon_app.specs.Check.{CheckOutput}
 use Rattle.vericon_app.specs.Show.{ShowOutput}
 use Rattle.vericon_app.specs.Eval.{EvalOutput}
@@ -21,11 +21,11 @@ use Rattle.vericon_app.specs.Replay.{ReplayOutput}
 
 -- what a call of the command may print, and its status, by what its reads answered and what it wrote
 abbrev pub CommandOutput : Command → Call → List Answer → Option Write → List ℕ → ℕ → Type 0
-CommandOutput Check call = CheckOutput (level_of call) (log_name Check call) (file_name call 0)
+CommandOutput Check call = CheckOutput (size_of call) (level_of call) (log_name Check call) (file_name call 0)
 CommandOutput Show call = ShowOutput (file_name call 0)
 CommandOutput Eval call = EvalOutput (condition_level call) (number_at call.operands 3) (file_name call 0) (file_name call 1)
 CommandOutput Trace call = TraceOutput (file_name call 0) (file_name call 1) (file_name call 2)
-CommandOutput Conditions call = ConditionsOutput (level_of call) (file_name call 0)
+CommandOutput Conditions call = ConditionsOutput (size_of call) (level_of call) (file_name call 0)
 CommandOutput Clauses call = ClausesOutput (file_name call 0)
 CommandOutput Frames call = FramesOutput (file_name call 0)
 CommandOutput Make call = MakeOutput (count_of call) (file_name call 1)

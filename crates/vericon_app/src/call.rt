@@ -1,11 +1,12 @@
 //! The call of a command that uses no network.
 ghost use Rattle.std.specs.Prelude.{◌≡◌, ◌≤◌, ◌+◌, ◌⊎◌, ℕ, false, List, length, map, string_bytes, IfOk};
 ghost use Rattle.command_words.specs.Calls.{asked_call};
+ghost use Rattle.csdn_conditions.specs.Classes.{greatest_size};
 ghost use Rattle.file_loads.specs.Status.{code_of};
 ghost use Rattle.file_loads.specs.Lines.{memory_text};
 ghost use Rattle.file_loads.specs.Views.{Touches, Writes, change_of};
 ghost use Rattle.file_loads.specs.Explained.{IsExplained};
-ghost use Rattle.vericon_app.specs.Calls.{IsCheck, files_of, files_named, level_named, log_named, number_or_zero, strength, written_name, written_named};
+ghost use Rattle.vericon_app.specs.Calls.{IsCheck, files_of, files_named, chosen_size, level_named, log_named, number_or_zero, size_named, strength, written_name, written_named};
 ghost use Rattle.vericon_app.specs.Output.{CommandOutput, Output};
 ghost use Rattle.vericon_app.specs.Left.{HasLeft, Finishes};
 ghost use Rattle.vericon_app.specs.Verified.{IsVerified};
@@ -27,6 +28,7 @@ use crate::trace::trace;
 use command_words::request::Request;
 use command_words::request_of;
 use command_words::table::Command;
+use csdn_conditions::class::{GREATEST_SIZE, USUAL_SIZE};
 use csdn_conditions::laws::start_is_initial;
 use file_loads::lines::usage;
 use file_loads::outcome::{Outcome, Status};
@@ -42,6 +44,17 @@ fn level_in(number: Option<u32>) -> u8
     match number {
         None => 0,
         Some(level) => level.min(9) as u8,
+    }
+}
+
+/// A number as the size by which conditions are decided, at most 2^53; the usual size where it isn't given.
+fn size_in(number: Option<u64>) -> u64
+    ensures size { result ≡ chosen_size number }
+    ensures within { result ≤ greatest_size }
+{
+    match number {
+        None => USUAL_SIZE,
+        Some(size) => size.min(GREATEST_SIZE),
     }
 }
 
@@ -71,13 +84,14 @@ fn run_request<F: Files>(
     let index = request.number(3);
     let stream = request.operand(4);
     let log = request.option("--log");
+    let size = size_in(request.option_size("--instances"));
     let most = level_in(request.option_number("--strengthen"));
     match request.command() {
-        Command::Check => check(alloc, files, most, log, file),
+        Command::Check => check(alloc, files, size, most, log, file),
         Command::Show => show(alloc, files, file),
         Command::Eval => eval(alloc, files, file, net, condition_level, index),
         Command::Trace => trace(alloc, files, file, net, journal),
-        Command::Conditions => conditions(alloc, files, file, most),
+        Command::Conditions => conditions(alloc, files, file, size, most),
         Command::Clauses => clauses(alloc, files, file),
         Command::Frames => frames(alloc, files, file),
         Command::Make => make(alloc, files, u64::from(number_in(request.number(0))), net),
@@ -112,7 +126,8 @@ fn finish<S: Sink>(out: &mut S, text: &[u8], status: Status) -> u8
     }
 }
 
-/// Says that there was no memory for the call.
+/// Writes `memory` and a line end, since there was no memory for the call. The answer is status 7, or 8 where that was
+/// not written.
 pub fn no_memory<S: Sink>(out: &mut S) -> u8
     requires { S.has_failed out.old ≡ false }
     ensures finishes { Finishes memory_text 7 (S.written out.old) (S.written out.new) (S.faults out.old) (S.faults out.new) result }
@@ -121,8 +136,8 @@ pub fn no_memory<S: Sink>(out: &mut S) -> u8
     finish(out, b"memory\n", Status::Memory)
 }
 
-/// Serves the command that the words name, and gives its status. It writes its lines to the sink, and no file but
-/// the log that `check` was asked for, or the program that `make` makes.
+/// Serves the command that the words name, and gives its status (docs/COMMANDS.md). It writes its lines to the sink,
+/// and no file but the log that `check` was asked for, or the program that `make` makes.
 ///
 /// | status | meaning |
 /// |---|---|
@@ -135,6 +150,19 @@ pub fn no_memory<S: Sink>(out: &mut S) -> u8
 /// | 6 | the words have no stated form |
 /// | 7 | there was no memory |
 /// | 8 | the sink failed, or the log or the made program was not written |
+///
+/// # Example
+///
+/// From the test `each_call_prints_the_lines_of_its_row` of command_tests, over files and a sink in memory.
+///
+/// ```rust
+/// let mut files = MemFiles::new(alloc, FaultPlan::none(alloc), FaultPlan::none(alloc));
+/// files.write_all(alloc, "p", b"rel armed(); safety A: not armed(); pktIn(s, src->dst, i) { skip; }")?;
+/// let words = vec![in alloc; String::from_str(alloc, "check")?, String::from_str(alloc, "p")?]?;
+/// let mut out = MemSink::new(alloc, 4096, FaultPlan::none(alloc));
+/// assert_eq!(rt; check_call(alloc, &words, &mut files, &mut out), 0);
+/// assert_eq!(rt; out.bytes(), b"yes level 0\n".as_slice());
+/// ```
 pub fn check_call<F: Files, S: Sink>(
     alloc: Global,
     words: &[String],
@@ -153,7 +181,7 @@ pub fn check_call<F: Files, S: Sink>(
     // where no fault was counted, want of memory is the only excuse
     ensures answered { IsUndisturbed (change_of F.told F.read_calls F.write_calls F.read_faults F.write_faults files.old files.new) (S.faults out.old) (S.faults out.new) → IsAnswered (asked_call (map string_bytes words.now)) (change_of F.told F.read_calls F.write_calls F.read_faults F.write_faults files.old files.new) (S.written out.old) (S.written out.new) result }
     // so what `check` is told fixes its status
-    ensures decided { (name bytes : List ℕ) → IsCheck (asked_call (map string_bytes words.now)) name → F.told files.old name ≡ holds bytes → IsUndisturbed (change_of F.told F.read_calls F.write_calls F.read_faults F.write_faults files.old files.new) (S.faults out.old) (S.faults out.new) → IsDecided (level_named (asked_call (map string_bytes words.now))) bytes result ⊎ (result ≡ 7) }
+    ensures decided { (name bytes : List ℕ) → IsCheck (asked_call (map string_bytes words.now)) name → F.told files.old name ≡ holds bytes → IsUndisturbed (change_of F.told F.read_calls F.write_calls F.read_faults F.write_faults files.old files.new) (S.faults out.old) (S.faults out.new) → IsDecided (size_named (asked_call (map string_bytes words.now))) (level_named (asked_call (map string_bytes words.now))) bytes result ⊎ (result ≡ 7) }
     // each file that is named is read once at most; and none is written but the log or the made program, once at most
     ensures once { F.read_calls files.new ≤ F.read_calls files.old + length (files_named (asked_call (map string_bytes words.now))) }
     ensures writes { Writes (written_named (asked_call (map string_bytes words.now))) (change_of F.told F.read_calls F.write_calls F.read_faults F.write_faults files.old files.new) }

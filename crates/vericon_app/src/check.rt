@@ -1,5 +1,6 @@
-//! `check [--strengthen N] [--log FILE] PROGRAM`: whether a program holds its invariants.
+//! `check [--strengthen N] [--instances N] [--log FILE] PROGRAM`: whether a program holds its invariants.
 ghost use Rattle.std.specs.Prelude.{◌≡◌, ◌≤◌, [], ◌∷◌, IfOk, drop, option_map};
+ghost use Rattle.csdn_conditions.specs.Classes.{greatest_size};
 ghost use Rattle.csdn_conditions.specs.Conditions.{conditions};
 ghost use Rattle.vericon_decide.specs.Levels.{AreProofsOf, IsUnmet};
 ghost use Rattle.vericon_decide.specs.Answers.{IsYes, IsCounter, IsUnknown};
@@ -36,14 +37,15 @@ pub fn yes(alloc: Global, level: u8) -> Result<Outcome, AllocError>
 fn say_broken(
     alloc: Global,
     program: &Program,
+    size: u64,
     most: u8,
     level: u8,
     index: u32,
     case: &Case,
 ) -> Result<Outcome, AllocError>
     requires within { most ≤ 9 }
-    requires broken { IsCounter program.now most level index case.now }
-    ensures { IfOk result (λ outcome. IsNotProven most program.now outcome.text.items (code_of outcome.status)) }
+    requires broken { IsCounter program.now size most level index case.now }
+    ensures { IfOk result (λ outcome. IsNotProven size most program.now outcome.text.items (code_of outcome.status)) }
 {
     let text = counterexample_of(alloc, program, level, index, case)?;
     Ok(Outcome {
@@ -56,14 +58,15 @@ fn say_broken(
 fn say_undecided(
     alloc: Global,
     program: &Program,
+    size: u64,
     most: u8,
     level: u8,
     index: u32,
     why: Why,
 ) -> Result<Outcome, AllocError>
     requires within { most ≤ 9 }
-    requires unknown { IsUnknown program.now most level index why }
-    ensures { IfOk result (λ outcome. IsNotProven most program.now outcome.text.items (code_of outcome.status)) }
+    requires unknown { IsUnknown program.now size most level index why }
+    ensures { IfOk result (λ outcome. IsNotProven size most program.now outcome.text.items (code_of outcome.status)) }
 {
     let text = unproven_line(alloc, program, level, index, why)?;
     Ok(Outcome {
@@ -76,11 +79,12 @@ fn say_undecided(
 fn say_unmet(
     alloc: Global,
     program: &Program,
+    size: u64,
     most: u8,
     proof: &Proof,
 ) -> Result<Outcome, AllocError>
-    requires { IsUnmet program.now proof.now }
-    ensures { IfOk result (λ outcome. IsNotProven most program.now outcome.text.items (code_of outcome.status)) }
+    requires { IsUnmet program.now size proof.now }
+    ensures { IfOk result (λ outcome. IsNotProven size most program.now outcome.text.items (code_of outcome.status)) }
 {
     let text = no_network_line(alloc)?;
     Ok(Outcome {
@@ -98,34 +102,36 @@ pub enum Finding {
     Told(Outcome),
 }
 
-/// What is found of a program at the levels up to `most`.
-pub fn find(alloc: Global, program: &Program, most: u8) -> Result<Finding, AllocError>
-    requires { most ≤ 9 }
-    ensures { IfOk result (IsFinding most program.now) }
+/// What is found of a program by a size, at the levels up to `most`.
+pub fn find(alloc: Global, program: &Program, size: u64, most: u8) -> Result<Finding, AllocError>
+    requires size { size ≤ greatest_size }
+    requires most { most ≤ 9 }
+    ensures { IfOk result (IsFinding size most program.now) }
 {
-    match decide(alloc, program, most)? {
+    match decide(alloc, program, size, most)? {
         Answer::Yes { level, proofs } => Ok(Finding::Proven { level, proofs }),
         Answer::Counter { level, index, case } => {
-            let told = say_broken(alloc, program, most, level, index, &case)?;
+            let told = say_broken(alloc, program, size, most, level, index, &case)?;
             Ok(Finding::Told(told))
         }
         Answer::Unknown { level, index, why } => {
-            let told = say_undecided(alloc, program, most, level, index, why)?;
+            let told = say_undecided(alloc, program, size, most, level, index, why)?;
             Ok(Finding::Told(told))
         }
         Answer::NoNetwork { proof } => {
-            let told = say_unmet(alloc, program, most, &proof)?;
+            let told = say_unmet(alloc, program, size, most, &proof)?;
             Ok(Finding::Told(told))
         }
     }
 }
 
-/// What is said of a program at the levels up to `most`, where no log is asked for.
-pub fn verdict(alloc: Global, program: &Program, most: u8) -> Result<Outcome, AllocError>
-    requires { most ≤ 9 }
-    ensures { IfOk result (λ outcome. ProgramOutput most None program.now [] None outcome.text.items (code_of outcome.status)) }
+/// What is said of a program by a size and at the levels up to `most`, where no log is asked for.
+pub fn verdict(alloc: Global, program: &Program, size: u64, most: u8) -> Result<Outcome, AllocError>
+    requires size { size ≤ greatest_size }
+    requires most { most ≤ 9 }
+    ensures { IfOk result (λ outcome. ProgramOutput size most None program.now [] None outcome.text.items (code_of outcome.status)) }
 {
-    match find(alloc, program, most)? {
+    match find(alloc, program, size, most)? {
         Finding::Proven {
             level,
             proofs: _proofs,
@@ -159,12 +165,13 @@ fn proven<F: Files>(
     files: &mut F,
     log: Option<&str>,
     program: &Program,
+    size: u64,
     most: u8,
     level: u8,
     proofs: Vec<Proof>,
 ) -> Result<Outcome, AllocError>
     requires within { most ≤ 9 }
-    requires proven { IsYes program.now most level proofs.items }
+    requires proven { IsYes program.now size most level proofs.items }
     ensures output { IfOk result (λ outcome. IsExplained (change_of F.told F.read_calls F.write_calls F.read_faults F.write_faults files.old files.new) [] (YesOutput (option_map (λ name. name.now) log.entry) program.now level) outcome.text.items (code_of outcome.status)) }
     ensures touches { Touches 0 (option_map (λ name. name.now) log.entry) (change_of F.told F.read_calls F.write_calls F.read_faults F.write_faults files.old files.new) }
 {
@@ -174,40 +181,45 @@ fn proven<F: Files>(
     }
 }
 
-/// What is said of a program, at the levels up to `most`.
+/// What is said of a program, by a size and at the levels up to `most`.
 fn check_program<F: Files>(
     alloc: Global,
     files: &mut F,
+    size: u64,
     most: u8,
     log: Option<&str>,
     program: &Program,
 ) -> Result<Outcome, AllocError>
-    requires { most ≤ 9 }
-    ensures output { IfOk result (λ outcome. IsExplained (change_of F.told F.read_calls F.write_calls F.read_faults F.write_faults files.old files.new) [] (ProgramOutput most (option_map (λ name. name.now) log.entry) program.now) outcome.text.items (code_of outcome.status)) }
+    requires size { size ≤ greatest_size }
+    requires most { most ≤ 9 }
+    ensures output { IfOk result (λ outcome. IsExplained (change_of F.told F.read_calls F.write_calls F.read_faults F.write_faults files.old files.new) [] (ProgramOutput size most (option_map (λ name. name.now) log.entry) program.now) outcome.text.items (code_of outcome.status)) }
     ensures touches { Touches 0 (option_map (λ name. name.now) log.entry) (change_of F.told F.read_calls F.write_calls F.read_faults F.write_faults files.old files.new) }
 {
-    match find(alloc, program, most)? {
+    match find(alloc, program, size, most)? {
         Finding::Proven { level, proofs } => {
-            proven(alloc, files, log, program, most, level, proofs)
+            proven(alloc, files, log, program, size, most, level, proofs)
         }
         Finding::Told(outcome) => Ok(outcome),
     }
 }
 
-/// What `check` says of a file, at the levels up to `most`. Where the answer is yes and the name of a log is given, the log is written to that file.
+/// What `check` says of a file, by a size and at the levels up to `most` (docs/COMMANDS.md, "check"). Where the answer is
+/// yes and the name of a log is given, the log is written to that file. It reads at most once.
 pub fn check<F: Files>(
     alloc: Global,
     files: &mut F,
+    size: u64,
     most: u8,
     log: Option<&str>,
     name: &str,
 ) -> Result<Outcome, AllocError>
-    requires { most ≤ 9 }
-    ensures output { IfOk result (λ outcome. IsExplained (change_of F.told F.read_calls F.write_calls F.read_faults F.write_faults files.old files.new) (record { kind = ProgramFile; name = name.now } ∷ []) (CheckOutput most (option_map (λ name. name.now) log.entry) name.now) outcome.text.items (code_of outcome.status)) }
+    requires size { size ≤ greatest_size }
+    requires most { most ≤ 9 }
+    ensures output { IfOk result (λ outcome. IsExplained (change_of F.told F.read_calls F.write_calls F.read_faults F.write_faults files.old files.new) (record { kind = ProgramFile; name = name.now } ∷ []) (CheckOutput size most (option_map (λ name. name.now) log.entry) name.now) outcome.text.items (code_of outcome.status)) }
     ensures touches { Touches 1 (option_map (λ name. name.now) log.entry) (change_of F.told F.read_calls F.write_calls F.read_faults F.write_faults files.old files.new) }
 {
     match load_program(alloc, files, name)? {
-        Load::Loaded(program) => check_program(alloc, files, most, log, &program),
+        Load::Loaded(program) => check_program(alloc, files, size, most, log, &program),
         Load::Refused(outcome) => Ok(outcome),
     }
 }

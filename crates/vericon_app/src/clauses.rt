@@ -41,7 +41,7 @@ fn list_blocks(alloc: Global, name: &str, bytes: &[u8]) -> Result<Outcome, Alloc
     }
 }
 
-/// What `clauses` says of a file.
+/// What `clauses` says of a file (docs/COMMANDS.md, "clauses"). It reads at most once.
 pub fn clauses<F: Files>(alloc: Global, files: &mut F, name: &str) -> Result<Outcome, AllocError>
     ensures output { IfOk result (λ outcome. IsExplained (change_of F.told F.read_calls F.write_calls F.read_faults F.write_faults files.old files.new) (record { kind = Logs; name = name.now } ∷ []) (ClausesOutput name.now) outcome.text.items (code_of outcome.status)) }
     ensures reads { OnlyReads 1 (change_of F.told F.read_calls F.write_calls F.read_faults F.write_faults files.old files.new) }

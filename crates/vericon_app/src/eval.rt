@@ -122,7 +122,7 @@ fn eval_program<F: Files>(
 }
 
 /// What `eval` says of a program and a network, and of the condition with this number at this level, where the number
-/// is given.
+/// is given (docs/COMMANDS.md, "eval"). It reads each file at most once.
 pub fn eval<F: Files>(
     alloc: Global,
     files: &mut F,

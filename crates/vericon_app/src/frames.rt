@@ -28,7 +28,7 @@ fn list_bytes(alloc: Global, bytes: &[u8]) -> Result<Outcome, AllocError>
     })
 }
 
-/// What `frames` says of a file.
+/// What `frames` says of a file (docs/COMMANDS.md, "frames"). It reads at most once.
 pub fn frames<F: Files>(alloc: Global, files: &mut F, name: &str) -> Result<Outcome, AllocError>
     ensures output { IfOk result (λ outcome. IsExplained (change_of F.told F.read_calls F.write_calls F.read_faults F.write_faults files.old files.new) (record { kind = FramesFile; name = name.now } ∷ []) (FramesOutput name.now) outcome.text.items (code_of outcome.status)) }
     ensures reads { OnlyReads 1 (change_of F.told F.read_calls F.write_calls F.read_faults F.write_faults files.old files.new) }

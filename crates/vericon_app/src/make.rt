@@ -8,6 +8,7 @@ ghost use Rattle.file_loads.specs.Explained.{IsExplained};
 ghost use Rattle.vericon_app.specs.Make.{IsProgramLines, MadeOutput, MakeOutput, conditions_line, made_line};
 
 use crate::check::verdict;
+use csdn_conditions::class::USUAL_SIZE;
 use csdn_conditions::kinds::condition_count;
 use csdn_core::program::Program;
 use csdn_read::{ProgramRefusal, ProgramWhy, read_program};
@@ -52,7 +53,7 @@ fn program_lines(
 ) -> Result<Outcome, AllocError>
     ensures { IfOk result (λ outcome. IsProgramLines count bytes program.now outcome.text.items (code_of outcome.status)) }
 {
-    let said = verdict(alloc, program, 0)?;
+    let said = verdict(alloc, program, USUAL_SIZE, 0)?;
     let conditions = counted(alloc, program)?;
     let mut text = made(alloc, count, bytes)?;
     put_word(&mut text, &conditions)?;
@@ -96,7 +97,8 @@ fn lines_of(alloc: Global, count: u64, name: &str, bytes: &[u8]) -> Result<Outco
     }
 }
 
-/// Writes the made text of this count to a file, and says what it is. Nothing is said where it was not written.
+/// Writes the made text of this count to a file, and says what it is (docs/COMMANDS.md, "make"). Nothing is said where
+/// it was not written.
 pub fn make<F: Files>(
     alloc: Global,
     files: &mut F,

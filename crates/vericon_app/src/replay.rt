@@ -161,7 +161,8 @@ fn replay_program<F: Files>(
     }
 }
 
-/// What `replay` says of a program, a network without a state, a journal, a session's number and the bytes of its switch.
+/// What `replay` says of a program, a network without a state, a journal, a session's number and the bytes of its
+/// switch (docs/COMMANDS.md, "replay"). It reads each file at most once.
 pub fn replay<F: Files>(
     alloc: Global,
     files: &mut F,

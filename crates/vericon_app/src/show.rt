@@ -25,7 +25,7 @@ fn show_tree(alloc: Global, tree: &RawProgram) -> Result<Outcome, AllocError>
     })
 }
 
-/// What `show` says of a file.
+/// What `show` says of a file (docs/COMMANDS.md, "show"). It reads at most once.
 pub fn show<F: Files>(alloc: Global, files: &mut F, name: &str) -> Result<Outcome, AllocError>
     ensures output { IfOk result (λ outcome. IsExplained (change_of F.told F.read_calls F.write_calls F.read_faults F.write_faults files.old files.new) (record { kind = Program; name = name.now } ∷ []) (ShowOutput name.now) outcome.text.items (code_of outcome.status)) }
     ensures reads { OnlyReads 1 (change_of F.told F.read_calls F.write_calls F.read_faults F.write_faults files.old files.new) }

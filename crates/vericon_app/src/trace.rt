@@ -78,7 +78,8 @@ fn trace_program<F: Files>(
     }
 }
 
-/// What `trace` says of a program, a network and a journal.
+/// What `trace` says of a program, a network and a journal (docs/COMMANDS.md, "trace"). It reads each file at most
+/// once.
 pub fn trace<F: Files>(
     alloc: Global,
     files: &mut F,

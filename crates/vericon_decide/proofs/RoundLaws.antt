@@ -1,13 +1,13 @@
 -- From rounds to what is settled.
-use Rattle.std.proofs.Common.{◌≡◌, ◌∙◌, ℕ, ◌<◌, ◌+◌, Bool, ◌&&◌, List, [], ◌∷◌, ◌++◌, length, refl, sym, ap, subst, arith, append-nil}
+use Rattle.std.proofs.Common.{◌≡◌, ◌∙◌, ℕ, ◌<◌, Bool, ◌&&◌, List, [], ◌∷◌, ◌++◌, length, sym, ap, subst, arith, append-nil}
 use mathlib.Core.Path.{fun_ext}
 use Rattle.csdn_core.specs.declared.program.Parts.{Parts}
 use Rattle.csdn_core.specs.declared.syntax.Formula.{Formula}
-use Rattle.clause_log.specs.Literals.{Literal, truths}
+use Rattle.clause_log.specs.Literals.{truths}
 use Rattle.decision_laws.specs.Laws.{IsJudgement, IsSentence, clauses, judged}
 use Rattle.decision_laws.specs.Sublists.{left_of}
 use Rattle.lazy_ground.specs.declared.sentence.LazyGround.{LazyGround}
-use Rattle.lazy_ground.specs.Completed.{is_named, said}
+use Rattle.lazy_ground.specs.Completed.{is_named}
 use Rattle.lazy_ground.specs.Lazy.{AddsBroken}
 use Rattle.lazy_ground.proofs.Agree.{said_judgement}
 

@@ -1,5 +1,5 @@
 -- From clauses to verdicts.
-use Rattle.std.proofs.Common.{List, Option, Some, None, not, IsFalse}
+use Rattle.std.proofs.Common.{ℕ, List, Option, Some, None, not, IsFalse}
 use Rattle.std.proofs.lemmas.Bool.{and_parts, not-true}
 use Rattle.csdn_core.specs.declared.event.Packet.TheVariants.{Nothing}
 use Rattle.csdn_core.specs.declared.program.Parts.{Parts}
@@ -29,11 +29,11 @@ pub settled_by : (P : Parts) (F : Formula) (cs : ClauseList) (log : List Step) �
 settled_by P F cs log is tied refuted =
     (λ has. refuted_networks P F is cs.clauses log tied refuted.accepted has, record { tied = tied; refuted = refuted })
 
-pub sentence_of : (P : Parts) (c : Condition) → IsClosed P c.hypothesis → IsClosed P c.goal → IsInside P c → IsSentence P (sentence c)
-sentence_of P c hypothesis goal inside = record { closed = case_closed P c hypothesis goal; inside = inside.1 }
+pub sentence_of : (P : Parts) (size : ℕ) (c : Condition) → IsClosed P c.hypothesis → IsClosed P c.goal → IsInside P size c → IsSentence P (sentence c)
+sentence_of P size c hypothesis goal inside = record { closed = case_closed P c hypothesis goal; inside = inside.1 }
 
-pub proven_by : (P : Parts) (c : Condition) → IsInside P c → (HasNetwork P (sentence c) → ⊥) → IsProven P c
-proven_by P c inside none = record { inside = inside; no_case = λ has. none ((case_sentence P c).0 has) }
+pub proven_by : (P : Parts) (size : ℕ) (c : Condition) → IsInside P size c → (HasNetwork P (sentence c) → ⊥) → IsProven P size c
+proven_by P size c inside none = record { inside = inside; no_case = λ has. none ((case_sentence P c).0 has) }
 
 -- where the sentence is true, the hypothesis is and the goal is not
 sentence_parts : (P : Parts) (c : Condition) (N : Network) (x : State) → IsTrueIn P (sentence c) N x → IsTrueIn P c.hypothesis N x × IsFalse (truth (structure P N x Nothing) c.goal no_values)

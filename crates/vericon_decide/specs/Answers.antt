@@ -15,19 +15,20 @@ use Rattle.vericon_decide.specs.declared.answer.Answer.TheVariants.{Yes, Counter
 use Rattle.vericon_decide.specs.Verdicts.{IsInside, IsBrokenBy}
 use Rattle.vericon_decide.specs.Levels.{IsWhy, NetworkIsInside, IsMeetable, IsMet, IsUnmet, IsProvenBy, NoneIsBroken, NoneIsBrokenTo, AreInsideTo, FailsBelow}
 
-module _ (P : Parts) (most : ℕ) where
+-- by the size
+module _ (P : Parts) (size most : ℕ) where
   -- where the network condition can be decided, some network meets the topology invariants, and each level up to `most` fails
   pub record IsOpen : Type 0 where
-    pub network : NetworkIsInside P → IsMeetable P
-    pub fails : NetworkIsInside P → FailsBelow P (suc most)
+    pub network : NetworkIsInside P size → IsMeetable P
+    pub fails : NetworkIsInside P size → FailsBelow P size (suc most)
 
   -- this is the first level that is proven, by these proofs, and some network meets the topology invariants
   pub record IsYes (level : ℕ) (proofs : List Proof) : Type 0 where
     pub within : level ≤ most
-    pub met : IsMet P
-    pub proven : IsProvenBy P level proofs
+    pub met : IsMet P size
+    pub proven : IsProvenBy P size level proofs
     pub inductive : IsInductive level P
-    pub fails : FailsBelow P level
+    pub fails : FailsBelow P size level
 
   -- at level `most` the condition of this number is the first that is inside and has a case, which is this one; the network
   -- condition doesn't count
@@ -35,30 +36,30 @@ module _ (P : Parts) (most : ℕ) where
     pub last : level ≡ most
     pub open_so : IsOpen
     pub some : 0 < index
-    pub broken : OfCondition P level index (λ c. IsBrokenBy P c case)
-    pub first : NoneIsBrokenTo P level index
+    pub broken : OfCondition P level index (λ c. IsBrokenBy P size c case)
+    pub first : NoneIsBrokenTo P size level index
 
   -- at level `most` no condition but the network condition is inside and has a case; that of this number is the first that is
   -- not inside, for this reason
   pub record IsUnknown (level index : ℕ) (why : Why) : Type 0 where
     pub last : level ≡ most
     pub open_so : IsOpen
-    pub unbroken : NoneIsBroken P level
-    pub undecided : OfCondition P level index (λ c. IsWhy P c why)
-    pub first : AreInsideTo P level index
+    pub unbroken : NoneIsBroken P size level
+    pub undecided : OfCondition P level index (λ c. IsWhy P size c why)
+    pub first : AreInsideTo P size level index
 
   -- the condition of this number of level `most` is the first that is not inside, for this reason, and none before it has a case
   pub record IsUndecided (index : ℕ) (why : Why) : Type 0 where
     pub open_so : IsOpen
-    pub undecided : OfCondition P most index (λ c. IsWhy P c why)
-    pub first : AreInsideTo P most index
-    pub unbroken : NoneIsBrokenTo P most index
+    pub undecided : OfCondition P most index (λ c. IsWhy P size c why)
+    pub first : AreInsideTo P size most index
+    pub unbroken : NoneIsBrokenTo P size most index
 
   abbrev pub IsAnswer : Answer → Type 0
   IsAnswer (Yes level proofs) = IsYes level proofs.items
   IsAnswer (Counter level index case) = IsCounter level index case
   IsAnswer (Unknown level index why) = IsUnknown level index why
-  IsAnswer (NoNetwork proof) = IsUnmet P proof
+  IsAnswer (NoNetwork proof) = IsUnmet P size proof
 
 -- Two answers are one, but for the proofs and the case that they give.
 abbrev pub AreOne : Answer → Answer → Type 0
@@ -82,32 +83,32 @@ AreOne (NoNetwork p) (NoNetwork q) = Unit {0}
 -- When each answer comes.
 
 -- each condition of level n can be decided, the program is n-inductive, and some network meets the topology invariants
-pub record IsProvable (P : Parts) (n : ℕ) : Type 0 where
-  pub inside : (i : ℕ) (c : Condition) → slice_get (conditions P n) i ≡ Some c → IsInside P c
+pub record IsProvable (P : Parts) (size n : ℕ) : Type 0 where
+  pub inside : (i : ℕ) (c : Condition) → slice_get (conditions P n) i ≡ Some c → IsInside P size c
   pub network : IsMeetable P
   pub inductive : IsInductive n P
 
 -- n is the least such level, and at most `most`
-pub record IsLeastProvable (P : Parts) (most n : ℕ) : Type 0 where
+pub record IsLeastProvable (P : Parts) (size most n : ℕ) : Type 0 where
   pub within : n ≤ most
-  pub provable : IsProvable P n
-  pub least : (m : ℕ) → m < n → IsProvable P m → ⊥
+  pub provable : IsProvable P size n
+  pub least : (m : ℕ) → m < n → IsProvable P size m → ⊥
 
 -- some level of at most `most` is such
-pub record IsProvableWithin (P : Parts) (most : ℕ) : Type 0 where
+pub record IsProvableWithin (P : Parts) (size most : ℕ) : Type 0 where
   pub level : ℕ
   pub within : level ≤ most
-  pub provable : IsProvable P level
+  pub provable : IsProvable P size level
 
 -- the network condition can be decided, and no network meets the topology invariants
-abbrev pub IsUnmeetable : Parts → Type 0
-IsUnmeetable P = NetworkIsInside P × ((N : Network) → IsTopology P N → ⊥)
+abbrev pub IsUnmeetable : Parts → ℕ → Type 0
+IsUnmeetable P size = NetworkIsInside P size × ((N : Network) → IsTopology P N → ⊥)
 
 -- a condition of level n other than the network condition can be decided and has a case
-pub record IsBreakable (P : Parts) (n : ℕ) : Type 0 where
+pub record IsBreakable (P : Parts) (size n : ℕ) : Type 0 where
   pub index : ℕ
   pub some : 0 < index
-  pub broken : OfCondition P n index (λ c. IsInside P c × HasCase P c)
+  pub broken : OfCondition P n index (λ c. IsInside P size c × HasCase P c)
 
 -- yes at level n
 abbrev pub IsYesAt : ℕ → Answer → Type 0

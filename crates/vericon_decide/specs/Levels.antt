@@ -1,6 +1,5 @@
 -- What holds of the conditions of a level.
-use Rattle.std.specs.Prelude.{◌≡◌, ◌⊎◌, ℕ, ◌<◌, List, [], ◌∷◌, drop, Option, Some, None, Vec, slice_get}
-use Rattle.std.specs.declared.alloc.Global.{Global}
+use Rattle.std.specs.Prelude.{◌≡◌, ◌⊎◌, ℕ, suc, ◌+◌, ◌*◌, ◌<◌, ◌≤◌, Bool, true, false, List, [], ◌∷◌, length, take, drop, Option, Some, None, slice_get}
 use Rattle.csdn_core.specs.declared.program.Parts.{Parts}
 use Rattle.csdn_core.specs.Network.{Network}
 use Rattle.csdn_core.specs.Holds.{IsTopology}
@@ -31,21 +30,21 @@ AreProofsOf P (c ∷ cs) [] = ⊥
 AreProofsOf P (c ∷ cs) (proof ∷ proofs) = IsProofOf P (sentence c) proof × AreProofsOf P cs proofs
 
 -- why a condition isn't inside
-abbrev pub IsWhy : Parts → Condition → Why → Type 0
-IsWhy P c Nodes = IsClass P (sentence c) NodesClass
-IsWhy P c Outside = IsClass P (sentence c) OutsideClass
-IsWhy P c (Instances n) = IsClass P (sentence c) (InstancesClass n)
+abbrev pub IsWhy : Parts → ℕ → Condition → Why → Type 0
+IsWhy P size c Nodes = IsClass P size (sentence c) NodesClass
+IsWhy P size c Outside = IsClass P size (sentence c) OutsideClass
+IsWhy P size c (Instances n) = IsClass P size (sentence c) (InstancesClass n)
 
 -- what is found of a condition
-abbrev pub IsFinding : Parts → Condition → Finding → Type 0
-IsFinding P c (Valid proof) = IsProven P c × IsProofOf P (sentence c) proof
-IsFinding P c (Broken case) = IsBrokenBy P c case
-IsFinding P c (Undecided why) = IsWhy P c why
+abbrev pub IsFinding : Parts → ℕ → Condition → Finding → Type 0
+IsFinding P size c (Valid proof) = IsProven P size c × IsProofOf P (sentence c) proof
+IsFinding P size c (Broken case) = IsBrokenBy P size c case
+IsFinding P size c (Undecided why) = IsWhy P size c why
 
 -- a case that is found, or none where the condition is inside and has no case, or isn't inside
-abbrev pub IsCaseFound : Parts → Condition → Option Case → Type 0
-IsCaseFound P c (Some case) = IsBrokenBy P c case
-IsCaseFound P c None = IsInside P c → HasCase P c → ⊥
+abbrev pub IsCaseFound : Parts → ℕ → Condition → Option Case → Type 0
+IsCaseFound P size c (Some case) = IsBrokenBy P size c case
+IsCaseFound P size c None = IsInside P size c → HasCase P c → ⊥
 
 -- what is found by a verdict
 abbrev pub found_by : Verdict → Finding
@@ -55,19 +54,31 @@ found_by NodesVerdict = Undecided Nodes
 found_by OutsideVerdict = Undecided Outside
 found_by (InstancesVerdict n) = Undecided (Instances n)
 
-module _ (P : Parts) where
+-- some network meets the topology invariants
+abbrev pub IsMeetable : Parts → Type 0
+IsMeetable P = (N : Network) × IsTopology P N
+
+-- all conditions are proven that were asked for
+abbrev pub is_proven : LevelEnd → Bool
+is_proven ProvenEnd = true
+is_proven (BrokenEnd index case) = false
+is_proven (UndecidedEnd index why) = false
+
+-- how many conditions level n shares with the levels below it: the network condition, and the conditions on the start of at most
+-- n - 1 events, with which it begins
+abbrev pub shared : Parts → ℕ → ℕ
+shared P n = suc (n * length P.safety)
+
+-- by the size
+module _ (P : Parts) (size : ℕ) where
   -- the network condition, which is the same at every level, can be decided
   abbrev pub NetworkIsInside : Type 0
-  NetworkIsInside = IsInside P (condition P 0 NetworkKind)
-
-  -- some network meets the topology invariants
-  abbrev pub IsMeetable : Type 0
-  IsMeetable = (N : Network) × IsTopology P N
+  NetworkIsInside = IsInside P size (condition P 0 NetworkKind)
 
   -- the network condition can be decided, and some network meets the topology invariants
   pub record IsMet : Type 0 where
     pub inside : NetworkIsInside
-    pub network : IsMeetable
+    pub network : IsMeetable P
 
   -- .. and none does, by this proof
   pub record IsUnmet (proof : Proof) : Type 0 where
@@ -77,29 +88,35 @@ module _ (P : Parts) where
 
   -- each condition of level n before number k, but the network condition, is inside and has no case
   abbrev pub AreProvenTo : ℕ → ℕ → Type 0
-  AreProvenTo n k = (i : ℕ) (c : Condition) → slice_get (conditions P n) i ≡ Some c → 0 < i → i < k → IsProven P c
+  AreProvenTo n k = (i : ℕ) (c : Condition) → slice_get (conditions P n) i ≡ Some c → 0 < i → i < k → IsProven P size c
 
   -- .. each of level n
   abbrev pub IsProvenAt : ℕ → Type 0
-  IsProvenAt n = (i : ℕ) (c : Condition) → slice_get (conditions P n) i ≡ Some c → 0 < i → IsProven P c
+  IsProvenAt n = (i : ℕ) (c : Condition) → slice_get (conditions P n) i ≡ Some c → 0 < i → IsProven P size c
+
+  -- .. by these proofs, one for each in their order
+  pub record AreProvenByTo (n k : ℕ) (proofs : List Proof) : Type 0 where
+    pub some : 0 < k
+    pub proven : AreProvenTo n k
+    pub proofs_of : AreProofsOf P (drop 1 (take k (conditions P n))) proofs
 
   -- none of level n before number k, but the network condition, is inside and has a case
   abbrev pub NoneIsBrokenTo : ℕ → ℕ → Type 0
-  NoneIsBrokenTo n k = (i : ℕ) (c : Condition) → slice_get (conditions P n) i ≡ Some c → 0 < i → i < k → IsInside P c → HasCase P c → ⊥
+  NoneIsBrokenTo n k = (i : ℕ) (c : Condition) → slice_get (conditions P n) i ≡ Some c → 0 < i → i < k → IsInside P size c → HasCase P c → ⊥
 
   -- .. none of level n
   abbrev pub NoneIsBroken : ℕ → Type 0
-  NoneIsBroken n = (i : ℕ) (c : Condition) → slice_get (conditions P n) i ≡ Some c → 0 < i → IsInside P c → HasCase P c → ⊥
+  NoneIsBroken n = (i : ℕ) (c : Condition) → slice_get (conditions P n) i ≡ Some c → 0 < i → IsInside P size c → HasCase P c → ⊥
 
   -- each of level n before number k is inside
   abbrev pub AreInsideTo : ℕ → ℕ → Type 0
-  AreInsideTo n k = (i : ℕ) (c : Condition) → slice_get (conditions P n) i ≡ Some c → i < k → IsInside P c
+  AreInsideTo n k = (i : ℕ) (c : Condition) → slice_get (conditions P n) i ≡ Some c → i < k → IsInside P size c
 
   -- a condition of level n other than the network condition is not inside, or has a case
   pub record FailsAt (n : ℕ) : Type 0 where
     pub index : ℕ
     pub some : 0 < index
-    pub failed : OfCondition P n index (λ c. (IsInside P c → ⊥) ⊎ HasCase P c)
+    pub failed : OfCondition P n index (λ c. (IsInside P size c → ⊥) ⊎ HasCase P c)
 
   -- each level below n does
   abbrev pub FailsBelow : ℕ → Type 0
@@ -116,13 +133,27 @@ module _ (P : Parts) where
     pub fact : OfCondition P n index Fact
     pub before : AreProvenTo n index
 
-  -- the proofs of level n, or none where it fails
-  abbrev pub IsLevelProven : ℕ → Option (Vec Proof Global) → Type 0
-  IsLevelProven n (Some proofs) = IsProvenBy n proofs.items
-  IsLevelProven n None = FailsAt n
+  -- the condition of this number of level n, of those from number `first` to before number `end`, is such, and those before it
+  -- are proven by these proofs
+  pub record StopsAt (n first end index : ℕ) (proofs : List Proof) (Fact : Condition → Type 0) : Type 0 where
+    pub from : first ≤ index
+    pub below : index < end
+    pub fact : OfCondition P n index Fact
+    pub before : AreProvenByTo n index proofs
 
-  -- how far level n is proven
-  abbrev pub IsLevelEnd : ℕ → LevelEnd → Type 0
-  IsLevelEnd n (ProvenEnd proofs) = IsProvenBy n proofs.items
-  IsLevelEnd n (BrokenEnd index case) = IsFirst n index (λ c. IsBrokenBy P c case)
-  IsLevelEnd n (UndecidedEnd index why) = IsFirst n index (λ c. IsWhy P c why)
+  -- how far the conditions of level n from number `first` to before number `end` are proven, behind those before them
+  abbrev pub IsLevelEnd : ℕ → ℕ → ℕ → List Proof → LevelEnd → Type 0
+  IsLevelEnd n first end proofs ProvenEnd = AreProvenByTo n end proofs
+  IsLevelEnd n first end proofs (BrokenEnd index case) = StopsAt n first end index proofs (λ c. IsBrokenBy P size c case)
+  IsLevelEnd n first end proofs (UndecidedEnd index why) = StopsAt n first end index proofs (λ c. IsWhy P size c why)
+
+  -- what level n takes over from those below it: each of them fails, and the conditions that it shares with them are proven by
+  -- these proofs
+  pub record IsKept (n : ℕ) (proofs : List Proof) : Type 0 where
+    pub fails : FailsBelow n
+    pub proven : AreProvenByTo n (shared P n) proofs
+
+  -- level n is proven by these proofs; or it fails, and they prove what it shares with the next level
+  abbrev pub IsLevelProven : ℕ → Bool → List Proof → Type 0
+  IsLevelProven n true proofs = IsProvenBy n proofs
+  IsLevelProven n false proofs = FailsAt n × AreProvenByTo n (shared P (n + 1)) proofs

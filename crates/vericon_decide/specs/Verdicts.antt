@@ -1,5 +1,5 @@
 -- What is said of a condition.
-use Rattle.std.specs.Prelude.{◌≡◌, IsFalse, All}
+use Rattle.std.specs.Prelude.{◌≡◌, ℕ, IsFalse, All}
 use Rattle.csdn_core.specs.declared.event.Packet.TheVariants.{Nothing}
 use Rattle.csdn_core.specs.declared.program.Parts.{Parts}
 use Rattle.csdn_core.specs.declared.syntax.Formula.{Formula}
@@ -34,33 +34,34 @@ abbrev pub IsSettled : Parts → Formula → Solution → Type 0
 IsSettled P F (Refuted proof) = (HasNetwork P F → ⊥) × IsProofOf P F proof
 IsSettled P F (Satisfied case) = MakesTrue P F case
 
-module _ (P : Parts) (c : Condition) where
+-- a network of the program, and a state of its elements, in which the hypothesis is true and the goal false
+pub record IsCaseOf (P : Parts) (c : Condition) (case : Case) : Type 0 where
+  pub network : IsNetwork P case.network
+  pub tuples : HasState case.state (All (IsStateTuple P case.network))
+  pub hypothesis : HasState case.state (λ rows. IsTrueIn P c.hypothesis case.network (held rows))
+  pub goal : HasState case.state (λ rows. IsFalse (truth (structure P case.network (held rows) Nothing) c.goal no_values))
+  pub packet : case.packet ≡ Nothing
+
+-- by the size, which is the most atoms and equations that the copies of a sentence may have
+module _ (P : Parts) (size : ℕ) (c : Condition) where
   -- the condition can be decided
   abbrev pub IsInside : Type 0
-  IsInside = IsClass P (sentence c) Inside
+  IsInside = IsClass P size (sentence c) Inside
 
   -- it is inside and has no case
   pub record IsProven : Type 0 where
     pub inside : IsInside
     pub no_case : HasCase P c → ⊥
 
-  -- a network of the program, and a state of its elements, in which the hypothesis is true and the goal false
-  pub record IsCaseOf (case : Case) : Type 0 where
-    pub network : IsNetwork P case.network
-    pub tuples : HasState case.state (All (IsStateTuple P case.network))
-    pub hypothesis : HasState case.state (λ rows. IsTrueIn P c.hypothesis case.network (held rows))
-    pub goal : HasState case.state (λ rows. IsFalse (truth (structure P case.network (held rows) Nothing) c.goal no_values))
-    pub packet : case.packet ≡ Nothing
-
   -- it is inside, and this is a case of it
   pub record IsBrokenBy (case : Case) : Type 0 where
     pub inside : IsInside
-    pub case_of : IsCaseOf case
+    pub case_of : IsCaseOf P c case
 
   -- what a verdict says of it
   abbrev pub IsVerdict : Verdict → Type 0
   IsVerdict (Valid proof) = IsProven × IsProofOf P (sentence c) proof
   IsVerdict (Broken case) = IsBrokenBy case
-  IsVerdict Nodes = IsClass P (sentence c) NodesClass
-  IsVerdict Outside = IsClass P (sentence c) OutsideClass
-  IsVerdict (Instances n) = IsClass P (sentence c) (InstancesClass n)
+  IsVerdict Nodes = IsClass P size (sentence c) NodesClass
+  IsVerdict Outside = IsClass P size (sentence c) OutsideClass
+  IsVerdict (Instances n) = IsClass P size (sentence c) (InstancesClass n)

@@ -2,12 +2,13 @@
 #![tactic(auto)]
 
 ghost use Rattle.std.specs.Prelude.{◌<◌, ◌≤◌, IfOk, length};
+ghost use Rattle.csdn_conditions.specs.Classes.{greatest_size};
 ghost use Rattle.csdn_conditions.specs.Kinds.{kinds};
-ghost use Rattle.vericon_decide.specs.Levels.{IsMet, FailsBelow};
+ghost use Rattle.vericon_decide.specs.Levels.{IsMet, IsKept};
 ghost use Rattle.vericon_decide.specs.Answers.{IsAnswer, IsUndecided};
 
 use crate::findings::{Finding, case_at, finding_at};
-use crate::levels::{LevelEnd, level_end, level_proofs};
+use crate::levels::{LevelEnd, prove, prove_starts, prove_steps, shared_count};
 use crate::verdict::Proof;
 use csdn_conditions::kinds::condition_count;
 use csdn_core::program::Program;
@@ -21,7 +22,7 @@ pub enum Why {
     Nodes,
     /// In the normal form of its sentence an `exists` stands under a `forall`.
     Outside,
-    /// The copies of its sentence have this many atoms and equations, more than 16,777,216; 2^64 - 1 where they have more.
+    /// The copies of its sentence have this many atoms and equations, more than the size; 2^64 - 1 where they have more.
     Instances(u64),
 }
 
@@ -39,48 +40,99 @@ pub enum Answer {
     NoNetwork { proof: Proof },
 }
 
-/// Decides a program: yes at the least level of at most `most` whose conditions are proven, or what is broken or can't be
-/// decided at level `most`.
-pub fn decide(alloc: Global, program: &Program, most: u8) -> Result<Answer, AllocError>
-    requires { most ≤ 9 }
-    ensures { IfOk result (IsAnswer program.now most) }
+/// Decides a program: yes at the least level of at most `most` whose conditions are proven, or what is broken or can't
+/// be decided at level `most` (docs/COMMANDS.md, "Levels"). The search may take time and memory that are exponential in
+/// the number of atoms of a condition. A condition can be decided only where the copies of its sentence have at most
+/// `size` atoms and equations.
+///
+/// # Example
+///
+/// From the test `answers_programs` of decide_tests, whose second program puts in what its invariant forbids.
+///
+/// ```rust
+/// let raw = parse(alloc, b"rel armed(); safety A: not armed(); pktIn(s, src->dst, i) { skip; }")?;
+/// let program = resolve(alloc, &raw)?;
+/// match decide(alloc, &program, USUAL_SIZE, 0)? {
+///     Answer::Yes { level, proofs } => assert!(rt; level == 0 && proofs.len() == 3),
+///     _ => assert!(rt; false),
+/// }
+/// let raw = parse(alloc, b"rel armed(); safety A: not armed(); pktIn(s, src->dst, i) { armed.insert(); }")?;
+/// let program = resolve(alloc, &raw)?;
+/// match decide(alloc, &program, USUAL_SIZE, 0)? {
+///     Answer::Counter { level, index, .. } => assert!(rt; level == 0 && index == 2),
+///     _ => assert!(rt; false),
+/// }
+/// ```
+pub fn decide(alloc: Global, program: &Program, size: u64, most: u8) -> Result<Answer, AllocError>
+    requires size { size ≤ greatest_size }
+    requires most { most ≤ 9 }
+    ensures { IfOk result (IsAnswer program.now size most) }
 {
     // Its contract says that the program is well-sorted.
     program.parts();
-    match finding_at(alloc, program, 0, 0)? {
+    match finding_at(alloc, program, size, 0, 0)? {
         Finding::Valid(proof) => Ok(Answer::NoNetwork { proof }),
-        Finding::Broken(_) => decide_levels(alloc, program, most),
-        Finding::Undecided(why) => decide_rest(alloc, program, most, 0, why),
+        Finding::Broken(_) => decide_levels(alloc, program, size, most),
+        Finding::Undecided(why) => decide_rest(alloc, program, size, most, 0, why),
     }
 }
 
-// The levels in order, where some network meets the topology invariants.
-fn decide_levels(alloc: Global, program: &Program, most: u8) -> Result<Answer, AllocError>
+// The levels in order, where some network meets the topology invariants. A level goes on from what it shares with those below it.
+fn decide_levels(
+    alloc: Global,
+    program: &Program,
+    size: u64,
+    most: u8,
+) -> Result<Answer, AllocError>
+    requires size { size ≤ greatest_size }
     requires most { most ≤ 9 }
-    requires met { IsMet program.now }
-    ensures { IfOk result (IsAnswer program.now most) }
+    requires met { IsMet program.now size }
+    ensures { IfOk result (IsAnswer program.now size most) }
 {
     // Its contract says that the program is well-sorted.
     program.parts();
+    let mut proofs = Vec::new(alloc);
     for level in 0..most {
-        if let Some(proofs) = level_proofs(alloc, program, level)? {
+        match prove_starts(alloc, program, size, level, &mut proofs)? {
+            LevelEnd::Proven => {}
+            LevelEnd::Broken { index, case } => {
+                return Ok(Answer::Counter {
+                    level: most,
+                    index,
+                    case,
+                });
+            }
+            LevelEnd::Undecided { index, why } => {
+                return decide_rest(alloc, program, size, most, index, why);
+            }
+        }
+        if prove_steps(alloc, program, size, level, &mut proofs)? {
             return Ok(Answer::Yes { level, proofs });
         }
     }
-    decide_last(alloc, program, most)
+    decide_last(alloc, program, size, most, proofs)
 }
 
-// The last level, where each one below it fails.
-fn decide_last(alloc: Global, program: &Program, most: u8) -> Result<Answer, AllocError>
+// The last level, from what it shares with those below it, which fail.
+fn decide_last(
+    alloc: Global,
+    program: &Program,
+    size: u64,
+    most: u8,
+    mut proofs: Vec<Proof>,
+) -> Result<Answer, AllocError>
+    requires size { size ≤ greatest_size }
     requires most { most ≤ 9 }
-    requires met { IsMet program.now }
-    requires fails { FailsBelow program.now most }
-    ensures { IfOk result (IsAnswer program.now most) }
+    requires met { IsMet program.now size }
+    requires kept { IsKept program.now size most proofs.items }
+    ensures { IfOk result (IsAnswer program.now size most) }
 {
     // Its contract says that the program is well-sorted.
     program.parts();
-    match level_end(alloc, program, most)? {
-        LevelEnd::Proven(proofs) => Ok(Answer::Yes {
+    let first = shared_count(program, most);
+    let end = condition_count(program, most);
+    match prove(alloc, program, size, most, first, end, &mut proofs)? {
+        LevelEnd::Proven => Ok(Answer::Yes {
             level: most,
             proofs,
         }),
@@ -89,7 +141,7 @@ fn decide_last(alloc: Global, program: &Program, most: u8) -> Result<Answer, All
             index,
             case,
         }),
-        LevelEnd::Undecided { index, why } => decide_rest(alloc, program, most, index, why),
+        LevelEnd::Undecided { index, why } => decide_rest(alloc, program, size, most, index, why),
     }
 }
 
@@ -97,18 +149,20 @@ fn decide_last(alloc: Global, program: &Program, most: u8) -> Result<Answer, All
 fn decide_rest(
     alloc: Global,
     program: &Program,
+    size: u64,
     most: u8,
     index: u32,
     why: Why,
 ) -> Result<Answer, AllocError>
+    requires size { size ≤ greatest_size }
     requires most { most ≤ 9 }
     requires index { index < length (kinds program.now most) }
-    requires undecided { IsUndecided program.now most index why }
-    ensures { IfOk result (IsAnswer program.now most) }
+    requires undecided { IsUndecided program.now size most index why }
+    ensures { IfOk result (IsAnswer program.now size most) }
 {
     let count = condition_count(program, most);
     for later in index + 1..count {
-        if let Some(case) = case_at(alloc, program, most, later)? {
+        if let Some(case) = case_at(alloc, program, size, most, later)? {
             return Ok(Answer::Counter {
                 level: most,
                 index: later,

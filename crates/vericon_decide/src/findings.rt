@@ -3,6 +3,7 @@
 
 ghost use Rattle.std.specs.Prelude.{◌≡◌, ◌<◌, ◌≤◌, IfOk, length};
 ghost use Rattle.csdn_conditions.specs.Answers.{OfCondition};
+ghost use Rattle.csdn_conditions.specs.Classes.{greatest_size};
 ghost use Rattle.csdn_conditions.specs.Kinds.{kinds};
 ghost use Rattle.vericon_decide.specs.Levels.{IsFinding, IsCaseFound, found_by};
 
@@ -25,21 +26,23 @@ pub enum Finding {
     Undecided(Why),
 }
 
-/// Makes and decides the condition of this number.
+/// Makes and decides the condition of this number, by a size.
 pub fn finding_at(
     alloc: Global,
     program: &Program,
+    size: u64,
     level: u8,
     index: u32,
 ) -> Result<Finding, AllocError>
+    requires size { size ≤ greatest_size }
     requires level { level ≤ 9 }
     requires index { index < length (kinds program.now level) }
-    ensures { IfOk result (λ finding. OfCondition program.now level index (λ c. IsFinding program.now c finding)) }
+    ensures { IfOk result (λ finding. OfCondition program.now level index (λ c. IsFinding program.now size c finding)) }
 {
     // Its contract says that the program is well-sorted.
     program.parts();
     match condition(alloc, program, level, index) {
-        Ok(condition) => Ok(finding_of(decide_condition(alloc, program, condition)?)),
+        Ok(condition) => Ok(finding_of(decide_condition(alloc, program, size, condition)?)),
         Err(FormRefusal::Large) => Ok(Finding::Undecided(Why::Nodes)),
         Err(FormRefusal::Memory) => Err(AllocError),
     }
@@ -62,14 +65,16 @@ fn finding_of(verdict: Verdict) -> Finding
 pub fn case_at(
     alloc: Global,
     program: &Program,
+    size: u64,
     level: u8,
     index: u32,
 ) -> Result<Option<Case>, AllocError>
+    requires size { size ≤ greatest_size }
     requires level { level ≤ 9 }
     requires index { index < length (kinds program.now level) }
-    ensures { IfOk result (λ found. OfCondition program.now level index (λ c. IsCaseFound program.now c found)) }
+    ensures { IfOk result (λ found. OfCondition program.now level index (λ c. IsCaseFound program.now size c found)) }
 {
-    match finding_at(alloc, program, level, index)? {
+    match finding_at(alloc, program, size, level, index)? {
         Finding::Valid(_) => Ok(None),
         Finding::Broken(case) => Ok(Some(case)),
         Finding::Undecided(_) => Ok(None),

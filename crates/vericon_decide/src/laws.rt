@@ -7,7 +7,7 @@ ghost use Rattle.vericon_decide.specs.Answers.{IsAnswer, AreOne, IsYesAt, IsLeas
 
 /// Two answers to one program are one: of the same variant, level, number and reason.
 pub fn answers_exclude()
-    ensures { (P : AnyParts) (most : ℕ) (a b : AnyAnswer) → IsAnswer P most a → IsAnswer P most b → AreOne a b }
+    ensures { (P : AnyParts) (size most : ℕ) (a b : AnyAnswer) → IsAnswer P size most a → IsAnswer P size most b → AreOne a b }
 {}
 
 /// When each answer comes. No network: exactly where the network condition can be decided and no network meets the topology
@@ -16,8 +16,8 @@ pub fn answers_exclude()
 /// holds, and a condition of level `most` other than the network condition can be decided and has a case. Unknown: exactly where
 /// none of these holds.
 pub fn answers_are_exact()
-    ensures no_network { (P : AnyParts) (most : ℕ) (a : AnyAnswer) → IsAnswer P most a → IsTrue (is_no_network a) ↔ IsUnmeetable P }
-    ensures yes { (P : AnyParts) → IsWellSorted P → (most : ℕ) (a : AnyAnswer) → IsAnswer P most a → (n : ℕ) → IsYesAt n a ↔ IsLeastProvable P most n }
-    ensures counter { (P : AnyParts) → IsWellSorted P → (most : ℕ) (a : AnyAnswer) → IsAnswer P most a → IsTrue (is_counter a) ↔ ((IsUnmeetable P → ⊥) × (IsProvableWithin P most → ⊥) × IsBreakable P most) }
-    ensures unknown { (P : AnyParts) → IsWellSorted P → (most : ℕ) (a : AnyAnswer) → IsAnswer P most a → IsTrue (is_unknown a) ↔ ((IsUnmeetable P → ⊥) × (IsProvableWithin P most → ⊥) × (IsBreakable P most → ⊥)) }
+    ensures no_network { (P : AnyParts) (size most : ℕ) (a : AnyAnswer) → IsAnswer P size most a → IsTrue (is_no_network a) ↔ IsUnmeetable P size }
+    ensures yes { (P : AnyParts) → IsWellSorted P → (size most : ℕ) (a : AnyAnswer) → IsAnswer P size most a → (n : ℕ) → IsYesAt n a ↔ IsLeastProvable P size most n }
+    ensures counter { (P : AnyParts) → IsWellSorted P → (size most : ℕ) (a : AnyAnswer) → IsAnswer P size most a → IsTrue (is_counter a) ↔ ((IsUnmeetable P size → ⊥) × (IsProvableWithin P size most → ⊥) × IsBreakable P size most) }
+    ensures unknown { (P : AnyParts) → IsWellSorted P → (size most : ℕ) (a : AnyAnswer) → IsAnswer P size most a → IsTrue (is_unknown a) ↔ ((IsUnmeetable P size → ⊥) × (IsProvableWithin P size most → ⊥) × (IsBreakable P size most → ⊥)) }
 {}

@@ -1,7 +1,8 @@
 //! Verdicts on conditions.
 #![tactic(auto)]
 
-ghost use Rattle.std.specs.Prelude.{IfOk};
+ghost use Rattle.std.specs.Prelude.{◌≤◌, IfOk};
+ghost use Rattle.csdn_conditions.specs.Classes.{greatest_size};
 ghost use Rattle.csdn_conditions.specs.Closed.{IsClosed};
 ghost use Rattle.vericon_decide.specs.Verdicts.{IsVerdict};
 
@@ -31,22 +32,24 @@ pub enum Verdict {
     Nodes,
     /// In the normal form of its sentence an `exists` stands under a `forall`.
     Outside,
-    /// The copies of its sentence have this many atoms and equations, more than 16,777,216; 2^64 - 1 where they have more.
+    /// The copies of its sentence have this many atoms and equations, more than the size; 2^64 - 1 where they have more.
     Instances(u64),
 }
 
-/// Decides a condition. The search may take time and memory that are exponential in the number of its atoms.
+/// Decides a condition by a size, which is the most atoms and equations that the copies of its sentence may have. The search may take time and memory that are exponential in the number of its atoms.
 pub fn decide_condition(
     alloc: Global,
     program: &Program,
+    size: u64,
     condition: Condition,
 ) -> Result<Verdict, AllocError>
+    requires size { size ≤ greatest_size }
     requires hypothesis { IsClosed program.now condition.hypothesis }
     requires goal { IsClosed program.now condition.goal }
-    ensures { IfOk result (IsVerdict program.now condition) }
+    ensures { IfOk result (IsVerdict program.now size condition) }
 {
     let sentence = condition.into_sentence(alloc)?;
-    match class_of(program, &sentence) {
+    match class_of(program, size, &sentence) {
         Class::Nodes => Ok(Verdict::Nodes),
         Class::Outside => Ok(Verdict::Outside),
         Class::Instances(count) => Ok(Verdict::Instances(count)),

@@ -21,6 +21,7 @@ pub enum Arrival<K: Drop> {
 ///
 /// An object may tell the links given back. It counts the calls of `listen` and `accept`, and those that failed; no count ever falls.
 pub trait Listener: Send + Drop {
+    /// What it gives.
     type Link: Link + Send + Drop;
 
     /// How often it was told to listen or asked for a link.

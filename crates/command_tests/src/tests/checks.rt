@@ -204,6 +204,71 @@ fn levels_are_tried_in_order(rt: HostRuntime) -> Result<(), Fail> {
     Ok(())
 }
 
+/// Ten hosts may stand for eight variables: `step A pktIn` has 10^8 copies of two atoms and two of its goal, `step A pktFlow`
+/// one more.
+pub(crate) const LONG: &[u8] = b"rel on(); rel met(HO, HO);
+safety A: forall A:HO, B:HO, C:HO, D:HO, E:HO, F:HO, G:HO, H:HO. on() -> met(A, B);
+pktIn(s, src->dst, i) { skip; }
+";
+
+/// The same, where a packet breaks it.
+const LONG_BROKEN: &[u8] = b"rel on(); rel met(HO, HO);
+safety A: forall A:HO, B:HO, C:HO, D:HO, E:HO, F:HO, G:HO, H:HO. on() -> met(A, B);
+pktIn(s, src->dst, i) { on.insert(); }
+";
+
+const SIZES: &[Call] = &[
+    (
+        &["check", "p"],
+        &[LONG],
+        b"unknown level 0 condition 2 step A pktIn: instances 200000002\n",
+        2,
+    ),
+    (
+        &["check", "--instances", "200000002", "p"],
+        &[LONG],
+        b"unknown level 0 condition 3 step A pktFlow: instances 200000003\n",
+        2,
+    ),
+    (
+        &["check", "--instances", "200000003", "p"],
+        &[LONG],
+        b"yes level 0\n",
+        0,
+    ),
+    (
+        &[
+            "check",
+            "--instances",
+            "9007199254740992",
+            "--strengthen",
+            "0",
+            "p",
+        ],
+        &[LONG_BROKEN],
+        b"counterexample level 0 condition 2 step A pktIn\n",
+        1,
+    ),
+    (
+        &["check", "--instances", "9007199254740993", "p"],
+        &[LONG],
+        b"usage\n",
+        6,
+    ),
+    (&["check", "--instances", "0", "p"], &[LONG], b"usage\n", 6),
+];
+
+#[test]
+fn a_size_says_what_is_decided(rt: HostRuntime) -> Result<(), Fail> {
+    let alloc = rt.alloc();
+    for (words, contents, begin, number) in SIZES {
+        let (text, status) = answer(alloc, words, contents)?;
+        assert_eq!(rt; text.as_slice().starts_with(begin), true);
+        assert_eq!(rt; status, *number);
+    }
+    Ok(())
+}
+
 #[test]
 fn a_condition_that_is_too_large_is_unknown(rt: HostRuntime) -> Result<(), Fail> {
     let alloc = rt.alloc();

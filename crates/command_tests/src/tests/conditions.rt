@@ -1,5 +1,5 @@
 //! Whole outputs of `conditions` and of `eval` with a condition, worked by hand from the documents of the commands.
-use super::checks::LATER;
+use super::checks::{LATER, LONG};
 use super::*;
 
 const LEARNING: &[u8] = b"rel conn(SW, PR, HO);
@@ -66,6 +66,12 @@ const CLASSES: &[Call] = &[
         &["conditions", "--strengthen", "1", "p"],
         &[LATER],
         b"0 network inside\n1 init 0 A inside\n2 init 1 A inside\n3 step A pktIn inside\n4 step A pktFlow inside\n",
+        0,
+    ),
+    (
+        &["conditions", "--instances", "200000002", "p"],
+        &[LONG],
+        b"0 network inside\n1 init 0 A inside\n2 step A pktIn inside\n3 step A pktFlow instances 200000003\n",
         0,
     ),
 ];

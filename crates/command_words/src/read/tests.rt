@@ -53,7 +53,7 @@ fn words_of(alloc: Global, words: &[&str]) -> Result<Vec<String>, AllocError> {
 // The command, the options with their values, and the operands.
 fn printed(alloc: Global, request: &Request) -> Result<String, AllocError> {
     let mut text = format!(in alloc; "{:?}", request.command())?;
-    for option in ["--strengthen", "--log"] {
+    for option in ["--strengthen", "--instances", "--log"] {
         if let Some(value) = request.option(option) {
             text.push_str(" ")?;
             text.push_str(option)?;
@@ -102,6 +102,22 @@ const TODAY: &[Case] = &[
         "Check --strengthen=0 p",
     ),
     (&["check", "--strengthen", "10", "p"], "usage"),
+    (&["check", "--instances", "1", "p"], "Check --instances=1 p"),
+    (
+        &[
+            "check",
+            "--instances",
+            "9007199254740992",
+            "--strengthen",
+            "1",
+            "p",
+        ],
+        "Check --strengthen=1 --instances=9007199254740992 p",
+    ),
+    (&["check", "--instances", "0", "p"], "usage"),
+    (&["check", "--instances", "9007199254740993", "p"], "usage"),
+    (&["check", "--instances", "01", "p"], "usage"),
+    (&["check", "--instances", "p"], "usage"),
     (&["check", "--log", "f", "p"], "Check --log=f p"),
     (&["check", "--log", "f"], "usage"),
     (&["check", "--log", "f", "--log", "g", "p"], "usage"),
@@ -134,6 +150,11 @@ const TODAY: &[Case] = &[
         "Conditions --strengthen=9 p",
     ),
     (&["conditions", "--log"], "Conditions --log"),
+    (
+        &["conditions", "--instances", "20000000", "p"],
+        "Conditions --instances=20000000 p",
+    ),
+    (&["conditions", "--instances"], "usage"),
     (&["clauses", "c"], "Clauses c"),
     (&["frames", "f"], "Frames f"),
     (&["frames", ""], "Frames"),

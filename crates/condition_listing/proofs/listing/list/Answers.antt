@@ -7,7 +7,7 @@ use Rattle.condition_listing.proofs.listing.list.Goals as goal
 pub conditions-preserved : goal.conditions-preserved
 conditions-preserved c =
     let found = c.in_ok-put_condition.ensures in
-    goes_on c.args.program.now (conditions c.args.program.now c.args.level) c.conditions.index found.condition c.conditions.out.items c.put_condition.new.out.items found.there found.holds c.conditions.invariant
+    goes_on c.args.program.now c.args.size (conditions c.args.program.now c.args.level) c.conditions.index found.condition c.conditions.out.items c.put_condition.new.out.items found.there found.holds c.conditions.invariant
 
 pub returns : goal.returns
 returns c =
@@ -16,4 +16,4 @@ returns c =
     let many = as_many P c.args.level in
     let count = c.condition_count-count.ensures.count in
     let past : length cs ≤ c.conditions.index = omega (arith, many, count, c.conditions-test.false) in
-    ends P cs c.conditions.index c.conditions.out.items (drop_all c.conditions.index cs past) c.conditions.invariant
+    ends P c.args.size cs c.conditions.index c.conditions.out.items (drop_all c.conditions.index cs past) c.conditions.invariant

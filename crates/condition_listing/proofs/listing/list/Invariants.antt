@@ -3,4 +3,4 @@ use Rattle.condition_listing.proofs.Listed.{GoesOn}
 use Rattle.condition_listing.proofs.listing.list.Given as goal
 
 abbrev pub invariant-conditions : goal.invariant-conditions
-invariant-conditions l = GoesOn l.program (conditions l.program l.level) l.index l.out.items
+invariant-conditions l = GoesOn l.program l.size (conditions l.program l.level) l.index l.out.items

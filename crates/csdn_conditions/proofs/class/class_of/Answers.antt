@@ -3,7 +3,7 @@ use Rattle.csdn_core.specs.Nodes.{nodes}
 use Rattle.fol_forms.specs.Forms.{form_of}
 use Rattle.fol_forms.specs.Written.{written}
 use Rattle.csdn_conditions.specs.Classes.{copied}
-use Rattle.csdn_conditions.proofs.ClassLaws.{over_nodes, under_nodes, over_instances, under_instances}
+use Rattle.csdn_conditions.proofs.ClassLaws.{over_nodes, under_nodes, over_size, under_size}
 use Rattle.csdn_conditions.proofs.class.class_of.Goals as goal
 
 pub returns-then-node_count-gt-MOST_NODES : goal.returns-then-node_count-gt-MOST_NODES
@@ -26,15 +26,15 @@ returns-then-not-in_fragment c = (
   search rules,
 )
 
-pub returns-then-count-gt-MOST_INSTANCES : goal.returns-then-count-gt-MOST_INSTANCES
-returns-then-count-gt-MOST_INSTANCES c = (
+pub returns-then-count-size : goal.returns-then-count-size
+returns-then-count-size c = (
   (
     under_nodes (nodes c.args.sentence.now) c.node_count.result c.node_count.ensures c.if-node_count-gt-MOST_NODES.false,
     under_nodes (nodes (written (form_of c.args.sentence.now))) c.count_of.result c.count_of.ensures
         c.if-count_of-gt-MOST_NODES.false,
   ),
   search rules,
-  over_instances (copied c.args.program.now c.args.sentence.now) c.instance_count-count.result c.instance_count-count.ensures c.if-count-gt-MOST_INSTANCES.true,
+  over_size (copied c.args.program.now c.args.sentence.now) c.instance_count-count.result c.args.size c.instance_count-count.ensures c.if-count-size.true,
   c.instance_count-count.ensures,
 )
 
@@ -46,5 +46,5 @@ returns c = (
         c.if-count_of-gt-MOST_NODES.false,
   ),
   search rules,
-  under_instances (copied c.args.program.now c.args.sentence.now) c.instance_count-count.result c.instance_count-count.ensures c.if-count-gt-MOST_INSTANCES.false,
+  under_size (copied c.args.program.now c.args.sentence.now) c.instance_count-count.result c.args.size c.requires c.instance_count-count.ensures c.if-count-size.false,
 )

@@ -12,7 +12,7 @@ returns-in_ok-sentence-in-Ok c =
     record {
       condition = found.condition;
       there = found.there;
-      holds = subst (λ z. IsClass c.args.program.now z c.class_of.result) (c.in_ok-sentence-in-Ok.ensures ∙ ap sentence found.holds.0) c.class_of.ensures;
+      holds = subst (λ z. IsClass c.args.program.now c.args.size z c.class_of.result) (c.in_ok-sentence-in-Ok.ensures ∙ ap sentence found.holds.0) c.class_of.ensures;
     }
 
 pub returns-in-Err-Large : goal.returns-in-Err-Large

@@ -1,4 +1,3 @@
-use Rattle.std.proofs.Common.{ap, ◌∙◌}
 use Rattle.clause_log.specs.Literals.{truths}
 use Rattle.lazy_ground.proofs.AddLaws.{added_broken}
 use Rattle.lazy_ground.proofs.adding.add_broken.Goals as goal

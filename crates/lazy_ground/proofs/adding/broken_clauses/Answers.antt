@@ -1,8 +1,8 @@
-use Rattle.std.proofs.Common.{[], ap, ◌∙◌}
+use Rattle.std.proofs.Common.{ap, subst, ◌∙◌}
 use Rattle.std.proofs.lemmas.Result.{IfOk-weaker}
 use Rattle.clause_log.specs.Literals.{truths}
 use Rattle.fol_forms.specs.Forms.{form_of}
-use Rattle.lazy_ground.specs.Found.{once}
+use Rattle.lazy_ground.specs.Found.{IsPickedFrom}
 use Rattle.lazy_ground.proofs.WholeFound.{bounded_from, broken_from}
 use Rattle.lazy_ground.proofs.adding.broken_clauses.Goals as goal
 
@@ -15,5 +15,5 @@ pub returns-clause-broken : goal.returns-clause-broken
 returns-clause-broken c =
     IfOk-weaker c.each_once.result _ _ (λ kept e.
     broken_from _ c.args.program.now c.args.lazy.now.made.sentence c.args.lazy.now.made.clauses.clauses (truths c.args.valuation.now) (c.parts.ensures.value, c.in_ok-named.ensures, c.in_ok-trues.ensures)
-    c.requires.sentence c.requires.lazy.facts (form_of c.get.result.now) (ap form_of c.get.ensures ∙ c.requires.lazy.simple) c.in_ok-rows.rows kept.clauses c.in_ok-rows.ensures
-    (ap (λ z. z.clauses) e ∙ ap (λ z. once [] z.clauses) c.into_clauses-found.ensures)) c.each_once.ensures
+    c.requires.sentence c.requires.lazy.facts (form_of c.get.result.now) (ap form_of c.get.ensures ∙ c.requires.lazy.simple) c.in_ok-rows.rows c.in_ok-some.some.clauses kept.clauses c.in_ok-rows.ensures
+    (subst (λ z. IsPickedFrom z.clauses c.in_ok-some.some.clauses) c.into_clauses-found.ensures c.in_ok-some.ensures.picked) (ap (λ z. z.clauses) e)) c.each_once.ensures

@@ -1,5 +1,5 @@
-use Rattle.std.proofs.Common.{◌≡◌, ◌∙◌, ◌<◌, [], length, take, sym, ap, ap₂, arith}
-use Rattle.lazy_ground.specs.Found.{once, put_clause}
+use Rattle.std.proofs.Common.{◌∙◌, ◌<◌, length, sym, ap, ap₂, arith}
+use Rattle.lazy_ground.specs.Found.{put_clause}
 use Rattle.lazy_ground.proofs.ReadLaws.{once_next}
 use Rattle.lazy_ground.proofs.collecting.each_once.Goals as goal
 

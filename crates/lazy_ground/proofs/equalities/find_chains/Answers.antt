@@ -1,5 +1,5 @@
-use Rattle.std.proofs.Common.{◌≡◌, [], ◌∷◌, arith, subst}
-use Rattle.std.specs.Prelude.{flat_map, map}
+use Rattle.std.proofs.Common.{◌≡◌, arith, subst}
+use Rattle.std.specs.Prelude.{flat_map}
 use Rattle.clause_log.specs.Literals.{truths}
 use Rattle.fol_forms.specs.Counts.{count_of}
 use Rattle.decision_laws.specs.Vocabulary.{places_from}

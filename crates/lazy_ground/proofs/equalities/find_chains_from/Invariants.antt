@@ -1,5 +1,5 @@
-use Rattle.std.specs.Prelude.{List, flat_map}
-use Rattle.clause_log.specs.Literals.{Literal, truths}
+use Rattle.std.specs.Prelude.{flat_map}
+use Rattle.clause_log.specs.Literals.{truths}
 use Rattle.decision_laws.specs.Vocabulary.{places_from}
 use Rattle.ground_inst.specs.Facts.{num_of, vocabulary_of}
 use Rattle.fol_forms.specs.Counts.{count_of}

@@ -1,4 +1,4 @@
-use Rattle.std.proofs.Common.{subst, ap₂, ◌∙◌}
+use Rattle.std.proofs.Common.{subst, ap₂}
 use Rattle.std.proofs.lemmas.Result.{on_ok_weaker}
 use Rattle.clause_log.specs.Literals.{truths}
 use Rattle.fol_forms.specs.Counts.{count_of}

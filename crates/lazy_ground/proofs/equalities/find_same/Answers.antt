@@ -1,9 +1,9 @@
 use Rattle.std.proofs.Common.{◌≡◌, [], ◌∷◌, arith, subst}
-use Rattle.std.specs.Prelude.{flat_map, map}
+use Rattle.std.specs.Prelude.{flat_map}
 use Rattle.clause_log.specs.Literals.{truths}
 use Rattle.fol_forms.specs.Counts.{count_of}
 use Rattle.decision_laws.specs.Vocabulary.{places_from}
-use Rattle.ground_inst.specs.Facts.{num_of, vocabulary_of}
+use Rattle.ground_inst.specs.Facts.{num_of}
 use Rattle.lazy_ground.specs.Found.{Finds}
 use Rattle.decision_laws.specs.Clauses.{yes}
 use Rattle.decision_laws.specs.Copies.{Equation}

@@ -5,7 +5,7 @@ use Rattle.fol_forms.specs.Counts.{count_of}
 use Rattle.decision_laws.specs.Vocabulary.{places_from}
 use Rattle.ground_inst.specs.Equality.{exchange_at}
 use Rattle.lazy_ground.specs.Found.{Finds}
-use Rattle.lazy_ground.proofs.FindLaws.{finds_next, finds_none}
+use Rattle.lazy_ground.proofs.FindLaws.{finds_next}
 use Rattle.lazy_ground.proofs.exchanges.find_exchanges_with.Goals as goal
 
 pub constants-preserved : goal.constants-preserved

@@ -1,8 +1,8 @@
-use Rattle.std.proofs.Common.{◌≡◌, ◌<◌, ◌∙◌, refl, sym, ap, subst, arith}
+use Rattle.std.proofs.Common.{◌≡◌, ◌<◌, ◌∙◌, refl, sym, subst, arith}
 use Rattle.std.proofs.lemmas.Result.{IfOk-weaker, on_ok_weaker}
 use Rattle.fol_forms.specs.Forms.{normal_form}
 use Rattle.fol_forms.specs.Counts.{count_of}
-use Rattle.ground_inst.specs.Walk.{state_of, ways_of}
+use Rattle.ground_inst.specs.Walk.{state_of}
 use Rattle.lazy_ground.specs.Found.{Looks}
 use Rattle.lazy_ground.proofs.LookSteps.{both_from, either_kept, either_pushed, free_found, member_kept_from, member_pushed_from, row_more, row_whole}
 use Rattle.lazy_ground.proofs.looking.+look.Goals as goal

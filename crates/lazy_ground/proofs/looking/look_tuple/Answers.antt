@@ -1,6 +1,5 @@
 use Rattle.std.proofs.Common.{ap, refl, ◌∙◌}
-use Rattle.clause_log.specs.Literals.{truths}
-use Rattle.fol_forms.specs.Forms.{Atom, Same}
+use Rattle.fol_forms.specs.Forms.{Atom}
 use Rattle.ground_inst.specs.Walk.{tuple_fact, literal_of, scope, state_of, ways_of}
 use Rattle.lazy_ground.proofs.LookSteps.{leaf_seen}
 use Rattle.lazy_ground.proofs.ReadLaws.{leaf_value}

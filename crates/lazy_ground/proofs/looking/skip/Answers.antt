@@ -1,6 +1,5 @@
-use Rattle.std.proofs.Common.{◌≡◌, ◌∙◌, ap, refl, subst, ◌+◌}
+use Rattle.std.proofs.Common.{◌∙◌, ap, ◌+◌}
 use Rattle.fol_forms.specs.Constants.{need}
-use Rattle.fol_forms.specs.Counts.{count_of}
 use Rattle.fol_forms.specs.Forms.{normal_form}
 use Rattle.decision_laws.specs.Clauses.{yes}
 use Rattle.ground_inst.specs.Walk.{state_of}

@@ -1,9 +1,9 @@
-use Rattle.std.proofs.Common.{◌≡◌, ◌++◌, [], ◌∷◌, ap, sym, refl, not, arith, ◌∙◌}
+use Rattle.std.proofs.Common.{ap, refl}
 use Rattle.std.proofs.lemmas.Result.{IfOk-weaker}
 use Rattle.fol_forms.specs.Forms.{normal_form}
 use Rattle.ground_inst.specs.Walk.{scope, state_of, ways_of}
 use Rattle.ground_inst.proofs.Steps.{told}
-use Rattle.lazy_ground.proofs.OpenSteps.{leaf_added, both_from, either_from, exists_added, only_added, passed_added}
+use Rattle.lazy_ground.proofs.OpenSteps.{leaf_added, both_from, either_from, exists_added, passed_added}
 use Rattle.lazy_ground.proofs.opening.+write.Goals as goal
 
 pub write-returns-in-Atom : goal.write-returns-in-Atom

@@ -1,6 +1,5 @@
 use Rattle.std.proofs.Common.{Err, subst}
 use Rattle.std.proofs.lemmas.List.Sorted.{searched}
-use Rattle.std.specs.List.Sorted.{IsNonDecreasing}
 use Rattle.clause_log.specs.Literals.{truths}
 use Rattle.lazy_ground.specs.Readings.{IsFree}
 use Rattle.lazy_ground.proofs.ReadLaws.{free_between, rising_at}

@@ -2,7 +2,7 @@ use Rattle.std.proofs.Common.{[], ◌∷◌, ◌∙◌, sym, subst}
 use Rattle.std.proofs.lemmas.Result.{on_ok_weaker}
 use Rattle.clause_log.specs.Literals.{truths}
 use Rattle.lazy_ground.specs.Found.{Finds}
-use Rattle.lazy_ground.proofs.FindLaws.{finds_false, finds_true, one_false, one_true}
+use Rattle.lazy_ground.proofs.FindLaws.{finds_false, one_false}
 use Rattle.lazy_ground.proofs.reading.offer.Goals as goal
 
 pub returns : goal.returns

@@ -1,4 +1,4 @@
-use Rattle.std.proofs.Common.{ap, subst, sym, ◌≡◌, ◌∙◌}
+use Rattle.std.proofs.Common.{ap, subst, ◌∙◌}
 use Rattle.decision_laws.specs.Laws.{atoms, name}
 use Rattle.decision_laws.proofs.Bridge.{part_models, part_tied}
 use Rattle.ground_inst.specs.Facts.{AreFactsOf}

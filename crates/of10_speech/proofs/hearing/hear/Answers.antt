@@ -1,12 +1,13 @@
 use Rattle.std.proofs.Common.{sym, ap, ◌∙◌, ◌≡◌, length, arith, List, ◌++◌, ◌+◌}
 use Rattle.of10_msgs.specs.declared.message.Message.{Message}
 use Rattle.std.proofs.lemmas.List.{append-nil}
-use Rattle.std.proofs.lemmas.Result.{IfOk-weaker, on_err_weaker}
+use Rattle.std.proofs.lemmas.Result.{IfErr-weaker, IfOk-weaker, on_err_weaker}
 use Rattle.of10_session.specs.Progresses.{Progress}
 use Rattle.of10_session.specs.declared.turn.Turn.TheVariants.{Ask as AskFor}
 use Rattle.of10_session.specs.Sessions.{turn, spelled}
 use Rattle.of10_speech.specs.Speeches.{Said, told}
-use Rattle.of10_speech.proofs.Asked.{hear_says, hear_same}
+use Rattle.of10_speech.proofs.Asked.{hear_breaks, hear_says, hear_same}
+use Rattle.of10_speech.proofs.Wide.{asking_wide}
 use Rattle.of10_session.proofs.Turns.{turn_orderly}
 use Rattle.of10_speech.proofs.hearing.hear.Goals as goal
 
@@ -45,3 +46,18 @@ returns-in-Ok-Ask-clause-asked g c =
     let asks : (turn c.args.session.now c.args.message).turn ≡ AskFor c.in-Ok-Ask.ask = sym c.in-Ok-Ask.ensures.turn.turn ∙ c.in-Ok-Ask.field-0-is in
     let same = hear_same (told g.P.Answers.declares g.P.Answers.given g.P.Answers.asked c.settle.new.program) c.args.place (length (g.P.Answers.given c.args.program.now)) c.args.session.now c.args.message c.in-Ok-Ask.ask c.step.new.self asks c.in-Ok-Ask.ensures.turn.session in
     IfOk-weaker c.settle.result _ _ (λ stop h. h ∙ ap (λ (y : Said). g.P.Answers.asked c.args.program.now ++ y.asks) (sym same)) c.settle.ensures.asked
+
+pub settle-requires-clause-left : goal.settle-requires-clause-left
+settle-requires-clause-left g c =
+    let asks : (turn c.args.session.now c.args.message).turn ≡ AskFor c.in-Ok-Ask.ask = sym c.in-Ok-Ask.ensures.turn.turn ∙ c.in-Ok-Ask.field-0-is in
+    omega (arith, asking_wide c.args.session.now c.args.message c.in-Ok-Ask.ask asks, c.requires.left)
+
+pub returns-in-Ok-Ask-clause-left : goal.returns-in-Ok-Ask-clause-left
+returns-in-Ok-Ask-clause-left g c =
+    let asks : (turn c.args.session.now c.args.message).turn ≡ AskFor c.in-Ok-Ask.ask = sym c.in-Ok-Ask.ensures.turn.turn ∙ c.in-Ok-Ask.field-0-is in
+    omega (arith, asking_wide c.args.session.now c.args.message c.in-Ok-Ask.ask asks, c.settle.ensures.left)
+
+pub returns-in-Ok-Ask-clause-broken : goal.returns-in-Ok-Ask-clause-broken
+returns-in-Ok-Ask-clause-broken g c =
+    let asks : (turn c.args.session.now c.args.message).turn ≡ AskFor c.in-Ok-Ask.ask = sym c.in-Ok-Ask.ensures.turn.turn ∙ c.in-Ok-Ask.field-0-is in
+    IfErr-weaker c.settle.result _ _ (λ why h. hear_breaks (told g.P.Answers.declares g.P.Answers.given g.P.Answers.asked c.settle.new.program) (told g.P.Answers.declares g.P.Answers.given g.P.Answers.asked c.args.program.now) c.args.place (length (g.P.Answers.given c.args.program.now)) c.args.session.now c.args.message c.in-Ok-Ask.ask c.step.new.self why c.requires.listening asks c.in-Ok-Ask.ensures.turn.session h) c.settle.ensures.broken

@@ -3,7 +3,7 @@ use Rattle.csdn_history.specs.declared.reply.Reply.{Reply}
 use Rattle.std.proofs.lemmas.List.{append-nil}
 use Rattle.of10_session.specs.declared.turn.Ask.{Ask}
 use Rattle.of10_speech.specs.Speeches.{Said, told, on_stranger}
-use Rattle.of10_speech.proofs.Asked.{says_at, on_ask_reply, on_ask_none, on_ask_stranger, let_go}
+use Rattle.of10_speech.proofs.Asked.{broke_entered, broke_full, broke_short, says_at, on_ask_reply, on_ask_none, on_ask_stranger, let_go}
 use Rattle.of10_speech.proofs.hearing.settle.Goals as goal
 
 pub returns-in-Ok-answer-clause-said : goal.returns-in-Ok-answer-clause-said
@@ -54,4 +54,16 @@ returns-in-Err-Stranger-clause-asked g c =
 pub returns-in-Err-NoEntry-clause-asked : goal.returns-in-Err-NoEntry-clause-asked
 returns-in-Err-NoEntry-clause-asked g c =
     let e = on_ask_none (told g.P.Answers.declares g.P.Answers.given g.P.Answers.asked c.ask.new.self) (g.P.Answers.given c.args.program.now) c.args.session.now c.args.ask (ap (λ (f : Ask → Bool). f c.args.ask) c.in-Err-NoEntry.ensures.same ∙ c.in-Err-NoEntry.ensures.declared (λ h. cc)) c.in-Err-NoEntry.ensures.err in
-    c.in-Err-NoEntry.ensures.waits (cc) ∙ ap (λ (y : Said). g.P.Answers.asked c.args.program.now ++ y.asks) (sym e)
+    (c.in-Err-NoEntry.ensures.waits (cc)).0 ∙ ap (λ (y : Said). g.P.Answers.asked c.args.program.now ++ y.asks) (sym e)
+
+pub returns-in-Ok-clause-broken : goal.returns-in-Ok-clause-broken
+returns-in-Ok-clause-broken g c =
+    broke_entered (told g.P.Answers.declares g.P.Answers.given g.P.Answers.asked c.ask.new.self) (told g.P.Answers.declares g.P.Answers.given g.P.Answers.asked c.args.program.now) (g.P.Answers.given c.args.program.now) c.in-Ok.reply c.args.session.now c.args.ask (ap (λ (f : Ask → Bool). f c.args.ask) c.in-Ok.ensures.same ∙ c.in-Ok.ensures.reply.0) c.in-Ok.ensures.reply.2 c.in-Ok.ensures.asked
+
+pub returns-in-Err-Full-clause-broken : goal.returns-in-Err-Full-clause-broken
+returns-in-Err-Full-clause-broken g c =
+    broke_full (told g.P.Answers.declares g.P.Answers.given g.P.Answers.asked c.ask.new.self) (told g.P.Answers.declares g.P.Answers.given g.P.Answers.asked c.args.program.now) (g.P.Answers.given c.args.program.now) c.args.session.now c.args.ask (ap (λ (f : Ask → Bool). f c.args.ask) c.in-Err-Full.ensures.same ∙ c.in-Err-Full.ensures.declared (λ h. cc)) c.in-Err-Full.ensures.err (c.in-Err-Full.ensures.full (cc)).0
+
+pub returns-clause-broken : goal.returns-clause-broken
+returns-clause-broken g c =
+    broke_short (told g.P.Answers.declares g.P.Answers.given g.P.Answers.asked c.ask.new.self) (told g.P.Answers.declares g.P.Answers.given g.P.Answers.asked c.args.program.now) (g.P.Answers.given c.args.program.now) c.args.session.now c.args.ask (ap (λ (f : Ask → Bool). f c.args.ask) c.in-Err-Memory.ensures.same ∙ c.in-Err-Memory.ensures.declared (λ h. cc)) c.in-Err-Memory.ensures.err c.in-Err-Memory.ensures.once

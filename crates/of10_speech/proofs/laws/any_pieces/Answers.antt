@@ -1,5 +1,6 @@
 use Rattle.of10_speech.proofs.Following.{follows_nothing, following_next, following_stops, following_closed}
 use Rattle.of10_speech.proofs.Beginnings.{following_more, following_begins, hears_behind}
+use Rattle.of10_speech.proofs.Breaks.{breaks_asked, breaks_full}
 use Rattle.of10_speech.proofs.laws.any_pieces.Goals as goal
 
 pub returns-clause-new : goal.returns-clause-new
@@ -22,3 +23,9 @@ returns-clause-closed c = following_closed
 
 pub returns-clause-cut_off : goal.returns-clause-cut_off
 returns-clause-cut_off c = following_begins
+
+pub returns-clause-full : goal.returns-clause-full
+returns-clause-full c = breaks_full
+
+pub returns-clause-asked : goal.returns-clause-asked
+returns-clause-asked c = breaks_asked

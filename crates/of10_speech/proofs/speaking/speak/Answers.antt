@@ -1,4 +1,4 @@
-use Rattle.std.proofs.Common.{refl, sym, ap, subst, ◌∙◌, ◌++◌, arith, ℕ, length, [], ◌∷◌}
+use Rattle.std.proofs.Common.{refl, sym, ap, subst, ◌∙◌, ◌++◌, arith, ℕ, [], ◌∷◌}
 use Rattle.of10_msgs.specs.declared.message.Message.TheVariants.{Hello}
 use Rattle.of10_session.specs.Progresses.{Progress, in_phase, drawn}
 use Rattle.of10_session.specs.declared.session.Phase.TheVariants.{Greet}
@@ -16,6 +16,7 @@ loop-at-init g c = (
       (c.in-Ok-greet.ensures.bytes ∙ ap (λ (s : Progress). c.args.out.now.items ++ spelled (Hello s.xid 1 [] ∷ [])) c.new-session.ensures),
   refl,
   refl,
+  omega (arith, c.requires.left),
 )
 
 pub overflow_add-at : goal.overflow_add-at
@@ -31,6 +32,7 @@ loop-at-preserved g c = (
       c.in_ok-heard.ensures.further c.loop-at.invariant.0 (rw c.rest_from.ensures at c.in_ok-heard.ensures.hears) c.in-Goes.is,
   c.in_ok-heard.ensures.further.declares ∙ c.loop-at.invariant.1,
   c.in_ok-heard.ensures.source ∙ c.loop-at.invariant.2,
+  omega (arith, c.in_ok-heard.ensures.going c.in-Goes.is, c.loop-at.invariant.3),
 )
 
 pub returns-in_default-stop-clause-answer : goal.returns-in_default-stop-clause-answer

@@ -1,5 +1,5 @@
 use Rattle.std.proofs.Common.{◌≡◌, ◌+◌, ◌≤◌, length}
-use Rattle.replay_listing.specs.Told.{asks_of}
+use Rattle.session_asks.specs.Told.{asks_of}
 use Rattle.replay_listing.proofs.listing.place.Given as goal
 
 abbrev pub invariant-entries : goal.invariant-entries

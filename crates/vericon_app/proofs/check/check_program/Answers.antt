@@ -13,7 +13,7 @@ returns-in-Proven-clause-output g c =
 
 pub returns-in-Told-clause-output : goal.returns-in-Told-clause-output
 returns-in-Told-clause-output g c =
-    let said = IsNotProven c.args.most c.args.program.now in
+    let said = IsNotProven c.args.size c.args.most c.args.program.now in
     said_so _ [] (Then said) _ _ _ (λ answers write out. is_not_proven out) (unread said _ _ _ (rw c.in-Told.is at c.in_ok-level.ensures))
 
 pub returns-in-Told-clause-touches : goal.returns-in-Told-clause-touches

@@ -10,9 +10,9 @@ use Rattle.vericon_app.proofs.conditions.conditions.Goals as goal
 pub returns-in-Loaded-clause-output : goal.returns-in-Loaded-clause-output
 returns-in-Loaded-clause-output g c =
     let name = c.args.name.now in
-    if_ok c.class_lines.result _ _ (λ outcome out. at_last Program name Spells (IsNotProgram name) (ClassesOutput c.args.level) _ c.in-Loaded.program _ _ c.in_ok-program.ensures.reads (rw c.in-Loaded.is at c.in_ok-program.ensures.load) out) c.class_lines.ensures
+    if_ok c.class_lines.result _ _ (λ outcome out. at_last Program name Spells (IsNotProgram name) (ClassesOutput c.args.size c.args.level) _ c.in-Loaded.program _ _ c.in_ok-program.ensures.reads (rw c.in-Loaded.is at c.in_ok-program.ensures.load) out) c.class_lines.ensures
 
 pub returns-in-Refused-clause-output : goal.returns-in-Refused-clause-output
 returns-in-Refused-clause-output g c =
     let name = c.args.name.now in
-    ended Program name Spells (IsNotProgram name) (λ P. Then (ClassesOutput c.args.level P)) _ [] _ _ (rw c.in-Refused.is at c.in_ok-program.ensures.load)
+    ended Program name Spells (IsNotProgram name) (λ P. Then (ClassesOutput c.args.size c.args.level P)) _ [] _ _ (rw c.in-Refused.is at c.in_ok-program.ensures.load)

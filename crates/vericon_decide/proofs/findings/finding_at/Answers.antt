@@ -22,10 +22,10 @@ decide_condition-requires-clause-goal c =
 
 pub returns-in_ok-decide_condition-in-Ok : goal.returns-in_ok-decide_condition-in-Ok
 returns-in_ok-decide_condition-in-Ok c =
-    subst (λ z. OfCondition c.args.program.now c.args.level c.args.index (λ d. IsFinding c.args.program.now d z)) (sym c.finding_of.ensures)
-    (found_there c.args.program.now c.args.level c.args.index c.in-Ok.condition c.in_ok-decide_condition-in-Ok.field-0 c.in-Ok.ensures c.in_ok-decide_condition-in-Ok.ensures)
+    subst (λ z. OfCondition c.args.program.now c.args.level c.args.index (λ d. IsFinding c.args.program.now c.args.size d z)) (sym c.finding_of.ensures)
+    (found_there c.args.program.now c.args.size c.args.level c.args.index c.in-Ok.condition c.in_ok-decide_condition-in-Ok.field-0 c.in-Ok.ensures c.in_ok-decide_condition-in-Ok.ensures)
 
 pub returns-in-Err-Large : goal.returns-in-Err-Large
 returns-in-Err-Large c =
-    large_there c.args.program.now c.args.level c.args.index
+    large_there c.args.program.now c.args.size c.args.level c.args.index
     (subst (λ (e : FormRefusal). OfCondition c.args.program.now c.args.level c.args.index (λ d. Answers d (Err e))) c.in-Err-Large.field-0-is c.in-Err-Large.ensures)

@@ -1,4 +1,4 @@
-use Rattle.replay_listing.proofs.Servable.{entered_sent}
+use Rattle.session_asks.proofs.Servable.{entered_sent}
 use Rattle.replay_listing.proofs.journal.Journal.enter.Goals as goal
 
 pub returns-in-Ok-clause-servable : goal.returns-in-Ok-clause-servable

@@ -1,7 +1,7 @@
 use Rattle.std.proofs.Common.{◌∙◌, ap, sym, ◌∷◌, List}
 use Rattle.journal_text.specs.declared.note.Note.{Note}
 use Rattle.replay_listing.specs.Journals.{noted}
-use Rattle.replay_listing.proofs.SameAsks.{same_ask-is}
+use Rattle.session_asks.proofs.SameAsks.{same_ask-is}
 use Rattle.replay_listing.proofs.Taking.{same_number, takes_entry}
 use Rattle.replay_listing.proofs.journal.Journal.take_entry.Goals as goal
 

@@ -4,7 +4,7 @@ use Rattle.csdn_run.specs.declared.runtime.RunRefusal.TheVariants.{Stranger}
 use Rattle.csdn_run.specs.Histories.{Running}
 use Rattle.csdn_run.specs.Standings.{is_declared}
 use Rattle.shared_hall.specs.declared.view.Account.{Account}
-use Rattle.shared_hall.specs.Halls.{Enters, IsTurnedAway}
+use Rattle.shared_hall.specs.Halls.{CanServe, Enters, IsTurnedAway}
 use Rattle.shared_hall.proofs.Answers.{strangers}
 use Rattle.shared_hall.proofs.Calls.{may_pass, enters, turned_away}
 use Rattle.shared_hall.proofs.hall.Hall.act.Goals as goal
@@ -50,3 +50,11 @@ returns-clause-stranger g c =
     let same = ap (λ s. s.hall.opening) c.seat.view_is ∙ ap (λ h. h.opening) c.requires.hall in
     let P : Running → Type 0 = λ r. (c.apply-answer.result ≡ Err Stranger) ↔ (is_declared r.program r.network c.args.entry.now ≡ false) in
     subst P (opening ∙ λ z. Rattle.csdn_run.specs.Histories.with_history (same z) c.take-runtime.ensures.took.history) is
+
+pub returns-clause-stands : goal.returns-clause-stands
+returns-clause-stands g c =
+    let it = c.stands.ensures in
+    let opening = c.take-runtime.ensures.took.runtime in
+    let same = ap (λ s. s.hall.opening) c.seat.view_is ∙ ap (λ h. h.opening) c.requires.hall in
+    let P : Running → Type 0 = λ r. CanServe r.program r.network in
+    subst P (opening ∙ λ z. Rattle.csdn_run.specs.Histories.with_history (same z) c.take-runtime.ensures.took.history) (record { sorted = it.sorted; network = it.network; servable = it.servable })

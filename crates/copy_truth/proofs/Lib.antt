@@ -1,0 +1,4 @@
+mod ReadLaws
+mod JudgeSteps
+mod EarlySteps
+pub mod OpenTuples

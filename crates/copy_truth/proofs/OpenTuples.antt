@@ -1,0 +1,123 @@
+-- Terms with open variables, and true tuples.
+use Rattle.std.proofs.Common.{◌≡◌, ◌∙◌, ℕ, suc, ◌+◌, ◌-◌, ◌<◌, ◌≤◌, ◌==◌, length, Bool, true, false, not, ◌&&◌, ◌||◌, Option, Some, List, [], ◌∷◌, map, refl, sym, ap, subst, arith, cond, inl, inr, nat_lt, lt-ltb, eqb, eqb-true, eq-eqb, if◌then◌else◌}
+use Rattle.std.proofs.lemmas.Bool.{and_from, cases_Bool, false≢true, or_left, or_right}
+use Rattle.csdn_core.specs.Members.{IsIn}
+use Rattle.csdn_core.specs.Network.{same_pred}
+use Rattle.csdn_core.specs.declared.terms.Pred.{Pred}
+use Rattle.csdn_core.specs.declared.terms.Sort.{Sort}
+use Rattle.csdn_core.specs.declared.terms.Term.{Term}
+use Rattle.csdn_core.specs.declared.terms.Term.TheVariants.{Const, Port, Var}
+use Rattle.clause_log.specs.Literals.{truths}
+use Rattle.fol_forms.specs.Forms.{Atom}
+use Rattle.decision_laws.specs.Copies.{AreBelow, Scope, Tuple, nothing, place, place_sort}
+use Rattle.decision_laws.specs.Numbers.{tuple_count, tuple_number, tuple_of}
+use Rattle.decision_laws.specs.Vocabulary.{Vocabulary, find_or}
+use Rattle.decision_laws.proofs.Basics.{any_gives}
+use Rattle.decision_laws.proofs.Facts.{tuple_number-below, tuple_of-number}
+use Rattle.ground_inst.specs.Facts.{num_of, sorts_in, tuple_place}
+use Rattle.ground_inst.specs.Walk.{Ways, ways_of}
+use Rattle.ground_inst.specs.declared.facts.UsedRelation.{UsedRelation}
+use Rattle.copy_truth.specs.declared.opened.TheConstants.{OPEN}
+use Rattle.copy_truth.specs.declared.reading.Reading.{Reading}
+use Rattle.copy_truth.specs.Early.{AreColumns, Fits, HoldsAnyhow, IsColumn, is_known, is_variable, may_be, may_be_atom, used_in}
+use Rattle.copy_truth.specs.Said.{said_by}
+use Rattle.copy_truth.proofs.EarlySteps.{same_place}
+
+-- the relation that is used
+
+used_step : (b : Bool) (u : UsedRelation) (o : Option UsedRelation) (w : UsedRelation) (P : UsedRelation → Type 0) → (if b then Some u else o) ≡ Some w → (b ≡ true → P u) → (b ≡ false → o ≡ Some w → P w) → P w
+used_step true u o w P e f g = subst P (let same : u ≡ w = cc in same) (f refl)
+used_step false u o w P e f g = g refl e
+
+pub sorts_used : (us : List UsedRelation) (r : Pred) (w : UsedRelation) → used_in us r ≡ Some w → sorts_in us r ≡ w.sorts
+sorts_used [] r w e = absurd cc
+sorts_used (u ∷ us) r w e =
+    used_step (same_pred u.relation r) u (used_in us r) w (λ z. sorts_in (u ∷ us) r ≡ z.sorts) e
+    (λ t. ap (λ b. cond b u.sorts (sorts_in us r)) t)
+    (λ t q. ap (λ b. cond b u.sorts (sorts_in us r)) t ∙ sorts_used us r w q)
+
+pub place_used : (n : Sort → ℕ) (us : List UsedRelation) (none : ℕ) (r : Pred) (w : UsedRelation) (xs : List ℕ) → used_in us r ≡ Some w → tuple_place n us none r xs ≡ w.before + tuple_number n w.sorts xs
+place_used n [] none r w xs e = absurd cc
+place_used n (u ∷ us) none r w xs e =
+    used_step (same_pred u.relation r) u (used_in us r) w (λ z. tuple_place n (u ∷ us) none r xs ≡ z.before + tuple_number n z.sorts xs) e
+    (λ t. ap (λ b. cond b (u.before + tuple_number n u.sorts xs) (tuple_place n us none r xs)) t)
+    (λ t q. ap (λ b. cond b (u.before + tuple_number n u.sorts xs) (tuple_place n us none r xs)) t ∙ place_used n us none r w xs q)
+
+pub true_in : (x : ℕ) (ts : List ℕ) → truths ts x ≡ true → IsIn x ts
+true_in x ts e = (let w = any_gives (λ t. eqb t x) ts e in subst (λ z. IsIn z ts) (eqb-true w.0 x w.2) w.1)
+
+is_open : (b : Bool) → not b ≡ false → b ≡ true
+is_open true e = refl
+is_open false e = absurd (false≢true (sym e))
+
+module _ (m : Ways) (env : Scope) where
+  pub column_open : (t : Term) (s : Sort) → place_sort m.voc env t ≡ s → place m.voc env t ≡ OPEN → is_variable t ≡ true → IsColumn m env t s
+  column_open t s e o h = record { sort = e; known = λ k. absurd (false≢true (sym (ap (λ x. not (x == OPEN)) o) ∙ k)); open' = λ k. h }
+
+  pub column_known : (t : Term) (s : Sort) → place_sort m.voc env t ≡ s → (place m.voc env t ≡ OPEN → ⊥) → place m.voc env t < m.count s → IsColumn m env t s
+  column_known t s e ne l = record { sort = e; known = λ k. l; open' = λ k. absurd (ne (eqb-true (place m.voc env t) OPEN (is_open (place m.voc env t == OPEN) k))) }
+
+  module _ (full : Scope) (fits : Fits m.count env full) where
+    open_below : (t : Term) (s : Sort) → place_sort m.voc env t ≡ s → is_variable t ≡ true → is_known m.voc env t ≡ false → place m.voc full t < m.count s
+    open_below (Var v) s e i k = subst (λ z. (find_or nothing full v.0).1 < m.count z) (sym (fits v.0).sort ∙ e) ((fits v.0).below k)
+    open_below (Const c) s e i k = absurd (false≢true i)
+    open_below (Port p) s e i k = absurd (false≢true i)
+
+    column_below : (t : Term) (s : Sort) → IsColumn m env t s → place m.voc full t < m.count s
+    column_below t s h =
+        elim (cases_Bool (is_known m.voc env t)) [
+          | inl k ↦ subst (λ x. x < m.count s) (same_place m.count m.voc env full fits t k) (h.known k)
+          | inr k ↦ open_below t s h.sort (h.open' k) k
+        ]
+
+    columns_below : (ts : List Term) (ss : List Sort) → AreColumns m env ts ss → AreBelow m.count ss (map (place m.voc full) ts)
+    columns_below [] [] h = tt
+    columns_below [] (s ∷ ss) h = absurd h
+    columns_below (t ∷ ts) [] h = absurd h
+    columns_below (t ∷ ts) (s ∷ ss) h = (column_below t s h.0, columns_below ts ss h.1)
+
+    may_be_one : (t : Term) → (place m.voc env t == OPEN || place m.voc env t == place m.voc full t) ≡ true
+    may_be_one t =
+        elim (cases_Bool (place m.voc env t == OPEN)) [
+          | inl o ↦ or_left (place m.voc env t == OPEN) (place m.voc env t == place m.voc full t) o
+          | inr k ↦ or_right (place m.voc env t == OPEN) (place m.voc env t == place m.voc full t) (eq-eqb (place m.voc env t) (place m.voc full t) (same_place m.count m.voc env full fits t (ap not k)))
+        ]
+
+    may_be_these : (ts : List Term) → may_be m.voc env ts (map (place m.voc full) ts) ≡ true
+    may_be_these [] = refl
+    may_be_these (t ∷ ts) = and_from (place m.voc env t == OPEN || place m.voc env t == place m.voc full t) (may_be m.voc env ts (map (place m.voc full) ts)) (may_be_one t) (may_be_these ts)
+
+    -- an atom that is numbered as these constants say may be it
+    may_be_numbered : (u : UsedRelation) (ts : List Term) (x : ℕ) → AreColumns m env ts u.sorts → x ≡ suc (u.before + tuple_number m.count u.sorts (map (place m.voc full) ts)) → may_be_atom m env u ts x ≡ true
+    may_be_numbered u ts x h e =
+        let xs = map (place m.voc full) ts in
+        let below = columns_below ts u.sorts h in
+        let small = tuple_number-below m.count u.sorts xs below in
+        let k : x - u.before - 1 ≡ tuple_number m.count u.sorts xs = omega (arith, e) in
+        let low : u.before < x = omega (arith, e) in
+        let high : x - u.before - 1 < tuple_count m.count u.sorts = omega (arith, k, small) in
+        and_from (nat_lt u.before x && nat_lt (x - u.before - 1) (tuple_count m.count u.sorts)) (may_be m.voc env ts (tuple_of m.count u.sorts (x - u.before - 1)))
+        (and_from (nat_lt u.before x) (nat_lt (x - u.before - 1) (tuple_count m.count u.sorts)) (lt-ltb u.before x low) (lt-ltb (x - u.before - 1) (tuple_count m.count u.sorts) high))
+        (ap (may_be m.voc env ts) (ap (tuple_of m.count u.sorts) k ∙ tuple_of-number m.count u.sorts xs below) ∙ may_be_these ts)
+
+-- where no true atom may be one of the relation over these terms, the negated atom is true
+module _ (r : Reading) (env : Scope) (rel : Pred) (u : UsedRelation) (ts : List Term) (is : used_in r.names.facts.now.relations rel ≡ Some u) where
+  number_is : (xs : List ℕ) → num_of r.names.facts.now (Tuple rel xs) ≡ suc (u.before + tuple_number (ways_of r.names).count u.sorts xs)
+  unfolding num_of
+  number_is xs = ap suc (place_used (ways_of r.names).count r.names.facts.now.relations r.names.facts.now.count rel u xs is)
+
+  pub none_anyhow : AreColumns (ways_of r.names) env ts u.sorts → ((t : ℕ) → IsIn t r.trues.now → may_be_atom (ways_of r.names) env u ts t ≡ false) → HoldsAnyhow r (Atom false rel ts) env
+  unfolding said_by
+  none_anyhow h none full base fits =
+      let xs = map (place (ways_of r.names).voc full) ts in
+      let x = num_of r.names.facts.now (Tuple rel xs) in
+      elim (cases_Bool (truths r.trues.now x)) [
+        | inl t ↦ absurd (false≢true (sym (none x (true_in x r.trues.now t)) ∙ may_be_numbered (ways_of r.names) env full fits u ts x h (number_is xs)))
+        | inr f ↦ ap not f
+      ]
+
+-- no terms stand for some constants
+pub none_there : (voc : Vocabulary) (env : Scope) (n : Sort → ℕ) (ts : List Term) (ss : List Sort) (k : ℕ) → length ts < 1 → 1 ≤ length ss → false ≡ may_be voc env ts (tuple_of n ss k)
+none_there voc env n [] [] k l m = absurd (omega (arith, m))
+none_there voc env n [] (s ∷ ss) k l m = refl
+none_there voc env n (t ∷ ts) ss k l m = absurd (omega (arith, l))

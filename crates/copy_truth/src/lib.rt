@@ -1,0 +1,12 @@
+//! What copies of a sentence's parts are, where facts are what is said of them. No copy is made.
+//!
+//! [`judging::judge`] judges the copies of a formula. `specs/` says what they are, on the definitions of decision_laws.
+#![tactic(auto)]
+
+pub mod early;
+pub mod facts;
+pub mod judging;
+pub mod needing;
+pub mod opened;
+pub mod reading;
+pub mod tuples;

@@ -1,0 +1,24 @@
+//! What is said of the atoms.
+#![tactic(auto)]
+
+ghost use Rattle.std.specs.Prelude.{◌≡◌};
+ghost use Rattle.clause_log.specs.Literals.{literal_true, truths};
+
+use clause_log::{Lit, Valuation};
+use ground_inst::places::Names;
+
+/// The program's names and the facts of a sentence, the atoms that its clauses name, and the true ones among them.
+#[derive(Clone, Copy)]
+pub struct Reading<'a> {
+    pub names: Names<'a>,
+    pub named: &'a Valuation,
+    pub trues: &'a Valuation,
+}
+
+/// Whether a literal is true.
+pub fn is_true(trues: &Valuation, l: Lit) -> bool
+    ensures { result ≡ literal_true (truths trues.now) l }
+{
+    let value = trues.value(l.atom());
+    if l.is_positive() { value } else { !value }
+}

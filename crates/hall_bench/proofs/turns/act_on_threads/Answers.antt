@@ -1,0 +1,8 @@
+use Rattle.shared_hall.proofs.Crossing.{crossing}
+use Rattle.hall_bench.proofs.turns.act_on_threads.Goals as goal
+
+pub for_each_mut-requires-send-T : goal.for_each_mut-requires-send-T
+for_each_mut-requires-send-T g c κs within = search crossing depth 40
+
+pub for_each_mut-requires-sync-F : goal.for_each_mut-requires-sync-F
+for_each_mut-requires-sync-F g c κs within = search crossing depth 40

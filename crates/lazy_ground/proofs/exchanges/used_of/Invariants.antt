@@ -1,9 +1,0 @@
-use Rattle.std.proofs.Common.{◌≡◌, length}
-use Rattle.lazy_ground.specs.Tuples.{used_in}
-use Rattle.lazy_ground.proofs.exchanges.used_of.Given as goal
-
-abbrev pub invariant-relations : goal.invariant-relations
-invariant-relations l = used_in l.facts.relations l.relation ≡ used_in l.rest l.relation
-
-abbrev pub decreases-relations : goal.decreases-relations
-decreases-relations l = length l.rest

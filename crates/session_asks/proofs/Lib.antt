@@ -1,0 +1,2 @@
+pub mod SameAsks
+pub mod Servable

@@ -1,0 +1,11 @@
+//! Sessions that are served over links in memory, each with calls that fail.
+#![tactic(auto)]
+
+#[cfg(test)]
+mod cases;
+#[cfg(test)]
+mod dialogue;
+#[cfg(test)]
+mod halls;
+#[cfg(test)]
+mod tests;
