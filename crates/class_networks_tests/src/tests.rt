@@ -10,7 +10,7 @@ use csdn_conditions::kinds::condition_count;
 use csdn_conditions::sentence::Condition;
 use csdn_core::program::Program;
 use csdn_core::syntax::Formula;
-use csdn_types_tests::resolved;
+use csdn_read::read_program;
 use ground_inst::making::ground;
 use net_text::print_net;
 use std::alloc::{AllocError, Global};
@@ -20,16 +20,20 @@ use std::test::Fail;
 /// The text of a network and state in which a condition of level 0 is broken; nothing where there is no such condition, none
 /// break it, or the text is no program.
 fn broken(alloc: Global, text: &[u8], index: u32) -> Result<Vec<u8>, AllocError> {
-    let Ok(Ok(program)) = resolved(alloc, text) else {
-        return Ok(Vec::new(alloc));
-    };
+    match read_program(alloc, text) {
+        Ok(program) => broken_in(alloc, &program, index),
+        Err(_) => Ok(Vec::new(alloc)),
+    }
+}
+
+fn broken_in(alloc: Global, program: &Program, index: u32) -> Result<Vec<u8>, AllocError> {
     // Its contract says that the program is well-sorted.
     program.parts();
-    if index >= condition_count(&program, 0) {
+    if index >= condition_count(program, 0) {
         return Ok(Vec::new(alloc));
     }
-    match condition(alloc, &program, 0, index) {
-        Ok(condition) => broken_condition(alloc, &program, condition),
+    match condition(alloc, program, 0, index) {
+        Ok(condition) => broken_condition(alloc, program, condition),
         Err(_) => Err(AllocError),
     }
 }

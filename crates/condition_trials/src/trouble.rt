@@ -1,7 +1,6 @@
 //! What can go wrong in a trial.
+use csdn_read::ProgramRefusal;
 use csdn_step::StepRefusal;
-use csdn_text::TextRefusal;
-use csdn_types::refusal::SortRefusal;
 use fol_forms::refusal::FormRefusal;
 use net_text::NetTextRefusal;
 use std::alloc::AllocError;
@@ -13,9 +12,7 @@ pub enum Trouble {
     #[error("out of memory")]
     Memory(#[from] AllocError),
     #[error("the text is no program: {0}")]
-    Text(#[from] TextRefusal),
-    #[error("the program is not well-sorted: {0}")]
-    Sorts(#[from] SortRefusal),
+    Program(#[from] ProgramRefusal),
     #[error("there is no network: {0}")]
     Net(#[from] NetTextRefusal),
     #[error("an event was refused: {0}")]

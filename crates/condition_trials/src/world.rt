@@ -10,8 +10,8 @@ use crate::trouble::Trouble;
 use csdn_core::event::{Event, Packet};
 use csdn_core::program::Program;
 use csdn_core::syntax::Formula;
+use csdn_read::read_program;
 use csdn_step::{StepRefusal, fire};
-use csdn_types_tests::resolved;
 use net_structs::env::Env;
 use net_structs::network::Network;
 use net_structs::state::State;
@@ -35,7 +35,7 @@ pub struct World {
 impl World {
     /// The program of a text, over the network of these trials.
     pub fn read(alloc: Global, text: &[u8]) -> Result<World, Trouble> {
-        let program = resolved(alloc, text)??;
+        let program = read_program(alloc, text)?;
         let case = read_net(alloc, &program, NETWORK)?;
         Ok(World {
             program,

@@ -8,7 +8,7 @@ use csdn_conditions::kinds::condition_count;
 use csdn_core::program::Program;
 use csdn_core::syntax::Formula;
 use csdn_core::terms::{Sort, Term, VarId};
-use csdn_types_tests::resolved;
+use csdn_read::read_program;
 use csdn_wp::commands::wp;
 use fol_forms::count::node_count;
 use fol_forms::instances::instance_count;
@@ -20,15 +20,15 @@ use std::alloc::{AllocError, Global};
 fn lines_of(alloc: Global, text: &[u8], level: u8) -> Result<Vec<u8>, AllocError>
     requires { level ≤ 9 }
 {
-    match resolved(alloc, text) {
-        Ok(Ok(program)) => list(alloc, &program, USUAL_SIZE, level),
-        _ => Ok(Vec::new(alloc)),
+    match read_program(alloc, text) {
+        Ok(program) => list(alloc, &program, USUAL_SIZE, level),
+        Err(_) => Ok(Vec::new(alloc)),
     }
 }
 
 /// The truth of a condition of level 0 in a network and state; nothing where there is no such condition, or a text is none.
 fn judged(alloc: Global, text: &[u8], net: &[u8], index: u32) -> Result<Vec<u8>, AllocError> {
-    let Ok(Ok(program)) = resolved(alloc, text) else {
+    let Ok(program) = read_program(alloc, text) else {
         return Ok(Vec::new(alloc));
     };
     let Ok(case) = read_net(alloc, &program, net) else {
@@ -47,7 +47,7 @@ fn judged(alloc: Global, text: &[u8], net: &[u8], index: u32) -> Result<Vec<u8>,
 /// How many nodes the precondition of the first handler's body has, of the first safety invariant; none where one is missing,
 /// it is too large, or the text is no program.
 fn nodes_before(alloc: Global, text: &[u8]) -> Result<Option<u64>, AllocError> {
-    let Ok(Ok(program)) = resolved(alloc, text) else {
+    let Ok(program) = read_program(alloc, text) else {
         return Ok(None);
     };
     let parts = program.parts();
@@ -102,7 +102,7 @@ fn counts_of(alloc: Global, program: &Program, sentence: &Formula) -> Result<Cou
 
 /// The counts of one condition of level 0; none where there is no such condition, it is too large, or the text is no program.
 fn counts_at(alloc: Global, text: &[u8], index: u32) -> Result<Option<Counted>, AllocError> {
-    let Ok(Ok(program)) = resolved(alloc, text) else {
+    let Ok(program) = read_program(alloc, text) else {
         return Ok(None);
     };
     if index >= condition_count(&program, 0) {

@@ -1,8 +1,8 @@
 //! The rows, and what is asked of them.
 use csdn_core::event::{Event, Match, Out, Packet, Tally};
 use csdn_core::program::Program;
+use csdn_read::read_program;
 use csdn_step::{StepRefusal, fire, fire_quiet, initial};
-use csdn_types_tests::resolved;
 use net_structs::case::Case;
 use net_structs::network::Network;
 use net_structs::state::State;
@@ -89,7 +89,7 @@ fn outcome_of(
     network: &[u8],
     act: &Act,
 ) -> Result<Option<Outcome>, AllocError> {
-    let Ok(Ok(program)) = resolved(alloc, program) else {
+    let Ok(program) = read_program(alloc, program) else {
         return Ok(None);
     };
     outcome_in(alloc, &program, network, act)
@@ -97,7 +97,7 @@ fn outcome_of(
 
 /// The text of the initial state in the network of a text; none where a text is refused.
 fn start_of(alloc: Global, program: &[u8], network: &[u8]) -> Result<Option<Text>, AllocError> {
-    let Ok(Ok(program)) = resolved(alloc, program) else {
+    let Ok(program) = read_program(alloc, program) else {
         return Ok(None);
     };
     start_in(alloc, &program, network)

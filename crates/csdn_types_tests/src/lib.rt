@@ -2,39 +2,19 @@
 //! docs/LANGUAGE.md.
 #![tactic(auto)]
 
-use csdn_core::program::Program;
-use csdn_text::{TextRefusal, parse};
-use csdn_types::refusal::SortRefusal;
-use csdn_types::resolve::resolve;
-use std::alloc::Global;
-
-/// The program of a text that has a tree, or its refusal.
-pub fn resolved(alloc: Global, text: &[u8]) -> Result<Result<Program, SortRefusal>, TextRefusal> {
-    let raw = parse(alloc, text)?;
-    Ok(resolve(alloc, &raw))
-}
-
-/// The refusal of a text that has a tree; none where it is a program.
-pub fn refusal_of(alloc: Global, text: &[u8]) -> Result<Option<SortRefusal>, TextRefusal> {
-    match resolved(alloc, text)? {
-        Ok(_) => Ok(None),
-        Err(refusal) => Ok(Some(refusal)),
-    }
-}
-
 #[cfg(test)]
 mod tests {
-    use super::*;
-    use std::alloc::AllocError;
+    use csdn_read::{ProgramRefusal, read_program};
+    use std::alloc::{AllocError, Global};
     use std::process::Abort;
     use std::test::Fail;
 
     /// What is answered of a text: that it is a program, or the first refusal.
     fn told(alloc: Global, text: &[u8]) -> Result<String, AllocError> {
-        match refusal_of(alloc, text) {
-            Ok(None) => format!(in alloc; "a program"),
-            Ok(Some(refusal)) => format!(in alloc; "{refusal:?}"),
-            Err(refusal) => format!(in alloc; "no tree: {refusal:?}"),
+        match read_program(alloc, text) {
+            Ok(_) => format!(in alloc; "a program"),
+            Err(ProgramRefusal::At { at, why }) => format!(in alloc; "{why:?} {{ at: {at} }}"),
+            Err(ProgramRefusal::Memory) => Err(AllocError),
         }
     }
 
@@ -449,8 +429,8 @@ mod tests {
 
     /// Whether a text is a program of which a copy has the numerals 2, 5 and 9, a handler, and a timeout of 30 seconds.
     fn is_copied(alloc: Global, text: &[u8]) -> Result<bool, AllocError> {
-        match resolved(alloc, text) {
-            Ok(Ok(program)) => {
+        match read_program(alloc, text) {
+            Ok(program) => {
                 let copied = program.copy(alloc)?;
                 let parts = copied.parts();
                 Ok(
@@ -459,7 +439,7 @@ mod tests {
                         && parts.timeout == Some(30),
                 )
             }
-            _ => Ok(false),
+            Err(_) => Ok(false),
         }
     }
 }

@@ -2,7 +2,7 @@
 
 use clause_log::accepts;
 use csdn_conditions::class::{GREATEST_SIZE, USUAL_SIZE};
-use csdn_types_tests::resolved;
+use csdn_read::read_program;
 use std::alloc::{AllocError, Global};
 use vericon_decide::answer::{Answer, decide};
 use vericon_decide::verdict::Proof;
@@ -19,7 +19,7 @@ fn accepted(alloc: Global, proofs: &[Proof]) -> Result<bool, AllocError> {
 
 /// What is answered of a text by a size, at the levels up to `most`.
 fn told(alloc: Global, size: u64, most: u8, text: &[u8]) -> Result<String, AllocError> {
-    let Ok(Ok(program)) = resolved(alloc, text) else {
+    let Ok(program) = read_program(alloc, text) else {
         return format!(in alloc; "no program");
     };
     if size > GREATEST_SIZE || most > 9 {

@@ -17,7 +17,7 @@ use crate::search::{Found, breaks, search};
 use crate::trouble::Trouble;
 use csdn_conditions::class::USUAL_SIZE;
 use csdn_core::program::Program;
-use csdn_types_tests::resolved;
+use csdn_read::read_program;
 use net_structs::case::Case;
 use net_text::{print_net, read_net};
 use std::alloc::Global;
@@ -45,7 +45,7 @@ struct Outcome {
 
 impl Outcome {
     fn of(alloc: Global, text: &[u8]) -> Result<Outcome, Trouble> {
-        let program = resolved(alloc, text)??;
+        let program = read_program(alloc, text)?;
         let told = match decide(alloc, &program, USUAL_SIZE, 0)? {
             Answer::Yes { .. } => Told::Yes,
             Answer::Counter { index, case, .. } => told_of_case(alloc, &program, index, &case)?,

@@ -1,6 +1,5 @@
 //! What can go wrong in a trial.
-use csdn_text::TextRefusal;
-use csdn_types::refusal::SortRefusal;
+use csdn_read::ProgramRefusal;
 use fol_forms::refusal::FormRefusal;
 use net_structs::read::NetRefusal;
 use net_text::NetTextRefusal;
@@ -13,9 +12,7 @@ pub enum Trouble {
     #[error("out of memory")]
     Memory(#[from] AllocError),
     #[error("the text is no program: {0}")]
-    Text(#[from] TextRefusal),
-    #[error("the program is not well-sorted: {0}")]
-    Sorts(#[from] SortRefusal),
+    Program(#[from] ProgramRefusal),
     #[error("there is no network: {0}")]
     Net(#[from] NetRefusal),
     #[error("the text of a case is no network: {0}")]

@@ -124,7 +124,7 @@ fn answered(
 mod tables {
     use super::*;
     use csdn_core::terms::{Sort, VarId};
-    use csdn_types_tests::resolved;
+    use csdn_read::read_program;
     use fol_forms::close::{Bind, Binds, close};
     use sqlite_items::Items;
     use std::process::Abort;
@@ -132,7 +132,7 @@ mod tables {
 
     fn have_counts(rt: &impl Abort, alloc: Global, rows: &[(&[u8], Counted)]) {
         for (i, row) in rows.iter().enumerate() {
-            let Ok(Ok(program)) = resolved(alloc, row.0) else {
+            let Ok(program) = read_program(alloc, row.0) else {
                 assert!(rt; false, "no program in row {i}");
                 return;
             };

@@ -110,7 +110,7 @@ fn state_of(
 
 mod rows {
     use super::*;
-    use csdn_types_tests::resolved;
+    use csdn_read::read_program;
     use std::process::Abort;
     use std::test::Fail;
 
@@ -132,7 +132,7 @@ mod rows {
         front: &[u8],
         rows: &[(&[u8], u64, Why)],
     ) -> Result<(), AllocError> {
-        let Ok(Ok(program)) = resolved(alloc, PROGRAM) else {
+        let Ok(program) = read_program(alloc, PROGRAM) else {
             assert!(rt; false, "no program");
             return Ok(());
         };
@@ -162,7 +162,7 @@ mod rows {
         program: &[u8],
         rows: &[(&[u8], &[u8])],
     ) -> Result<(), AllocError> {
-        let Ok(Ok(program)) = resolved(alloc, program) else {
+        let Ok(program) = read_program(alloc, program) else {
             assert!(rt; false, "no program");
             return Ok(());
         };
@@ -566,7 +566,7 @@ mod rows {
     #[test]
     fn networks_and_states_are_made_of_parts(rt: HostRuntime) -> Result<(), Fail> {
         let alloc = rt.alloc();
-        let Ok(Ok(program)) = resolved(alloc, PROGRAM) else {
+        let Ok(program) = read_program(alloc, PROGRAM) else {
             assert!(rt; false, "no program");
             return Ok(());
         };
