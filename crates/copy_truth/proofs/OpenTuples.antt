@@ -1,6 +1,8 @@
 -- Terms with open variables, and true tuples.
-use Rattle.std.proofs.Common.{◌≡◌, ◌∙◌, ℕ, suc, ◌+◌, ◌-◌, ◌<◌, ◌≤◌, ◌==◌, length, Bool, true, false, not, ◌&&◌, ◌||◌, Option, Some, List, [], ◌∷◌, map, refl, sym, ap, subst, arith, cond, inl, inr, nat_lt, lt-ltb, eqb, eqb-true, eq-eqb, if◌then◌else◌}
-use Rattle.std.proofs.lemmas.Bool.{and_from, cases_Bool, false≢true, or_left, or_right}
+use Rattle.std.proofs.Common.{◌≡◌, ◌∙◌, ℕ, suc, ◌+◌, ◌-◌, ◌<◌, ◌≤◌, ◌==◌, length, Bool, true, false, not, ◌&&◌, ◌||◌, Option, Some, List, [], ◌∷◌, map, refl, sym, ap, subst, arith, cond, inl, inr, nat_lt, lt-ltb, ltb-true, get_or, take, drop, eqb, eqb-true, eq-eqb, if◌then◌else◌}
+use Rattle.std.proofs.lemmas.Bool.{and_from, cases_Bool, false_from_ne_true, false≢true, or_left, or_right}
+use Rattle.std.specs.List.Sorted.{IsNonDecreasing}
+use Rattle.general_facts.proofs.Lists.{rest_is}
 use Rattle.csdn_core.specs.Members.{IsIn}
 use Rattle.csdn_core.specs.Network.{same_pred}
 use Rattle.csdn_core.specs.declared.terms.Pred.{Pred}
@@ -121,3 +123,61 @@ pub none_there : (voc : Vocabulary) (env : Scope) (n : Sort → ℕ) (ts : List 
 none_there voc env n [] [] k l m = absurd (omega (arith, m))
 none_there voc env n [] (s ∷ ss) k l m = refl
 none_there voc env n (t ∷ ts) ss k l m = absurd (omega (arith, l))
+
+-- A look at the true atoms, which rise.
+
+index_of_in : (ys : List ℕ) (t : ℕ) → IsIn t ys → (k : ℕ) × (k < length ys) × (get_or ys k 0 ≡ t)
+index_of_in [] t i = absurd i
+index_of_in (y ∷ ys) t i =
+    elim i [ inl e ↦ (0, omega arith, sym e) | inr j ↦ (let w = index_of_in ys t j in (suc w.0, omega (arith, w.1), w.2)) ]
+
+rising_first : (x : ℕ) (xs : List ℕ) → IsNonDecreasing (x ∷ xs) → (t : ℕ) → IsIn t (x ∷ xs) → x ≤ t
+rising_first x xs h t i =
+    elim i [
+      | inl e ↦ omega (arith, e)
+      | inr j ↦ (let w = index_of_in xs t j in let l : x ≤ get_or (x ∷ xs) (suc w.0) 0 = h 0 (suc w.0) 0 (omega arith) (omega (arith, w.1)) in omega (arith, l, w.2))
+    ]
+
+rising_rest : (x : ℕ) (xs : List ℕ) → IsNonDecreasing (x ∷ xs) → IsNonDecreasing xs
+rising_rest x xs h i j d l m = h (suc i) (suc j) d (omega (arith, l)) (omega (arith, m))
+
+not_lt : (a b : ℕ) → b ≤ a → nat_lt a b ≡ false
+not_lt a b h = false_from_ne_true (nat_lt a b) (λ e. absurd (omega (arith, h, ltb-true a b e)))
+
+module _ (m : Ways) (env : Scope) (u : UsedRelation) (ts : List Term) where
+  abbrev pub AreNone : List ℕ → Type 0
+  AreNone xs = (t : ℕ) → IsIn t xs → may_be_atom m env u ts t ≡ false
+
+  -- none of all is one, where none of the rest is
+  pub record LooksOn (all rest : List ℕ) : Type 0 where
+    pub whole : AreNone rest → AreNone all
+    pub rises : IsNonDecreasing rest
+
+  pub looks_begin : (all xs : List ℕ) → xs ≡ all → IsNonDecreasing xs → LooksOn all xs
+  looks_begin all xs e h = record { whole = subst (λ z. AreNone xs → AreNone z) e (λ n. n); rises = h }
+
+  far_by : (t : ℕ) (b c : Bool) → (b ≡ true → u.before < t) → (u.before < t → c ≡ false) → (b && c) ≡ false
+  far_by t true c f g = g (f refl)
+  far_by t false c f g = refl
+
+  not_far : (t : ℕ) → u.before + tuple_count m.count u.sorts < t → may_be_atom m env u ts t ≡ false
+  not_far t l =
+      let n = tuple_count m.count u.sorts in
+      let out : nat_lt (t - u.before - 1) n ≡ false = not_lt (t - u.before - 1) n (omega (arith, l)) in
+      let inner : (nat_lt u.before t && nat_lt (t - u.before - 1) n) ≡ false = far_by t (nat_lt u.before t) (nat_lt (t - u.before - 1) n) (λ e. ltb-true u.before t e) (λ z. out) in
+      ap (λ b. b && may_be m.voc env ts (tuple_of m.count u.sorts (t - u.before - 1))) inner
+
+  pub looks_behind : (all rest : List ℕ) (d n : ℕ) → LooksOn all rest → 1 ≤ length rest → n ≡ tuple_count m.count u.sorts → u.before + n < get_or rest 0 d → AreNone all
+  looks_behind all [] d n h l e b = absurd (omega (arith, l))
+  looks_behind all (x ∷ xs) d n h l e b = h.whole (λ t i. not_far t (let low = rising_first x xs h.rises t i in omega (arith, low, b, e)))
+
+  pub looks_next : (all rest : List ℕ) (d : ℕ) → LooksOn all rest → 1 ≤ length rest → may_be_atom m env u ts (get_or rest 0 d) ≡ false → LooksOn all (take (length rest - 1) (drop 1 rest))
+  looks_next all [] d h l e = absurd (omega (arith, l))
+  looks_next all (x ∷ xs) d h l e = subst (LooksOn all) (sym (rest_is x xs)) (record {
+    whole = λ n. h.whole (λ t i. elim i [ inl q ↦ subst (λ z. may_be_atom m env u ts z ≡ false) (sym q) e | inr j ↦ n t j ]);
+    rises = rising_rest x xs h.rises;
+  })
+
+  pub looks_end : (all rest : List ℕ) → LooksOn all rest → length rest < 1 → AreNone all
+  looks_end all [] h l = h.whole (λ t i. absurd i)
+  looks_end all (x ∷ xs) h l = absurd (omega (arith, l))

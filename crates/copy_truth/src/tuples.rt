@@ -1,11 +1,11 @@
 //! Whether a true tuple may be one of an atom with open variables.
 #![tactic(auto)]
 
-ghost use Rattle.std.specs.Prelude.{◌≡◌, ◌==◌, ◌||◌, ◌∷◌, ℕ, true, false, IfOk, option_copied};
+ghost use Rattle.std.specs.Prelude.{◌≡◌, ◌+◌, ◌<◌, ◌==◌, ◌||◌, ◌∷◌, ℕ, true, false, IfOk, option_copied};
 ghost use Rattle.csdn_core.specs.Members.{IsIn};
 ghost use Rattle.fol_forms.specs.Counts.{count_of};
 ghost use Rattle.decision_laws.specs.Copies.{place};
-ghost use Rattle.decision_laws.specs.Numbers.{tuple_of};
+ghost use Rattle.decision_laws.specs.Numbers.{tuple_count as count_of_tuples, tuple_of};
 ghost use Rattle.ground_inst.specs.Walk.{scope, ways_of};
 ghost use Rattle.copy_truth.specs.Early.{may_be as may_be_there, may_be_atom as may_be_atom_there, used_in};
 
@@ -84,28 +84,36 @@ fn may_go_on(
     may_be(names, env, others, rest, number / count)
 }
 
-// Whether an atom of a relation over terms may be this one.
+// Whether an atom of a relation, of so many tuples, over terms may be this one.
 fn may_be_atom(
     names: &Names,
     env: &[Binding],
     used: &UsedRelation,
     terms: &[Term],
+    count: u64,
     atom: u64,
 ) -> Result<bool, AllocError>
+    requires { count ≡ count_of_tuples (ways_of names.now).count used.now.sorts }
     ensures { IfOk result (λ b. b ≡ may_be_atom_there (ways_of names.now) (scope env.now) used.now terms.now atom) }
 {
     if atom <= used.before {
         return Ok(false);
     }
     let number = atom - used.before - 1;
-    let sorts = used.sorts.as_slice();
-    if number >= tuple_count(&names.facts.counts, sorts)? {
+    if number >= count {
         return Ok(false);
     }
-    may_be(names, env, terms, sorts, number)
+    may_be(names, env, terms, used.sorts.as_slice(), number)
 }
 
-/// Whether an atom of a relation over terms can be none of the true ones.
+// Whether an atom stands behind those of a relation of so many tuples.
+fn is_behind(used: &UsedRelation, count: u64, atom: u64) -> bool
+    ensures { result ≡ true → used.now.before + count < atom }
+{
+    atom > used.before && atom - used.before > count
+}
+
+/// Whether an atom of a relation over terms can be none of the true ones. It looks at the true ones up to the last of the relation's.
 pub fn is_none_of(
     trues: &Valuation,
     names: &Names,
@@ -115,9 +123,13 @@ pub fn is_none_of(
 ) -> Result<bool, AllocError>
     ensures { IfOk result (λ b. b ≡ true → (t : ℕ) → IsIn t trues.now → may_be_atom_there (ways_of names.now) (scope env.now) used.now terms.now t ≡ false) }
 {
+    let count = tuple_count(&names.facts.counts, used.sorts.as_slice())?;
     let mut rest = trues.true_atoms();
     'atoms: while let [atom, more @ ..] = rest {
-        if may_be_atom(names, env, used, terms, *atom)? {
+        if is_behind(used, count, *atom) {
+            return Ok(true);
+        }
+        if may_be_atom(names, env, used, terms, count, *atom)? {
             return Ok(false);
         }
         rest = more;

@@ -1,0 +1,4 @@
+pub mod Told
+pub mod Courses
+pub mod Endings
+pub mod Teams
