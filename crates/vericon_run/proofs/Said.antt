@@ -1,7 +1,7 @@
 -- What was printed, one text behind another; and listeners that gave no session.
 use Rattle.std.proofs.Common.{◌≡◌, ℕ, ◌+◌, ◌≤◌, List, [], ◌++◌, length, take, refl, sym, ◌∙◌, subst, arith, length-append}
 use Rattle.std.specs.Prelude.{Option, false}
-use Rattle.std.proofs.lemmas.List.{take-append-le}
+use Rattle.std.proofs.lemmas.List.{append-nil, take-append-le}
 use Rattle.std.proofs.Math.Seq.{take-append_seam, take-append-add, take-length}
 use Rattle.csdn_history.specs.declared.entry.Entry.{Entry}
 use Rattle.csdn_run.specs.Histories.{Running}
@@ -16,7 +16,7 @@ use Rattle.session_workers.specs.declared.halt.Halt.TheVariants.{Done, Fault, Me
 use Rattle.session_workers.specs.Endings.{HaltsFor, IsRunOf}
 use Rattle.session_workers.proofs.Rows.{none_ran}
 use Rattle.run_listing.specs.Lines.{run_text}
-use Rattle.vericon_run.specs.Runs.{HasPrinted, HasRun, HasSaid, HasServed, ListenerView, Prints, all, none, front, whole, short, cut, accepted_status, is_fault, status_of}
+use Rattle.vericon_run.specs.Runs.{HasBegun, HasPrinted, HasRun, HasSaid, HasServed, ListenerView, Prints, all, none, front, whole, short, cut, accepted_status, is_fault, status_of}
 
 -- a front of all is what was printed first, or that and a front of what follows
 first_front : (old mid : Option (List ℕ)) (xs ys : List ℕ) → Grown old mid xs → GrownByFront old mid (xs ++ ys)
@@ -38,6 +38,15 @@ said_behind first rest Fault old mid new before after status g (all is h same) =
 said_behind first rest Memory old mid new before after status g (all is h same) = short is (whole_front old new (first ++ rest) (grown_more old mid new first rest g h)) same
 said_behind first rest halt old mid new before after status g (none is h same) = short is (first_front old new first rest (subst (λ (x : Option (List ℕ)). Grown old x first) (sym h) g)) same
 said_behind first rest halt old mid new before after status g (front is h rose) = cut is (later_front old mid new first rest g h) rose
+
+-- .. and what was printed begins with the first text
+begun : (first rest : List ℕ) (given : ℕ) (old mid new : Option (List ℕ)) (before after status : ℕ) → Grown old mid first → Prints rest given mid new before after status → HasBegun first old new
+begun first rest given old mid new before after status g (all is h same) = record { rest = rest; written = grown_more old mid new first rest g h }
+begun first rest given old mid new before after status g (none is h same) = record { rest = []; written = subst (λ (l : List ℕ). Grown old new l) (sym (append-nil first)) (subst (λ (x : Option (List ℕ)). Grown old x first) (sym h) g) }
+begun first rest given old mid new before after status g (front is (n, few, h) rose) = record { rest = take n rest; written = grown_more old mid new first (take n rest) g h }
+
+pub begun_so : (t : Terms) (first : List ℕ) (r : Running) (history : List Entry) (l l' : ListenerView) (old mid new : Option (List ℕ)) (before after status : ℕ) → Grown old mid first → HasPrinted t r history l l' mid new before after status → HasBegun first old new
+begun_so t first r history l l' old mid new before after status g p = begun first (run_text p.rows history (is_fault p.halt)) (status_of p.halt) old mid new before after status g p.prints
 
 pub done_halts : (rest : List ℕ) (halt : Halt) (old new : Option (List ℕ)) (before after status : ℕ) → Prints rest (status_of halt) old new before after status → (status ≡ 0 → halt ≡ Done) × (status ≡ 9 → halt ≡ Fault)
 done_halts rest Done old new before after status (all is h same) = (λ z. refl, λ z. absurd (omega arith))

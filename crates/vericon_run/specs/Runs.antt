@@ -38,6 +38,11 @@ pub data HasSaid (text : List ℕ) (given : ℕ) (old new : Option (List ℕ)) (
   short : status ≡ 7 → GrownByFront old new text → after ≡ before → HasSaid text given old new before after status
   cut : status ≡ 8 → GrownByFront old new text → Rose before after → HasSaid text given old new before after status
 
+-- at least this text was written
+pub record HasBegun (first : List ℕ) (old new : Option (List ℕ)) : Type 0 where
+  pub rest : List ℕ
+  pub written : Grown old new (first ++ rest)
+
 -- all that is printed of an accepted program: what comes first, the sessions and the journal, and whether the listener failed
 abbrev pub accepted_text : List ℕ → List Row → List Entry → Bool → List ℕ
 accepted_text first rows history is_faulted = first ++ run_text rows history is_faulted

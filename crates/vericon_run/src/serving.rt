@@ -1,11 +1,11 @@
 //! An accepted program, served to the switches that come.
-ghost use Rattle.std.specs.Prelude.{◌≡◌, ◌^◌, ◌<◌, ◌≤◌, [], false, length, IfSome};
+ghost use Rattle.std.specs.Prelude.{◌≡◌, ◌^◌, ◌<◌, ◌≤◌, ◌⊎◌, [], false, length, IfSome};
 ghost use Rattle.csdn_run.specs.Histories.{with_history};
 ghost use Rattle.link_sessions.specs.Links.{view_by};
 ghost use Rattle.session_workers.specs.Endings.{longest};
 ghost use Rattle.session_workers.specs.Told.{told_given};
 ghost use Rattle.run_listing.specs.Lines.{run_text};
-ghost use Rattle.vericon_run.specs.Runs.{HasPrinted, HasRun, HasServed, Prints, history_in, is_fault, listener_view, status_of as status_number};
+ghost use Rattle.vericon_run.specs.Runs.{HasBegun, HasPrinted, HasRun, HasServed, Prints, history_in, is_fault, listener_view, status_of as status_number};
 
 use crate::ran::Ran;
 use csdn_history::entry::Entry;
@@ -121,7 +121,7 @@ fn serve_and_print<R: Threads + Wait + Sync, L: Listener, S: Sink>(
 }
 
 /// Prints the first text, listens, serves the sessions that come, and prints a line for each, the journal, and `listen fault` where the
-/// listener failed. Nothing listens before the first text is printed whole. The listener and the runtime come back whatever happens.
+/// listener failed. The listener is as it was, unless the first text was printed whole. The listener and the runtime come back whatever happens.
 pub fn serve_accepted<R: Threads + Wait + Sync, L: Listener, S: Sink>(
     rt: &R,
     alloc: Global,
@@ -137,6 +137,7 @@ pub fn serve_accepted<R: Threads + Wait + Sync, L: Listener, S: Sink>(
     requires sink { S.has_failed out.old ≡ false }
     ensures runtime { IfSome result.runtime (λ r. r ≡ with_history runtime r.history) }
     ensures run { HasRun terms.now first.now runtime (history_in result.runtime) (listener_view (λ l. told_given (view_by L.Link.taken L.Link.written L.Link.closed L.Link.is_shut L.Link.read_faults L.Link.write_faults) (L.given l)) L.faults L.came L.back L.ended listener) (listener_view (λ l. told_given (view_by L.Link.taken L.Link.written L.Link.closed L.Link.is_shut L.Link.read_faults L.Link.write_faults) (L.given l)) L.faults L.came L.back L.ended result.listener) (S.written out.old) (S.written out.new) (S.faults out.old) (S.faults out.new) result.status }
+    ensures first { HasBegun first.now (S.written out.old) (S.written out.new) ⊎ (result.listener ≡ listener) }
     ensures later { S.faults out.old ≤ S.faults out.new }
 {
     match write_piece(out, first) {
