@@ -6,5 +6,5 @@
 mod listing;
 mod refusal_line;
 
-pub use listing::{list, safety_of, trans_of};
+pub use listing::{list_invariants, safety_of, trans_of};
 pub use refusal_line::refused;

@@ -180,7 +180,7 @@ fn tell(alloc: Global, journal: &Journal, spoken: Spoken, said: &[u8]) -> Result
 
 /// What is said of a session of a journal, over the bytes that its switch sent. It goes over the notes and the bytes once, and
 /// keeps one state.
-pub fn list(
+pub fn list_replay(
     alloc: Global,
     program: Program,
     network: Network,
