@@ -57,5 +57,5 @@ word_of Stranger = codes "Stranger"
 word_of Missing = codes "Missing"
 
 -- `FILE refused line N: WHY`
-abbrev pub refused_text : List ℕ → ℕ → Why → List ℕ
-refused_text file n why = file ++ codes " refused line " ++ decimal n ++ codes ": " ++ word_of why ++ codes "\n"
+abbrev pub network_refusal_text : List ℕ → ℕ → Why → List ℕ
+network_refusal_text file n why = file ++ codes " refused line " ++ decimal n ++ codes ": " ++ word_of why ++ codes "\n"

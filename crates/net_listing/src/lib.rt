@@ -7,4 +7,4 @@ mod listing;
 mod refusal_line;
 
 pub use listing::{list_invariants, safety_of, trans_of};
-pub use refusal_line::refused;
+pub use refusal_line::network_refusal_line;

@@ -1,6 +1,6 @@
 //! Why a network text is refused.
 ghost use Rattle.std.specs.Prelude.{◌≡◌, IfOk};
-ghost use Rattle.net_listing.specs.Listings.{refused_text, word_of};
+ghost use Rattle.net_listing.specs.Listings.{network_refusal_text, word_of};
 
 use net_text::Why;
 use std::alloc::{AllocError, Global};
@@ -24,8 +24,13 @@ fn word(why: Why) -> &'static [u8]
 }
 
 /// `FILE refused line N: WHY`
-pub fn refused(alloc: Global, file: &[u8], number: u64, why: Why) -> Result<Vec<u8>, AllocError>
-    ensures { IfOk result (λ text. text.items ≡ refused_text file.now number why) }
+pub fn network_refusal_line(
+    alloc: Global,
+    file: &[u8],
+    number: u64,
+    why: Why,
+) -> Result<Vec<u8>, AllocError>
+    ensures { IfOk result (λ text. text.items ≡ network_refusal_text file.now number why) }
 {
     let mut out = Vec::new(alloc);
     put_word(&mut out, file)?;
