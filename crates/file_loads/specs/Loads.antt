@@ -4,7 +4,7 @@ use Rattle.text_lines.specs.Machine.{reading}
 use Rattle.csdn_core.specs.declared.program.Parts.{Parts}
 use Rattle.csdn_tree.specs.declared.syntax.RawProgram.{RawProgram}
 use Rattle.net_structs.specs.declared.case.Case.{Case}
-use Rattle.net_text.specs.declared.refusal.Why.{Why as NetWhy}
+use Rattle.net_text.specs.declared.refusal.NetWhy.{NetWhy}
 use Rattle.net_text.specs.NetText.{net_format}
 use Rattle.net_listing.specs.Listings.{network_refusal_text}
 use Rattle.journal_text.specs.declared.note.Note.{Note}

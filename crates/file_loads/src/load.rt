@@ -17,7 +17,7 @@ use csdn_tree::syntax::RawProgram;
 use journal_text::{JournalRefusal, Notes, read_journal};
 use net_listing::network_refusal_line;
 use net_structs::case::Case;
-use net_text::{NetTextRefusal, Why, read_net};
+use net_text::{NetTextRefusal, NetWhy, read_net};
 use std::alloc::{AllocError, Global};
 use vericon_edge::files::Files;
 
@@ -80,7 +80,7 @@ pub fn load_tree<F: Files>(
 }
 
 /// `NET refused line N: WHY`
-fn bad_line(alloc: Global, net: &str, number: u64, why: Why) -> Result<Outcome, AllocError>
+fn bad_line(alloc: Global, net: &str, number: u64, why: NetWhy) -> Result<Outcome, AllocError>
     ensures { IfOk result (Says (network_refusal_text net.now number why) 3) }
 {
     let text = network_refusal_line(alloc, net.as_bytes(), number, why)?;
