@@ -1,7 +1,7 @@
 -- The faults of commands and items stand in the order of refusals.
 use Rattle.std.proofs.Common.{◌≡◌, ◌⊎◌, ℕ, ◌+◌, ◌*◌, Bool, not, ◌==◌, List, [], ◌∷◌, ◌++◌, length, is_some, nat_le, nat_lt, inl, inr, arith}
 use Rattle.csdn_core.specs.Same.{same_term}
-use Rattle.csdn_core.specs.declared.terms.Place.TheVariants.{Handler as InHandler}
+use Rattle.csdn_core.specs.declared.terms.FormulaPlace.TheVariants.{Handler as InHandler}
 use Rattle.csdn_core.specs.declared.terms.Sort.{Sort}
 use Rattle.csdn_core.specs.declared.terms.Sort.TheVariants.{Sw, Ho, Pr}
 use Rattle.csdn_core.specs.declared.terms.Term.{Term}

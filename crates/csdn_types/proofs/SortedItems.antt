@@ -4,8 +4,8 @@ use Rattle.std.specs.List.{AllByRecursion as ByRecursion}
 use Rattle.std.proofs.lemmas.Bool.{cases_Bool, eqb-true}
 use Rattle.std.proofs.lemmas.List.Elements.{All-push, All-append, All-from_recursion}
 use Rattle.general_facts.proofs.Lists.{slice_get-append}
-use Rattle.csdn_core.specs.declared.terms.Place.{Place}
-use Rattle.csdn_core.specs.declared.terms.Place.TheVariants as place
+use Rattle.csdn_core.specs.declared.terms.FormulaPlace.{FormulaPlace}
+use Rattle.csdn_core.specs.declared.terms.FormulaPlace.TheVariants as place
 use Rattle.csdn_core.specs.declared.terms.RelId.{RelId}
 use Rattle.csdn_core.specs.declared.program.Relation.{Relation as AnyRelation}
 use Rattle.csdn_core.specs.declared.program.Invariant.{Invariant as NamedFormula}
@@ -65,7 +65,7 @@ none-item d (Timeout t) none = none
 -- ---- the items so far, as parts of a whole program
 
 module _ (P : Parts) where
-  abbrev pub SortedAt : Place → NamedFormula → Type 0
+  abbrev pub SortedAt : FormulaPlace → NamedFormula → Type 0
   SortedAt place v = IsSorted (signature P) place v.formula
 
   pub record SortedDraft (d : Draft) : Type 0 where
@@ -96,7 +96,7 @@ module _ (P : Parts) where
         (part.relations (length d.scope.relations) _ (get-last d.scope.relations _)) e 0 r.rows numerals (free_right (name_faults d.scope r) (rows_faults d.scope r.sorts 0 r.rows) free))
   ]
 
-  sorted-formula : (d : Draft) (at : Place) (name : RawName) (p : RawFormula) → d.scope.variables ≡ [] → IsPart d.scope (signature P) → Named (signature P) (formula_numerals p) → faults at d.scope p ≡ [] → SortedAt at (named_formula d.scope name p)
+  sorted-formula : (d : Draft) (at : FormulaPlace) (name : RawName) (p : RawFormula) → d.scope.variables ≡ [] → IsPart d.scope (signature P) → Named (signature P) (formula_numerals p) → faults at d.scope p ≡ [] → SortedAt at (named_formula d.scope name p)
   sorted-formula d at name p none part numerals free =
       let fits = typed_is_sorted (signature P) at d.scope no_scope p part (scope_none d.scope none) (formula_named (signature P) p numerals) free in
       record { sorts = fits.0; few = (let room = fits.1 in omega (arith, room)) }

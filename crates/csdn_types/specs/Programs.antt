@@ -1,8 +1,8 @@
 -- Programs: their rules, and the parts that stand for them.
 use Rattle.std.specs.Prelude.{◌≡◌, ℕ, ◌+◌, nat_le, List, [], ◌∷◌, ◌++◌, length, map, position, Option, Some, is_some, Result, MatchResult}
 use Rattle.std.specs.Str.{bytes_eq}
-use Rattle.csdn_core.specs.declared.terms.Place.{Place}
-use Rattle.csdn_core.specs.declared.terms.Place.TheVariants as place
+use Rattle.csdn_core.specs.declared.terms.FormulaPlace.{FormulaPlace}
+use Rattle.csdn_core.specs.declared.terms.FormulaPlace.TheVariants as place
 use Rattle.csdn_core.specs.declared.program.StartRow.{StartRow}
 use Rattle.csdn_core.specs.declared.program.Invariant.{Invariant as NamedFormula}
 use Rattle.csdn_core.specs.declared.program.Handler.{Handler as TypedHandler}
@@ -34,7 +34,7 @@ pub record Draft : Type 0 where
   pub handlers : List TypedHandler
   pub timeout : Option ℕ
 
-abbrev pub place_of : InvariantKind → Place
+abbrev pub place_of : InvariantKind → FormulaPlace
 place_of Topology = place.Topology
 place_of Safety = place.Safety
 place_of Trans = place.Trans

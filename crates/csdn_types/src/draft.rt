@@ -17,7 +17,7 @@ use crate::refusal::SortRefusal;
 use crate::relations::relation;
 use crate::scope::Scope;
 use csdn_core::program::{Handler, Invariant, Parts, StartRow};
-use csdn_core::terms::{Place, Sort};
+use csdn_core::terms::{FormulaPlace, Sort};
 use csdn_tree::names::RawName;
 use csdn_tree::syntax::{InvariantKind, RawFormula, RawItem, RawTimeout};
 use sqlite_items::Items;
@@ -98,13 +98,13 @@ impl Model for Draft {
     ghost view = { λ d. record { scope = d.scope; invariants = d.invariants; start = d.start; topology = d.topology; safety = d.safety; trans = d.trans; handlers = d.handlers; timeout = d.timeout } };
 }
 
-fn place(kind: InvariantKind) -> Place
+fn place(kind: InvariantKind) -> FormulaPlace
     ensures { result ≡ place_there kind }
 {
     match kind {
-        InvariantKind::Topology => Place::Topology,
-        InvariantKind::Safety => Place::Safety,
-        InvariantKind::Trans => Place::Trans,
+        InvariantKind::Topology => FormulaPlace::Topology,
+        InvariantKind::Safety => FormulaPlace::Safety,
+        InvariantKind::Trans => FormulaPlace::Trans,
     }
 }
 
