@@ -18,21 +18,21 @@ use Rattle.of10_session.specs.Sessions.{Turned, sends, spelled}
 
 -- ---- messages that wait for their xids
 
-abbrev pub Draft : Type 0
-Draft = ℕ → Message
+abbrev pub MessageDraft : Type 0
+MessageDraft = ℕ → Message
 
 -- each draft draws the next xid
-abbrev pub numbered : ℕ → List Draft → List Message
+abbrev pub numbered : ℕ → List MessageDraft → List Message
 numbered x [] = []
 numbered x (d ∷ ds) = d x ∷ numbered (next_xid x) ds
 
 -- the next xid behind them
-abbrev pub xid_behind : ℕ → List Draft → ℕ
+abbrev pub xid_behind : ℕ → List MessageDraft → ℕ
 xid_behind x [] = x
 xid_behind x (d ∷ ds) = xid_behind (next_xid x) ds
 
 -- the bytes of the drafts
-abbrev pub spelled_from : ℕ → List Draft → List ℕ
+abbrev pub spelled_from : ℕ → List MessageDraft → List ℕ
 spelled_from x ds = spelled (numbered x ds)
 
 -- ---- rules
@@ -73,13 +73,13 @@ abbrev pub flags_for : (idle : ℕ) → ℕ
 flags_for idle = if idle == 0 then 0 else 1
 
 -- a rule with ports takes the place of the one that fits the same packets
-abbrev pub adding : Rule → Draft
+abbrev pub adding : Rule → MessageDraft
 adding r x = FlowMod x (flow_of_match r.key) r.cookie add r.idle 0 32768 no_buffer no_port (flags_for r.idle) (map (output_to r.key.i) r.ports)
 
-abbrev pub removing : Rule → Draft
+abbrev pub removing : Rule → MessageDraft
 removing r x = FlowMod x (flow_of_match r.key) r.cookie delete_that_one 0 0 32768 no_buffer no_port 0 []
 
-abbrev pub changing : Rule → Draft
+abbrev pub changing : Rule → MessageDraft
 changing r x = if length r.ports == 0 then removing r x else adding r x
 
 -- ---- a join
@@ -88,14 +88,14 @@ abbrev pub no_address : List ℕ
 no_address = 0 ∷ 0 ∷ 0 ∷ 0 ∷ 0 ∷ 0 ∷ []
 
 -- packets come whole
-abbrev pub configuring : Draft
+abbrev pub configuring : MessageDraft
 configuring x = SetConfig x 0 65535
 
 -- 0x003fffff: nothing is looked at, so every rule is deleted
-abbrev pub clearing : Draft
+abbrev pub clearing : MessageDraft
 clearing x = FlowMod x (flow_of 4194303 0 no_address no_address) 0 delete_all_that_fit 0 0 0 no_buffer no_port 0 []
 
-abbrev pub welcoming : List Rule → List Draft
+abbrev pub welcoming : List Rule → List MessageDraft
 welcoming rules = configuring ∷ clearing ∷ map changing rules
 
 -- ---- a packet
@@ -106,22 +106,22 @@ out_action ingress (Port port) = output_to ingress port
 out_action ingress Flood = Output 65532 0
 
 -- a packet is sent on, where that fits a message
-abbrev pub sending_on : (buffer port : ℕ) → List Out → List ℕ → List Draft
+abbrev pub sending_on : (buffer port : ℕ) → List Out → List ℕ → List MessageDraft
 sending_on buffer port outs body =
     if nat_lt (16 + (8 * length outs + length body)) 65536 then (λ x. PacketOut x buffer port (map (out_action port) outs) body) ∷ [] else []
 
 -- a packet without a buffer goes on with its bytes, where it goes anywhere; a buffer is always let go
-abbrev pub going_on : (buffer port : ℕ) → List ℕ → List Out → List Draft
+abbrev pub going_on : (buffer port : ℕ) → List ℕ → List Out → List MessageDraft
 going_on buffer port body outs =
     if buffer == no_buffer then (if length outs == 0 then [] else sending_on buffer port outs body)
     else sending_on buffer port outs []
 
-abbrev pub forwarding : (buffer port : ℕ) → List ℕ → Reply → List Draft
+abbrev pub forwarding : (buffer port : ℕ) → List ℕ → Reply → List MessageDraft
 forwarding buffer port body reply = map changing reply.rules ++ going_on buffer port body reply.outs
 
 -- ---- answers
 
-abbrev pub drafts : Pending → Reply → List Draft
+abbrev pub drafts : Pending → Reply → List MessageDraft
 drafts Nothing reply = []
 drafts Joining reply = welcoming reply.rules
 drafts (Arriving buffer port body) reply = forwarding buffer port body reply
