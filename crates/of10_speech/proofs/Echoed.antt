@@ -12,7 +12,7 @@ use Rattle.of10_msgs.proofs.Frames.{frame_shown, opens}
 use Rattle.of10_stream.specs.Framings.{framing, IsFrame}
 use Rattle.of10_session.specs.Progresses.{Progress}
 use Rattle.of10_session.specs.Sessions.{spelled, turn}
-use Rattle.of10_speech.specs.declared.stops.Stop.TheVariants.{Goes}
+use Rattle.of10_speech.specs.declared.stops.SpeechStop.TheVariants.{Goes}
 use Rattle.of10_speech.specs.Echoes.{request_in}
 use Rattle.of10_speech.specs.Speeches.{Told}
 use Rattle.of10_speech.specs.Hearings.{HearsFrame}
