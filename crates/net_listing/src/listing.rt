@@ -42,7 +42,8 @@ pub fn list_invariants(alloc: Global, program: &Program, case: &Case) -> Result<
     Ok(out)
 }
 
-fn topology_of(program: &Program) -> &[Invariant]
+/// The topology invariants.
+pub fn topology_of(program: &Program) -> &[Invariant]
     ensures value { result.now ≡ program.now.topology }
     ensures shallow { All (λ v. depth v.formula ≤ 24) result.now }
 {

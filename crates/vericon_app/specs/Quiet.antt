@@ -19,5 +19,5 @@ pub record IsUndisturbed (change : Change) (before after : ℕ) : Type 0 where
 
 -- An output that the files explain without a fault was written whole; or the line `memory` was.
 pub data IsAnswered (asked : Option Call) (change : Change) (old new : Option (List ℕ)) (status : ℕ) : Type 0 where
-  answers : (text : List ℕ) → IsExplained (calm change) (files_named asked) (Output asked) text status → Grown old new text → IsAnswered asked change old new status
-  wants_memory : status ≡ 7 → Grown old new memory_text → IsAnswered asked change old new status
+  answers : (text : List ℕ) → IsExplained (calm change) (files_named asked) (Output run asked) text status → Grown old new text → IsAnswered run asked change old new status
+  wants_memory : status ≡ 7 → Grown old new memory_text → IsAnswered run asked change old new status

@@ -2,8 +2,8 @@ use Rattle.std.proofs.Common.{◌≡◌, ◌≤◌, All, length}
 use Rattle.csdn_core.specs.Network.{structure}
 use Rattle.csdn_core.specs.Depth.{depth}
 use Rattle.net_structs.specs.Rows.{held}
-use Rattle.trace_listing.specs.Traces.{first_false}
-use Rattle.trace_listing.proofs.invariants.first_false.Given as goal
+use Rattle.net_listing.specs.Falses.{first_false}
+use Rattle.net_listing.proofs.falses.first_false.Given as goal
 
 abbrev pub invariant-invariants : goal.invariant-invariants
 invariant-invariants l =
