@@ -10,7 +10,7 @@ use crate::place::{Open, Values};
 use crate::refusal::{NetWhy, Stop};
 use csdn_core::event::Packet;
 use csdn_core::program::{Constant, Program, Relation};
-use csdn_core::terms::{RelId, Sort};
+use csdn_core::terms::{FLOW_SORTS, RelId, Sort};
 use net_structs::cells::Cells;
 use net_structs::network::{Elements, Network};
 use net_structs::read::{are_elements, missing_port};
@@ -19,8 +19,6 @@ use std::alloc::{AllocError, Global};
 use text_lines::{Words, are_distinct, read_number};
 
 const MOST: u64 = 0xffff_ffff_ffff_ffff;
-
-const FLOW_SORTS: [Sort; 5] = [Sort::Sw, Sort::Ho, Sort::Ho, Sort::Pr, Sort::Pr];
 
 const PACKET_SORTS: [Sort; 4] = [Sort::Sw, Sort::Ho, Sort::Ho, Sort::Pr];
 
