@@ -8,6 +8,7 @@ use Rattle.csdn_history.specs.declared.reply.Reply.{Reply}
 use Rattle.of10_wire.specs.declared.types.FlowMatch.{FlowMatch}
 use Rattle.of10_wire.specs.declared.action.Action.{Action}
 use Rattle.of10_wire.specs.declared.action.Action.TheVariants.{Output}
+use Rattle.of10_wire.specs.ReservedPorts as reserved
 use Rattle.of10_wire.specs.Layout.{bytes_of}
 use Rattle.of10_msgs.specs.declared.message.Message.{Message}
 use Rattle.of10_msgs.specs.declared.message.Message.TheVariants.{SetConfig, PacketOut, FlowMod}
@@ -37,9 +38,9 @@ spelled_from x ds = spelled (numbered x ds)
 
 -- ---- rules
 
--- the port on which the packet came is written 0xfff8
+-- the port on which the packet came is written as the reserved one
 abbrev pub port_written : (ingress port : ℕ) → ℕ
-port_written ingress port = if port == ingress then 65528 else port
+port_written ingress port = if port == ingress then reserved.in_port else port
 
 abbrev pub output_to : (ingress port : ℕ) → Action
 output_to ingress port = Output (port_written ingress port) 0
@@ -65,19 +66,16 @@ delete_that_one = 4
 abbrev pub no_buffer : ℕ
 no_buffer = 4294967295
 
-abbrev pub no_port : ℕ
-no_port = 65535
-
 -- whether a switch tells that the rule ended: where it ends by itself
 abbrev pub flags_for : (idle : ℕ) → ℕ
 flags_for idle = if idle == 0 then 0 else 1
 
 -- a rule with ports takes the place of the one that fits the same packets
 abbrev pub adding : Rule → MessageDraft
-adding r x = FlowMod x (flow_of_match r.key) r.cookie add r.idle 0 32768 no_buffer no_port (flags_for r.idle) (map (output_to r.key.i) r.ports)
+adding r x = FlowMod x (flow_of_match r.key) r.cookie add r.idle 0 32768 no_buffer reserved.none (flags_for r.idle) (map (output_to r.key.i) r.ports)
 
 abbrev pub removing : Rule → MessageDraft
-removing r x = FlowMod x (flow_of_match r.key) r.cookie delete_that_one 0 0 32768 no_buffer no_port 0 []
+removing r x = FlowMod x (flow_of_match r.key) r.cookie delete_that_one 0 0 32768 no_buffer reserved.none 0 []
 
 abbrev pub changing : Rule → MessageDraft
 changing r x = if length r.ports == 0 then removing r x else adding r x
@@ -93,17 +91,17 @@ configuring x = SetConfig x 0 65535
 
 -- 0x003fffff: nothing is looked at, so every rule is deleted
 abbrev pub clearing : MessageDraft
-clearing x = FlowMod x (flow_of 4194303 0 no_address no_address) 0 delete_all_that_fit 0 0 0 no_buffer no_port 0 []
+clearing x = FlowMod x (flow_of 4194303 0 no_address no_address) 0 delete_all_that_fit 0 0 0 no_buffer reserved.none 0 []
 
 abbrev pub welcoming : List Rule → List MessageDraft
 welcoming rules = configuring ∷ clearing ∷ map changing rules
 
 -- ---- a packet
 
--- a flood is written 0xfffc
+-- a flood is written as all ports but the one on which the packet came
 abbrev pub out_action : ℕ → Out → Action
 out_action ingress (Port port) = output_to ingress port
-out_action ingress Flood = Output 65532 0
+out_action ingress Flood = Output reserved.all 0
 
 -- a packet is sent on, where that fits a message
 abbrev pub sending_on : (buffer port : ℕ) → List Out → List ℕ → List MessageDraft
