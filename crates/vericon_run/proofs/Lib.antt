@@ -1,1 +1,7 @@
-pub mod Said
+mod Said
+mod Topologies
+mod Steps
+mod Asked
+mod Served
+mod Unserved
+mod Undisturbed
