@@ -5,3 +5,4 @@ mod Asked
 mod Served
 mod Unserved
 mod Undisturbed
+mod All

@@ -8,6 +8,7 @@ pub mod call;
 mod order;
 mod prepared;
 mod preparing;
+pub mod process;
 mod ran;
 mod serving;
 
