@@ -27,8 +27,6 @@ pub enum Status {
     Memory,
     /// The sink failed, or a file was not written.
     WriteFault,
-    /// The listener failed.
-    ListenFault,
 }
 
 impl Status {
@@ -46,7 +44,6 @@ impl Status {
             Status::Usage => 6,
             Status::Memory => 7,
             Status::WriteFault => 8,
-            Status::ListenFault => 9,
         }
     }
 }
