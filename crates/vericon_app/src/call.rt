@@ -82,8 +82,8 @@ fn answer_words<F: Files>(
     }
 }
 
-/// Writes a text. The answer is the status where all of it was written.
-fn finish<S: Sink>(out: &mut S, text: &[u8], status: Status) -> u8
+/// Writes a text. The answer is the status where all of it was written, and else 8.
+pub fn finish<S: Sink>(out: &mut S, text: &[u8], status: Status) -> u8
     requires { S.has_failed out.old ≡ false }
     ensures finishes { Finishes text.now (code_of status) (S.written out.old) (S.written out.new) (S.faults out.old) (S.faults out.new) result }
     ensures later { S.faults out.old ≤ S.faults out.new }

@@ -14,7 +14,6 @@ mod eval;
 mod frames;
 mod make;
 pub mod numbers;
-pub mod process;
 mod replay;
 mod show;
 mod trace;
