@@ -5,12 +5,12 @@ use Rattle.file_loads.specs.Views.{View}
 use Rattle.file_loads.specs.Explained.{IsExplained}
 use Rattle.file_loads.proofs.Explaining.{unread}
 use Rattle.vericon_app.specs.Calls.{files_named}
-use Rattle.vericon_app.specs.Output.{IsUsage, Output}
+use Rattle.vericon_app.specs.Output.{IsUsage, Output, serves_none}
 use Rattle.vericon_app.specs.Left.{HasLeft, whole, cut, Finishes, all, front}
 
 -- words that are the call of no command
-pub unasked : (asked : Option Call) (view : View) (text : List ℕ) (status : ℕ) → asked ≡ None → IsUsage text status → IsExplained (record { before = view; after = view }) (files_named asked) (Output asked) text status
-unasked asked view text status none said = subst (λ (a : Option Call). IsExplained (record { before = view; after = view }) (files_named a) (Output a) text status) (sym none) (unread IsUsage view text status said)
+pub unasked : (asked : Option Call) (view : View) (text : List ℕ) (status : ℕ) → asked ≡ None → IsUsage text status → IsExplained (record { before = view; after = view }) (files_named asked) (Output serves_none asked) text status
+unasked asked view text status none said = subst (λ (a : Option Call). IsExplained (record { before = view; after = view }) (files_named a) (Output serves_none a) text status) (sym none) (unread IsUsage view text status said)
 
 -- a text that was written, or cut off, is what is left
 pub finished : (output : List ℕ → ℕ → Type 0) (text : List ℕ) (given : ℕ) (old new : Option (List ℕ)) (before after status : ℕ) → output text given → Finishes text given old new before after status → HasLeft output old new before after status

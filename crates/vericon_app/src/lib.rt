@@ -7,12 +7,13 @@
 #![tactic(auto)]
 
 pub mod call;
-mod check;
+pub mod check;
 mod clauses;
 mod conditions;
 mod eval;
 mod frames;
 mod make;
+pub mod numbers;
 pub mod process;
 mod replay;
 mod show;

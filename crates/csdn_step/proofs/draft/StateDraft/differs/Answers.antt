@@ -4,7 +4,7 @@ use Rattle.net_structs.specs.Networks.{has}
 use Rattle.net_structs.specs.Rows.{held}
 use Rattle.csdn_step.specs.Courses.{either_alone, sends}
 use Rattle.csdn_step.proofs.Outputs.{differs_is}
-use Rattle.csdn_step.proofs.draft.Draft.differs.Goals as goal
+use Rattle.csdn_step.proofs.draft.StateDraft.differs.Goals as goal
 
 pub returns : goal.returns
 returns c =

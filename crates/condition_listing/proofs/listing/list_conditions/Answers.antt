@@ -2,7 +2,7 @@ use Rattle.std.proofs.Common.{◌≤◌, length, arith}
 use Rattle.std.proofs.lemmas.List.{drop_all}
 use Rattle.csdn_conditions.specs.Conditions.{conditions}
 use Rattle.condition_listing.proofs.Listed.{goes_on, ends, as_many}
-use Rattle.condition_listing.proofs.listing.list.Goals as goal
+use Rattle.condition_listing.proofs.listing.list_conditions.Goals as goal
 
 pub conditions-preserved : goal.conditions-preserved
 conditions-preserved c =

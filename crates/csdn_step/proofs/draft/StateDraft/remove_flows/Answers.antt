@@ -2,7 +2,7 @@ use Rattle.std.proofs.Common.{◌∙◌, ap, List, ℕ}
 use Rattle.std.proofs.lemmas.Result.{on_ok_weaker}
 use Rattle.csdn_step.specs.Drafts.{standing, taken_each}
 use Rattle.csdn_step.proofs.Outputs.{all_taken}
-use Rattle.csdn_step.proofs.draft.Draft.remove_flows.Goals as goal
+use Rattle.csdn_step.proofs.draft.StateDraft.remove_flows.Goals as goal
 
 pub returns-clause-taken : goal.returns-clause-taken
 returns-clause-taken c =

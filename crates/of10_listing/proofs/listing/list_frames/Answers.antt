@@ -1,7 +1,7 @@
 use Rattle.std.proofs.Common.{ℕ, List, sym, subst, arith}
 use Rattle.of10_listing.specs.Listings.{IsKept}
 use Rattle.of10_listing.proofs.Goes.{starts, kept, near, ended, length_left, place_is}
-use Rattle.of10_listing.proofs.listing.list.Goals as goal
+use Rattle.of10_listing.proofs.listing.list_frames.Goals as goal
 
 pub frames-init : goal.frames-init
 frames-init c = (omega arith, subst (λ (l : List ℕ). IsKept c.args.bytes.now 0 c.args.bytes.now l) (sym c.new-text.ensures.items) (starts c.args.bytes.now))

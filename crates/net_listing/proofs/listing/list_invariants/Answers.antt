@@ -8,7 +8,7 @@ use Rattle.csdn_core.specs.Run.{empty_state}
 use Rattle.net_structs.specs.Rows.{held}
 use Rattle.net_text.proofs.Appended.{two}
 use Rattle.net_listing.specs.Listings.{listing, truth_lines, state_lines}
-use Rattle.net_listing.proofs.listing.list.Goals as goal
+use Rattle.net_listing.proofs.listing.list_invariants.Goals as goal
 
 pub returns : goal.returns
 returns c =

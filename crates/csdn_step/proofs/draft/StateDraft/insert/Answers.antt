@@ -3,7 +3,7 @@ use Rattle.csdn_core.specs.Network.{State}
 use Rattle.net_structs.specs.Rows.{held}
 use Rattle.net_structs.specs.Views.{but}
 use Rattle.csdn_step.proofs.Tuples.{put_back, put_new, noted, if_ok}
-use Rattle.csdn_step.proofs.draft.Draft.insert.Goals as goal
+use Rattle.csdn_step.proofs.draft.StateDraft.insert.Goals as goal
 
 pub returns-then-has-clause-put : goal.returns-then-has-clause-put
 returns-then-has-clause-put c =

@@ -2,7 +2,7 @@ use Rattle.std.proofs.Common.{◌∙◌, sym, ap}
 use Rattle.net_structs.specs.Rows.{held}
 use Rattle.net_structs.specs.Views.{but}
 use Rattle.csdn_step.proofs.Tuples.{goes_out, stays_out, if_ok}
-use Rattle.csdn_step.proofs.draft.Draft.remove.Goals as goal
+use Rattle.csdn_step.proofs.draft.StateDraft.remove.Goals as goal
 
 pub returns-clause-taken : goal.returns-clause-taken
 returns-clause-taken c =

@@ -2,7 +2,7 @@ use Rattle.std.proofs.Common.{◌∙◌, subst, ℕ, List}
 use Rattle.std.proofs.lemmas.Result.{IfOk-weaker}
 use Rattle.replay_listing.specs.Tellings.{IsTelling}
 use Rattle.replay_listing.proofs.Replayed.{listed_session}
-use Rattle.replay_listing.proofs.listing.list.Goals as goal
+use Rattle.replay_listing.proofs.listing.list_replay.Goals as goal
 
 pub returns : goal.returns
 returns c =

@@ -4,7 +4,7 @@ use Rattle.general_facts.proofs.Lists.{rest_is}
 use Rattle.csdn_core.specs.declared.program.Invariant.{Invariant}
 use Rattle.csdn_core.specs.Run.{no_values}
 use Rattle.csdn_core.specs.Truth.{Structure, truth}
-use Rattle.trace_listing.specs.Traces.{first_false}
+use Rattle.net_listing.specs.Falses.{first_false}
 
 -- the one at hand is false
 pub found : (M : Structure) (rest : List Invariant) (v : Invariant) → 1 ≤ length rest → v ≡ get_or rest 0 v → truth M v.formula no_values ≡ false → Some v.name ≡ first_false M rest
