@@ -37,12 +37,12 @@ use Rattle.csdn_types.proofs.InOrder.{Ordered, sort_low, ordered_from, joined, n
 -- ---- commands
 
 -- what `term_faults` may hold stands below NotAllowed
-term_low : (s : Scope) (sort : Sort) (t : RawTerm) → Ordered (8 * place_of t) (term_faults s sort t) (8 * place_of t + 5)
+term_low : (s : Scope) (sort : Sort) (t : RawTerm) → Ordered (8 * place_of t) (term_faults s sort t) (8 * place_of t + 4)
 term_low s sort t = sort_low (place_of t) sort (meaning s t)
 
 own_ordered : (s : Scope) (sort : Sort) (own : Term) (t : RawTerm) → Ordered (8 * place_of t) (own_faults s sort own t) (8 * place_of t + 8)
 own_ordered s sort own t =
-    joined _ (8 * place_of t + 5) _ (term_faults s sort t) _ (term_low s sort t) (if_one (not (same_term (term_of s t) own)) _ _ (NotAllowed (place_of t)) (omega arith) (omega arith))
+    joined _ (8 * place_of t + 4) _ (term_faults s sort t) _ (term_low s sort t) (if_one (not (same_term (term_of s t) own)) _ _ (NotAllowed (place_of t)) (omega arith) (omega arith))
 
 module _ (own : OwnTerms) where
   command_ordered : (s : Scope) (x : RawCommand) (from to : ℕ) → CommandWithin from x to → Ordered (8 * from) (command_faults own s x) (8 * to)
