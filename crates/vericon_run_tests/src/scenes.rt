@@ -53,7 +53,14 @@ fn network_for(alloc: Global, program: &Program) -> Result<Option<Network>, Allo
 pub fn firewall(alloc: Global) -> Option<Runtime>
     ensures { IfSome result (λ runtime. runtime.history ≡ []) }
 {
-    let Ok(program) = read_program(alloc, FIREWALL) else {
+    runtime_of(alloc, FIREWALL)
+}
+
+/// The runtime of a program's text; none for want of memory, or where it doesn't read.
+pub fn runtime_of(alloc: Global, text: &[u8]) -> Option<Runtime>
+    ensures { IfSome result (λ runtime. runtime.history ≡ []) }
+{
+    let Ok(program) = read_program(alloc, text) else {
         return None;
     };
     let Ok(Some(network)) = network_for(alloc, &program) else {
