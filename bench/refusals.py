@@ -1,0 +1,138 @@
+#!/usr/bin/env python3
+"""refusals.py [ROW..]: refuses each allocation of the built program in turn, and each of its opens, reads and writes, over worked
+calls, and holds each answer against the whole one.
+
+A process of its own is forked at each call that is to be refused (refuse.c), so that no run begins anew. It goes on with the
+refusal to its end:
+
+  an allocation      status 7, and what was written is `memory` or a front of the whole output
+  an open or a read  status 5, and `read fault NAME`
+  a write            status 8, and a front of the whole output
+  one byte alone     where a read or a write was to move more: the whole output, with its status
+
+Prints a line for each call of the program and each kind of refusal, with the number of refusals and what they were answered by.
+Ends with status 1 where one of them was answered otherwise.
+"""
+import os
+import re
+import subprocess
+import sys
+import tempfile
+
+HERE = os.path.dirname(os.path.abspath(__file__))
+VERICON = os.environ.get("VERICON", os.path.join(HERE, "../crates/vericon/out/vericon"))
+
+ARMED = "rel armed(); safety A: not armed(); pktIn(s, src->dst, i) { skip; }"
+FIREWALL = """rel tr(SW, HO);
+safety guarded: forall S:SW, A:HO, B:HO. S.sent(A->B, prt(2)->prt(1)) -> tr(S, A);
+pktIn(s, src->dst, prt(1)) {
+  s.forward(src->dst, prt(1)->prt(2));
+  tr.insert(s, dst);
+  s.install(src->dst, prt(1)->prt(2));
+}
+pktIn(s, src->dst, prt(2)) {
+  if tr(s, src) {
+    s.forward(src->dst, prt(2)->prt(1));
+    s.install(src->dst, prt(2)->prt(1));
+  }
+}
+"""
+OPEN_FIREWALL = FIREWALL.replace("  if tr(s, src) {\n", "").replace("  }\n}\n", "}\n")
+TWO = "vericon-net 1\nsw 1\nho 1 2\npr 1 2\nend\n"
+CLAUSES = "c 1 2 0\nc 1 -2 0\nc -1 2 0\nc -1 -2 0\n"
+HELLO = "0100000800000000"
+FEATURES = "0106002000000002000000000000000100000100010000000000000000000fff"
+PACKET = "010a00200000000000000005000e000100000000000000020000000000010800"
+
+
+def block(text):
+    return f"vericon-log 1\nblock b\natoms 2\n{text}end\n"
+
+
+def journal(*notes):
+    return "".join(f"{line}\n" for line in ("vericon-journal 1", *notes, "end"))
+
+
+STREAM = bytes.fromhex(HELLO + FEATURES + PACKET)
+ENTERED = journal("join 0 1 1", "packet 0 1 1 1 2 1")
+CHECK = ["check", "p"]
+HIGHER = ["check", "--strengthen", "1", "p"]
+TRACE = ["trace", "p", "n", "j"]
+SOLVE = ["clauses", "p"]
+REPLAY = ["replay", "p", "n", "j", "1", "s"]
+
+# A name, the words, what the files p, n, j and s hold, the status, and how the output begins.
+CALLS = [
+    ("armed", CHECK, [ARMED], 0, "yes level 0\n"),
+    ("firewall", CHECK, [FIREWALL], 1, "counterexample level 0 condition 3 step guarded pktFlow\n"),
+    ("firewall-one", HIGHER, [FIREWALL], 0, "yes level 1\n"),
+    ("open-firewall", HIGHER, [OPEN_FIREWALL], 1, "counterexample level 1 condition 2 init 1 guarded\n"),
+    ("trace", TRACE, [FIREWALL, TWO, journal("packet 0 1 1 1 2 1", "flow 1 1 2 1 2")], 0, "1 ok\n2 ok\n"),
+    ("not-enabled", TRACE, [FIREWALL, TWO, journal("flow 1 2 1 2 1")], 3, "entry 1: not enabled\n"),
+    ("accepted", SOLVE, [block(CLAUSES + "s 1 0 1 2 0\ns 0 5 3 4 0\n")], 0, "b: accepted\n"),
+    ("cut-log", SOLVE, [block(CLAUSES + "s 1 0 1 2 0\n")], 1, "b: not accepted\n"),
+    ("refuted", SOLVE, [block(CLAUSES)], 0, "b: refuted\n"),
+    ("model", SOLVE, [block(CLAUSES[:24])], 0, "b: model 1 2\n"),
+    ("replay", REPLAY, [FIREWALL, TWO, ENTERED, STREAM], 0, "out 0100000800000001\n"),
+    ("differs", REPLAY, [FIREWALL, TWO, journal("join 0 1 1"), STREAM], 3, "ask 2: differs\n"),
+]
+
+# Each kind of refusal, and the answers that may be given.
+KINDS = [
+    ("allocations", ("memory", "front")),
+    ("calls", ("read-fault", "cut")),
+    ("bytes", ("whole",)),
+]
+
+
+def build(work):
+    """The library that refuses."""
+    library = os.path.join(work, "refuse.so")
+    subprocess.run(["cc", "-O2", "-shared", "-fPIC", "-o", library, os.path.join(HERE, "refuse.c"), "-ldl"], check=True)
+    return library
+
+
+def refuse(library, folder, words, kind, status):
+    """What a run says in which each call of this kind is refused."""
+    given = {**os.environ, "LD_PRELOAD": library, "REFUSE": kind, "REFUSE_WHOLE": "whole", "REFUSE_STATUS": str(status)}
+    ran = subprocess.run([VERICON, *words], cwd=folder, env=given, stdout=subprocess.DEVNULL, stderr=subprocess.PIPE, text=True)
+    lines = ran.stderr.splitlines()
+    counts = dict(re.findall(r"(\S+)=(\d+)", lines[-1])) if lines else {}
+    return lines[:-1], {name: int(count) for name, count in counts.items()}
+
+
+def tell(library, call):
+    """Prints the lines of a call. The answer says whether all was as it is to be."""
+    name, words, files, status, begins = call
+    good = True
+    with tempfile.TemporaryDirectory() as folder:
+        for file, held in zip("pnjs", files):
+            with open(os.path.join(folder, file), "wb") as it:
+                it.write(held if isinstance(held, bytes) else held.encode())
+        ran = subprocess.run([VERICON, *words], cwd=folder, stdout=subprocess.PIPE)
+        if ran.returncode != status or not ran.stdout.startswith(begins.encode()):
+            print(f"{name}: without a refusal status {ran.returncode}, {ran.stdout!r}")
+            return False
+        with open(os.path.join(folder, "whole"), "wb") as it:
+            it.write(ran.stdout)
+        for kind, answers in KINDS:
+            said, counts = refuse(library, folder, words, kind, status)
+            told = sum(counts.get(answer, 0) for answer in answers)
+            all_told = counts.get("same") == 1 and told == counts.get("refused")
+            good = good and all_told
+            parts = ", ".join(f"{answer} {counts.get(answer, 0)}" for answer in answers)
+            print(f"{name}: {' '.join(words)}: {kind}: {counts.get('refused')} refused: {parts}{'' if all_told else ', AND OTHERWISE'}", flush=True)
+            for line in said[:5] if not all_told else []:
+                print(f"    {line}")
+    return good
+
+
+def main():
+    wanted = sys.argv[1:]
+    with tempfile.TemporaryDirectory() as work:
+        library = build(work)
+        told = [tell(library, call) for call in CALLS if not wanted or call[0] in wanted]
+    sys.exit(0 if all(told) else 1)
+
+
+main()
