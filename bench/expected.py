@@ -764,7 +764,8 @@ def words_differ(given, status, text):
     if text == b"usage\n":
         # `eval` of a condition, over a network without a state
         return None if status == 6 and given[0] == b"eval" and len(given) == 5 else f"usage, status {status}"
-    last = text[:-1].split(b"\n")[-1] if text else b""
+    # a name of a file may be any text
+    last = text[:-1] if text.startswith((b"missing ", b"read fault ")) else text[:-1].split(b"\n")[-1]
     if not 0 <= status <= 8 or status in (6, 7) or not LAST.match(last) or text and not text.endswith(b"\n"):
         return f"status {status}, {text[-200:]!r}"
     if (status == 5) != (last.startswith(b"missing ") or last.startswith(b"read fault ")):

@@ -110,7 +110,7 @@ def change(chance, seeds, tokens):
     while True:
         size = len(data)
         at = int(chance.random() * (size + 1))
-        kind = int(chance.random() * 12)
+        kind = int(chance.random() * 16)
         if kind == 0 and size:
             data[at % size] ^= 1 << int(chance.random() * 8)
         elif kind == 1 and size:
@@ -133,9 +133,21 @@ def change(chance, seeds, tokens):
         elif kind == 8 and size >= 2:
             at %= size - 1
             data[at : at + 2] = struct.pack(">H", chance.choice((0, 1, 7, 8, 12, 16, 31, 32, 33, 72, 80, 88, 255, 256, 65535, int(chance.random() * 65536))))
-        else:
-            upto = at if kind < 10 else at + 1 + int(chance.random() * 6)
+        elif kind in (9, 10):
+            upto = at if kind == 9 else at + 1 + int(chance.random() * 6)
             data[at:upto] = chance.choice(tokens)
+        elif kind in (11, 12):
+            # another digit, or none that stands behind this place
+            while at < size and not 48 <= data[at] <= 57:
+                at += 1
+            if at < size:
+                data[at] = 48 + int(chance.random() * 10)
+        else:
+            # a line twice, none, or in the place of another
+            lines = data.split(b"\n")
+            at, to = int(chance.random() * len(lines)), int(chance.random() * len(lines))
+            lines[to : to + (kind > 13)] = [] if kind == 15 else [lines[at]]
+            data = bytearray(b"\n".join(lines))
         if len(data) > 4000:
             del data[4000:]
         if chance.random() < 0.6:

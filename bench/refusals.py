@@ -5,7 +5,9 @@ calls, and holds each answer against the whole one.
 A process of its own is forked at each call that is to be refused (refuse.c), so that no run begins anew. It goes on with the
 refusal to its end:
 
-  an allocation      status 7, and what was written is `memory` or a front of the whole output
+  an allocation      status 7, and what was written is `memory` or a front of the whole output; or the whole output with its status, where
+                     it was room that is asked for beforehand: std asks for it again when it is needed
+  .. and all later   status 7, and `memory` or a front
   an open or a read  status 5, and `read fault NAME`
   a write            status 8, and a front of the whole output
   one byte alone     where a read or a write was to move more: the whole output, with its status
@@ -20,7 +22,7 @@ import sys
 import tempfile
 
 HERE = os.path.dirname(os.path.abspath(__file__))
-VERICON = os.environ.get("VERICON", os.path.join(HERE, "../crates/vericon/out/vericon"))
+VERICON = os.path.abspath(os.environ.get("VERICON", os.path.join(HERE, "../crates/vericon/out/vericon")))
 
 ARMED = "rel armed(); safety A: not armed(); pktIn(s, src->dst, i) { skip; }"
 FIREWALL = """rel tr(SW, HO);
@@ -72,14 +74,15 @@ CALLS = [
     ("accepted", SOLVE, [block(CLAUSES + "s 1 0 1 2 0\ns 0 5 3 4 0\n")], 0, "b: accepted\n"),
     ("cut-log", SOLVE, [block(CLAUSES + "s 1 0 1 2 0\n")], 1, "b: not accepted\n"),
     ("refuted", SOLVE, [block(CLAUSES)], 0, "b: refuted\n"),
-    ("model", SOLVE, [block(CLAUSES[:24])], 0, "b: model 1 2\n"),
+    ("model", SOLVE, [block("".join(CLAUSES.splitlines(True)[:3]))], 0, "b: model 1 2\n"),
     ("replay", REPLAY, [FIREWALL, TWO, ENTERED, STREAM], 0, "out 0100000800000001\n"),
     ("differs", REPLAY, [FIREWALL, TWO, journal("join 0 1 1"), STREAM], 3, "ask 2: differs\n"),
 ]
 
 # Each kind of refusal, and the answers that may be given.
 KINDS = [
-    ("allocations", ("memory", "front")),
+    ("allocations", ("memory", "front", "whole")),
+    ("memory", ("memory", "front")),
     ("calls", ("read-fault", "cut")),
     ("bytes", ("whole",)),
 ]
@@ -120,7 +123,7 @@ def tell(library, call):
             told = sum(counts.get(answer, 0) for answer in answers)
             all_told = counts.get("same") == 1 and told == counts.get("refused")
             good = good and all_told
-            parts = ", ".join(f"{answer} {counts.get(answer, 0)}" for answer in answers)
+            parts = ", ".join(f"{answer} {count}" for answer, count in counts.items() if answer not in ("same", "refused") and (count or answer in answers))
             print(f"{name}: {' '.join(words)}: {kind}: {counts.get('refused')} refused: {parts}{'' if all_told else ', AND OTHERWISE'}", flush=True)
             for line in said[:5] if not all_told else []:
                 print(f"    {line}")

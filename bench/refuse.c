@@ -1,6 +1,7 @@
 /* Preloaded into the built program, this refuses one of its calls: an allocation, or a read or a write. refusals.py says how.
 
-   REFUSE       `allocations`; `calls`: opens, reads and writes fail; `bytes`: reads and writes of more bytes than one move one
+   REFUSE       `allocations`; `memory`: an allocation and all that follow; `calls`: opens, reads and writes fail; `bytes`: reads and
+                writes of more bytes than one move one
    REFUSE_AT    the number of the call that is refused, from 1 on. Without it each of them is, in a process of its own, which is
                 forked there: it goes on with the refusal, and its answer is held against the whole output; the parent goes on
                 without. Nothing is written to the standard output then, and how the answers are distributed is said on the
@@ -33,7 +34,7 @@ static const char *const names[ANSWERS] = { "", "other", "memory", "front", "cut
 enum { MOST = 1 << 24, FILES = 64 };
 static enum kind kind;
 static long at, calls, tally[ANSWERS], died;
-static int counting, is_child, in_turn;
+static int counting, is_child, in_turn, lasts;
 static unsigned long low, high;         /* where the program's own code lies */
 static char said[MOST], whole[MOST];    /* what was written so far, and what is to be */
 static size_t said_size, whole_size;
@@ -97,7 +98,6 @@ __attribute__((constructor)) static void begin(void)
     if (!what)
         return;
     dl_iterate_phdr(of_program, NULL);
-    kind = !strcmp(what, "allocations") ? ALLOCATIONS : !strcmp(what, "calls") ? CALLS : BYTES;
     counting = from == NULL;
     in_turn = number == NULL;
     at = number ? atol(number) : 0;
@@ -109,18 +109,21 @@ __attribute__((constructor)) static void begin(void)
         close(fd);
         whole_status = atoi(getenv("REFUSE_STATUS"));
     }
-    calls = 0;
     on_exit(at_exit, NULL);
+    lasts = !strcmp(what, "memory");
+    kind = lasts || !strcmp(what, "allocations") ? ALLOCATIONS : !strcmp(what, "calls") ? CALLS : BYTES;
 }
 
 /* Whether this call is refused here. */
 static int due(void)
 {
-    if (is_child || !counting)
+    if (is_child)
+        return lasts;
+    if (!counting)
         return 0;
     long number = __atomic_add_fetch(&calls, 1, __ATOMIC_SEQ_CST);
     if (!in_turn)
-        return number == at;
+        return number == at || (lasts && number > at);
     int status;
     pid_t child = fork();
     if (child == 0) {
