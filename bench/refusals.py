@@ -12,14 +12,19 @@ refusal to its end:
   a write            status 8, and a front of the whole output
   one byte alone     where a read or a write was to move more: the whole output, with its status
 
+`run` serves one session over loopback, in a run of its own for each refusal, from the program's `listen` on: there the answer may also be a
+session that ends by `memory`, `read fault` or `write fault`, with a front of the session's bytes and of the journal, or `listen fault`.
+
 Prints a line for each call of the program and each kind of refusal, with the number of refusals and what they were answered by.
 Ends with status 1 where one of them was answered otherwise.
 """
 import os
 import re
+import socket
 import subprocess
 import sys
 import tempfile
+import time
 
 HERE = os.path.dirname(os.path.abspath(__file__))
 VERICON = os.path.abspath(os.environ.get("VERICON", os.path.join(HERE, "../crates/vericon/out/vericon")))
@@ -130,11 +135,108 @@ def tell(library, call):
     return good
 
 
+KEPT = open(os.path.join(HERE, "../examples/firewall_kept.csdn")).read()
+RUN = ["run", "--workers", "1", "--sessions", "1"]
+
+# What a run over loopback may be answered by, of each kind of refusal: the status and how its one session ended.
+RUN_ENDS = {
+    "allocations": {(0, b"memory"), (0, b"write fault"), (7, b"")},
+    "memory": {(0, b"memory"), (7, b"")},
+    "calls": {(0, b"read fault"), (0, b"write fault"), (8, b""), (9, b"")},
+    "bytes": set(),
+}
+SESSION_LINE = re.compile(rb"session 1 (.*) ignored 0\n")
+
+
+def free_port():
+    with socket.socket() as it:
+        it.bind(("127.0.0.1", 0))
+        return it.getsockname()[1]
+
+
+def speak(port, process):
+    """What the program says to a switch that sends its stream and closes; nothing where nobody listens any more."""
+    while process.poll() is None:
+        try:
+            with socket.create_connection(("127.0.0.1", port), 10) as link:
+                link.sendall(STREAM)
+                link.shutdown(socket.SHUT_WR)
+                heard = b""
+                while part := link.recv(65536):
+                    heard += part
+                return heard
+        except ConnectionRefusedError:
+            time.sleep(0.002)
+        except OSError:
+            return None
+    return b""
+
+
+def serve(library, folder, kind, number):
+    """A run whose call of this number is refused: its status, its output, what the switch heard, and how many calls there were."""
+    port = free_port()
+    given = {**os.environ, "LD_PRELOAD": library, "REFUSE": kind, "REFUSE_AT": str(number), "REFUSE_FROM": "listen"}
+    process = subprocess.Popen([VERICON, *RUN, "--port", str(port), "p", "n"], cwd=folder, env=given, stdout=subprocess.PIPE, stderr=subprocess.PIPE)
+    heard = speak(port, process)
+    out, said = process.communicate(timeout=60)
+    found = re.search(rb"calls=(\d+)", said)
+    return process.returncode, out, heard, int(found[1]) if found else 0
+
+
+def is_served(answer, whole, kind):
+    """Whether a run is answered so that nothing is lost but by its cause."""
+    status, out, heard, _ = answer
+    wanted, text, said, _ = whole
+    if heard is not None and not said.startswith(heard):
+        return False
+    if (status, out) == (wanted, text):
+        return kind != "memory"
+    found = SESSION_LINE.search(out)
+    if found:
+        # the journal is a front of the whole one
+        front = text[: text.index(b"session 1 ")]
+        entries = text[text.index(b"vericon-journal") : -len(b"end\n")]
+        rest = out[found.end() :].removesuffix(b"listen fault\n" if status == 9 else b"")
+        is_front = out.startswith(front) and rest.endswith(b"end\n") and entries.startswith(rest[:-4])
+        return is_front and ((status, found[1]) in RUN_ENDS[kind] or (status, b"") in RUN_ENDS[kind] and found[1] == b"closed")
+    if status == 9:
+        return (9, b"") in RUN_ENDS[kind] and out == text[: text.index(b"session 1 ")] + b"vericon-journal 1\nend\nlisten fault\n"
+    return (status, b"") in RUN_ENDS[kind] and text.startswith(out)
+
+
+def tell_run(library):
+    good = True
+    with tempfile.TemporaryDirectory() as folder:
+        for file, held in (("p", KEPT), ("n", TWO)):
+            with open(os.path.join(folder, file), "w") as it:
+                it.write(held)
+        for kind in RUN_ENDS:
+            whole = serve(library, folder, kind, 0)
+            if whole[0] != 0 or len(whole[2]) != 204:
+                print(f"run: without a refusal {whole}")
+                return False
+            counts = {}
+            for number in range(1, whole[3] + 1):
+                answer = serve(library, folder, kind, number)
+                if is_served(answer, whole, kind):
+                    end = SESSION_LINE.search(answer[1])
+                    name = f"status {answer[0]} {end[1].decode() if end else 'no session'}"
+                    counts[name] = counts.get(name, 0) + 1
+                else:
+                    good = False
+                    print(f"run: {kind} {number}: {answer}")
+            told = ", ".join(f"{name} {count}" for name, count in sorted(counts.items()))
+            print(f"run: {' '.join(RUN)} p n: {kind}: {whole[3]} refused: {told}", flush=True)
+    return good
+
+
 def main():
     wanted = sys.argv[1:]
     with tempfile.TemporaryDirectory() as work:
         library = build(work)
         told = [tell(library, call) for call in CALLS if not wanted or call[0] in wanted]
+        if not wanted or "run" in wanted:
+            told.append(tell_run(library))
     sys.exit(0 if all(told) else 1)
 
 

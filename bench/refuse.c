@@ -5,7 +5,7 @@
    REFUSE_AT    the number of the call that is refused, from 1 on. Without it each of them is, in a process of its own, which is
                 forked there: it goes on with the refusal, and its answer is held against the whole output; the parent goes on
                 without. Nothing is written to the standard output then, and how the answers are distributed is said on the
-                standard error
+                standard error; where there is a number, how many calls there were
    REFUSE_FROM  `listen`: calls are counted from the program's first `listen` on
    REFUSE_WHOLE the file with the whole output, and REFUSE_STATUS the status, where each call is refused in turn
 
@@ -77,8 +77,10 @@ static enum answer judge(int status)
 static void at_exit(int status, void *none)
 {
     (void)none;
-    if (!in_turn)
+    if (!in_turn) {
+        dprintf(2, "calls=%ld\n", calls);
         return;
+    }
     enum answer answer = judge(status);
     if (is_child) {
         if (answer == OTHER)
