@@ -10,6 +10,7 @@ refusal to its end:
   .. and all later   status 7, and `memory` or a front
   an open or a read  status 5, and `read fault NAME`
   a write            status 8, and a front of the whole output
+  a write to memory  that finds none: as a write
   one byte alone     where a read or a write was to move more: the whole output, with its status
 
 `run` serves one session over loopback, in a run of its own for each refusal, from the program's `listen` on: there the answer may also be a
@@ -28,6 +29,7 @@ import time
 
 HERE = os.path.dirname(os.path.abspath(__file__))
 VERICON = os.path.abspath(os.environ.get("VERICON", os.path.join(HERE, "../crates/vericon/out/vericon")))
+TRIAL = os.path.abspath(os.environ.get("TRIAL", os.path.join(HERE, "../crates/refusal_trial/out/refusal_trial")))
 
 ARMED = "rel armed(); safety A: not armed(); pktIn(s, src->dst, i) { skip; }"
 FIREWALL = """rel tr(SW, HO);
@@ -93,6 +95,17 @@ KINDS = [
 ]
 
 
+# The same, of the program refusal_trial: a session over a link in memory, and a check into a sink in memory. A write that finds no memory fails.
+TRIALS = [
+    ("link-in-memory", ["session"], [], 0, "01000008000000010105000800000002"),
+    ("sink-in-memory", ["check"], [], 1, "counterexample level 0 condition 2 step one pktIn\n"),
+]
+TRIAL_KINDS = [
+    ("allocations", ("memory", "front", "cut", "whole")),
+    ("memory", ("memory", "front", "cut")),
+]
+
+
 def build(work):
     """The library that refuses."""
     library = os.path.join(work, "refuse.so")
@@ -100,16 +113,16 @@ def build(work):
     return library
 
 
-def refuse(library, folder, words, kind, status):
+def refuse(library, program, folder, words, kind, status):
     """What a run says in which each call of this kind is refused."""
     given = {**os.environ, "LD_PRELOAD": library, "REFUSE": kind, "REFUSE_WHOLE": "whole", "REFUSE_STATUS": str(status)}
-    ran = subprocess.run([VERICON, *words], cwd=folder, env=given, stdout=subprocess.DEVNULL, stderr=subprocess.PIPE, text=True)
+    ran = subprocess.run([program, *words], cwd=folder, env=given, stdout=subprocess.DEVNULL, stderr=subprocess.PIPE, text=True)
     lines = ran.stderr.splitlines()
     counts = dict(re.findall(r"(\S+)=(\d+)", lines[-1])) if lines else {}
     return lines[:-1], {name: int(count) for name, count in counts.items()}
 
 
-def tell(library, call):
+def tell(library, call, program=VERICON, kinds=KINDS):
     """Prints the lines of a call. The answer says whether all was as it is to be."""
     name, words, files, status, begins = call
     good = True
@@ -117,14 +130,14 @@ def tell(library, call):
         for file, held in zip("pnjs", files):
             with open(os.path.join(folder, file), "wb") as it:
                 it.write(held if isinstance(held, bytes) else held.encode())
-        ran = subprocess.run([VERICON, *words], cwd=folder, stdout=subprocess.PIPE)
+        ran = subprocess.run([program, *words], cwd=folder, stdout=subprocess.PIPE)
         if ran.returncode != status or not ran.stdout.startswith(begins.encode()):
             print(f"{name}: without a refusal status {ran.returncode}, {ran.stdout!r}")
             return False
         with open(os.path.join(folder, "whole"), "wb") as it:
             it.write(ran.stdout)
-        for kind, answers in KINDS:
-            said, counts = refuse(library, folder, words, kind, status)
+        for kind, answers in kinds:
+            said, counts = refuse(library, program, folder, words, kind, status)
             told = sum(counts.get(answer, 0) for answer in answers)
             all_told = counts.get("same") == 1 and told == counts.get("refused")
             good = good and all_told
@@ -235,6 +248,7 @@ def main():
     with tempfile.TemporaryDirectory() as work:
         library = build(work)
         told = [tell(library, call) for call in CALLS if not wanted or call[0] in wanted]
+        told += [tell(library, call, TRIAL, TRIAL_KINDS) for call in TRIALS if not wanted or call[0] in wanted]
         if not wanted or "run" in wanted:
             told.append(tell_run(library))
     sys.exit(0 if all(told) else 1)
