@@ -1,2 +1,2 @@
 pub mod Turns
-mod Falses
+mod FirstFalse

@@ -3,7 +3,7 @@ use Rattle.csdn_core.specs.Network.{structure}
 use Rattle.csdn_core.specs.Depth.{depth}
 use Rattle.net_structs.specs.Rows.{held}
 use Rattle.net_listing.proofs.Turns.{all_left}
-use Rattle.net_listing.proofs.Falses.{found, passed}
+use Rattle.net_listing.proofs.FirstFalse.{found, passed}
 use Rattle.net_listing.proofs.falses.first_false.Goals as goal
 
 pub returns-then-not-is_true-clause-name : goal.returns-then-not-is_true-clause-name

@@ -7,7 +7,7 @@ use Rattle.net_listing.proofs.falses.first_false.Given as goal
 
 abbrev pub invariant-invariants : goal.invariant-invariants
 invariant-invariants l =
-    (first_false (structure l.setting.program.now l.setting.network.now (held l.state) l.packet) l.rest ≡ first_false (structure l.setting.program.now l.setting.network.now (held l.state) l.packet) l.invariants)
+    (first_false (structure l.program l.network (held l.state) l.packet) l.rest ≡ first_false (structure l.program l.network (held l.state) l.packet) l.invariants)
     × (l.env ≡ l.fn.env) × All (λ v. depth v.formula ≤ 24) l.rest
 
 abbrev pub decreases-invariants : goal.decreases-invariants
