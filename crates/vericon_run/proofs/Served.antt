@@ -91,7 +91,7 @@ module _ (call : Call) (change : Change) (start : Start) (is : IsStartFor change
       }
 
   -- .. over an accepted program and network
-  pub accepted_for : IsAccepted (size_of call) (level_of call) (change.before.told (file_name call 0)) (change.before.told (file_name call 1))
+  abbrev pub accepted_for : IsAccepted (size_of call) (level_of call) (change.before.told (file_name call 0)) (change.before.told (file_name call 1))
   accepted_for =
       let program = is.by in
       let network = program.by.by in
@@ -120,7 +120,7 @@ module _ (call : Call) (change : Change) (start : Start) (is : IsStartFor change
 -- ---- what the words asked for
 
 module _ (asked : Option Call) (only : AsksRun asked) (change : Change) (start : Start) (is : IsStartAsked change asked start) where
-  by_call : IsAcceptedCall asked change.before.told
+  abbrev by_call : IsAcceptedCall asked change.before.told
   by_call = record { call = is.call; asked_is = is.asked_is; accepted = accepted_for is.call change start is.by }
 
   -- the runtime is of the accepted program and network

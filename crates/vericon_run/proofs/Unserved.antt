@@ -72,7 +72,7 @@ not_proven_refuses size most P text status (is_not_decided level index why unkno
 not_proven_refuses size most P text status (has_no_network proof unmet text_is status_is) = (omega (arith, status_is), omega (arith, status_is))
 
 network_refuses : (P : Parts) (net : List ℕ) (answers : List Answer) (write : Option Write) (text : List ℕ) (status : ℕ) → UnservedNetwork P net answers write text status → IsRefusal status
-network_refuses P net answers write text status (was_value bytes N rest is open out) = let three = out.said.status_is in (omega (arith, three), omega (arith, three))
+network_refuses P net answers write text status (was_value bytes N rest is reads out) = let three = out.said.status_is in (omega (arith, three), omega (arith, three))
 network_refuses P net answers write text status (was_refused bytes is none refused status_is) = (omega (arith, status_is), omega (arith, status_is))
 network_refuses P net answers write text status (was_none answer is none said) = none_refuses _ net answer text status said
 
