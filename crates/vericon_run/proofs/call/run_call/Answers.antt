@@ -55,18 +55,60 @@ returns-in-Ok-Told-clause-decided g c =
     let told = rw c.in-Ok-Told.field-0-is at c.in-Ok-Told.ensures.prepared in
     λ program network bytes net run is is_net undisturbed no_fault few. told_decided asked only _ program network bytes net run is is_net _ _ _ _ _ undisturbed _ _ told finishes
 
+pub returns-in-Ok-Ready-clause-output : goal.returns-in-Ok-Ready-clause-output
+returns-in-Ok-Ready-clause-output g c =
+    let see : g.row.L-Link.Denot → LinkView = view_by g.L.Link.Link.taken g.L.Link.Link.written g.L.Link.Link.closed g.L.Link.Link.is_shut g.L.Link.Link.read_faults g.L.Link.Link.write_faults in
+    let view : g.row.L.Denot → ListenerView = listener_view (λ (l : g.row.L.Denot). told_given see (g.L.Listener.given l)) g.L.Listener.faults g.L.Listener.came g.L.Listener.back g.L.Listener.ended in
+    let asked = if_serves (asked_call (map string_bytes c.args.words.now)) in
+    let only = asks_run (asked_call (map string_bytes c.args.words.now)) in
+    let start = c.in-Ok-Ready.field-0-0 in
+    let ready = rw c.in-Ok-Ready.field-0-is at c.in-Ok-Ready.ensures.prepared in
+    let first_is = c.deref.ensures.value in
+    let s = c.serve_accepted in
+    let ran = s.ensures.run in
+    served_left asked only _ start ready c.deref.result.now first_is (history_in s.result.runtime) (view c.args.listener) (view s.result.listener) _ _ _ _ _ ran c.prepare.ensures.reads
+
 pub returns-in-Ok-Ready-clause-serves : goal.returns-in-Ok-Ready-clause-serves
 returns-in-Ok-Ready-clause-serves g c =
-    let a : ℕ = c.in-Ok-Ready.runtime-is in
-    tt
+    let asked = if_serves (asked_call (map string_bytes c.args.words.now)) in
+    let only = asks_run (asked_call (map string_bytes c.args.words.now)) in
+    let start = c.in-Ok-Ready.field-0-0 in
+    let ready = rw c.in-Ok-Ready.field-0-is at c.in-Ok-Ready.ensures.prepared in
+    let first_is = c.deref.ensures.value in
+    says_yes asked only _ start ready c.deref.result.now _ _ c.args.listener c.serve_accepted.result.listener first_is c.serve_accepted.ensures.first
 
 pub returns-in-Ok-Ready-clause-runtime : goal.returns-in-Ok-Ready-clause-runtime
 returns-in-Ok-Ready-clause-runtime g c =
-    let a : ℕ = c.in-Ok-Ready.field-0-0-is in
-    tt
+    let asked = if_serves (asked_call (map string_bytes c.args.words.now)) in
+    let only = asks_run (asked_call (map string_bytes c.args.words.now)) in
+    let start = c.in-Ok-Ready.field-0-0 in
+    let ready = rw c.in-Ok-Ready.field-0-is at c.in-Ok-Ready.ensures.prepared in
+    hands_back asked only _ start ready c.serve_accepted.result.runtime c.args.listener c.serve_accepted.result.listener c.serve_accepted.ensures.runtime
 
 pub returns-in-Ok-Ready-clause-answered : goal.returns-in-Ok-Ready-clause-answered
 returns-in-Ok-Ready-clause-answered g c =
-    let a : ℕ = c.in-Ok-Ready.field-0-is in
-    tt
+    let see : g.row.L-Link.Denot → LinkView = view_by g.L.Link.Link.taken g.L.Link.Link.written g.L.Link.Link.closed g.L.Link.Link.is_shut g.L.Link.Link.read_faults g.L.Link.Link.write_faults in
+    let view : g.row.L.Denot → ListenerView = listener_view (λ (l : g.row.L.Denot). told_given see (g.L.Listener.given l)) g.L.Listener.faults g.L.Listener.came g.L.Listener.back g.L.Listener.ended in
+    let asked = if_serves (asked_call (map string_bytes c.args.words.now)) in
+    let only = asks_run (asked_call (map string_bytes c.args.words.now)) in
+    let start = c.in-Ok-Ready.field-0-0 in
+    let ready = rw c.in-Ok-Ready.field-0-is at c.in-Ok-Ready.ensures.prepared in
+    let first_is = c.deref.ensures.value in
+    let s = c.serve_accepted in
+    let ran = s.ensures.run in
+    λ undisturbed. answered (RunOutput (view c.args.listener) (view s.result.listener) (history_in s.result.runtime)) asked _ _ _ _ _ _ undisturbed (
+    served_left asked only _ start ready c.deref.result.now first_is (history_in s.result.runtime) (view c.args.listener) (view s.result.listener) _ _ _ _ _ ran c.prepare.ensures.reads)
+
+pub returns-in-Ok-Ready-clause-decided : goal.returns-in-Ok-Ready-clause-decided
+returns-in-Ok-Ready-clause-decided g c =
+    let see : g.row.L-Link.Denot → LinkView = view_by g.L.Link.Link.taken g.L.Link.Link.written g.L.Link.Link.closed g.L.Link.Link.is_shut g.L.Link.Link.read_faults g.L.Link.Link.write_faults in
+    let view : g.row.L.Denot → ListenerView = listener_view (λ (l : g.row.L.Denot). told_given see (g.L.Listener.given l)) g.L.Listener.faults g.L.Listener.came g.L.Listener.back g.L.Listener.ended in
+    let asked = if_serves (asked_call (map string_bytes c.args.words.now)) in
+    let only = asks_run (asked_call (map string_bytes c.args.words.now)) in
+    let start = c.in-Ok-Ready.field-0-0 in
+    let ready = rw c.in-Ok-Ready.field-0-is at c.in-Ok-Ready.ensures.prepared in
+    let s = c.serve_accepted in
+    let ran = s.ensures.run in
+    λ program network bytes net run is is_net undisturbed no_fault few.
+    served_decided asked only _ program network bytes net run is is_net _ _ _ _ _ undisturbed start ready c.deref.result.now (history_in s.result.runtime) (view c.args.listener) (view s.result.listener) no_fault few ran
 
