@@ -45,13 +45,13 @@ said_left output text halt old new before after status done (cut is grown rose) 
 -- ---- the terms
 
 module _ (call : Call) (change : Change) (start : Start) (is : IsStartFor change call start) where
-  terms_called : AreTerms call start.terms
+  pub terms_called : AreTerms call start.terms
   terms_called = subst (AreTerms call) (sym is.by.by.by.over.terms) is.order_is.terms
 
-  runtime_called : start.runtime ≡ running is.by.program is.by.by.by.network (room_of call) []
+  pub runtime_called : start.runtime ≡ running is.by.program is.by.by.by.network (room_of call) []
   runtime_called = is.by.by.by.over.runtime ∙ ap (λ (room : ℕ). running is.by.program is.by.by.by.network room []) is.order_is.room
 
-  decided_called : IsYes is.by.program (size_of call) (level_of call) is.by.by.level is.by.by.proofs
+  pub decided_called : IsYes is.by.program (size_of call) (level_of call) is.by.by.level is.by.by.proofs
   decided_called =
       let P = is.by.program in
       let a : IsYes P (size_of call) is.order.most is.by.by.level is.by.by.proofs = subst (λ (n : ℕ). IsYes P n is.order.most is.by.by.level is.by.by.proofs) is.order_is.size is.by.by.proven in
@@ -91,7 +91,7 @@ module _ (call : Call) (change : Change) (start : Start) (is : IsStartFor change
       }
 
   -- .. over an accepted program and network
-  pub accepted_for : IsAccepted (size_of call) (level_of call) (change.before.told (file_name call 0)) (change.before.told (file_name call 1))
+  abbrev pub accepted_for : IsAccepted (size_of call) (level_of call) (change.before.told (file_name call 0)) (change.before.told (file_name call 1))
   accepted_for =
       let program = is.by in
       let network = program.by.by in
@@ -120,7 +120,7 @@ module _ (call : Call) (change : Change) (start : Start) (is : IsStartFor change
 -- ---- what the words asked for
 
 module _ (asked : Option Call) (only : AsksRun asked) (change : Change) (start : Start) (is : IsStartAsked change asked start) where
-  by_call : IsAcceptedCall asked change.before.told
+  abbrev by_call : IsAcceptedCall asked change.before.told
   by_call = record { call = is.call; asked_is = is.asked_is; accepted = accepted_for is.call change start is.by }
 
   -- the runtime is of the accepted program and network

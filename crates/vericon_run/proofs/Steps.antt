@@ -26,10 +26,10 @@ use Rattle.vericon_run.specs.declared.prepared.Start.{Start}
 use Rattle.vericon_run.specs.Outputs.{IsBroken, Unserved, UnservedNetwork, UnservedProgram, is_proven}
 use Rattle.vericon_run.specs.Starts.{IsOrder, IsPrepared, IsPreparedOver, IsProvenStart, IsStartFor, IsStartFrom, IsStartOf, run_files}
 
-abbrev program_file : List ℕ → File
+abbrev pub program_file : List ℕ → File
 program_file name = record { kind = kind.Program; name = name }
 
-abbrev network_file : List ℕ → File
+abbrev pub network_file : List ℕ → File
 network_file name = record { kind = kind.Network; name = name }
 
 -- a network that was read is the one of the file

@@ -1,5 +1,5 @@
 -- Runs that nothing disturbs.
-use Rattle.std.proofs.Common.{◌≡◌, ℕ, ◌<◌, ◌⊎◌, inl, inr, List, [], ◌∷◌, length, Option, Some, None, Ok, Err, sym, ◌∙◌, ap, subst, refl, arith}
+use Rattle.std.proofs.Common.{◌≡◌, ℕ, ◌<◌, ◌⊎◌, inl, inr, List, [], ◌∷◌, length, Option, Some, None, Result, Ok, Err, sym, ◌∙◌, ap, subst, refl, arith}
 use Rattle.std.proofs.lemmas.Option.{same_Some}
 use Rattle.text_lines.specs.Machine.{reading}
 use Rattle.csdn_core.specs.declared.program.Parts.{Parts}
@@ -37,7 +37,8 @@ use Rattle.vericon_app.specs.Decided.{IsDecided}
 use Rattle.vericon_app.specs.Left as left
 use Rattle.vericon_app.specs.Left.{Finishes, all, front}
 use Rattle.vericon_app.specs.Output.{MayPrint, Output}
-use Rattle.vericon_app.specs.Quiet.{IsUndisturbed, answers, wants_memory}
+use Rattle.vericon_app.specs.Quiet as app
+use Rattle.vericon_app.specs.Quiet.{IsUndisturbed}
 use Rattle.vericon_run.specs.declared.prepared.Start.{Start}
 use Rattle.vericon_run.specs.Words.{IsRun}
 use Rattle.vericon_run.specs.Runs.{HasRun, HasSaid, ListenerView, whole, short, cut, accepted_status, accepted_text, is_fault}
@@ -67,8 +68,8 @@ module _ (run : Call → MayPrint) (asked : Option Call) (change : Change) (old 
       (steady change.before.write_faults change.after.write_faults undisturbed.no_file_fault undisturbed.files_counted) out
 
   pub answered : HasRunLeft (IsExplained change (files_named asked) (Output run asked)) old new before after status → IsRunAnswered run asked change old new status
-  answered (has_left (left.whole text out grown same)) = is_answered (answers text (calmly text status out) grown)
-  answered (has_left (left.no_memory is grown same)) = is_answered (wants_memory is grown)
+  answered (has_left (left.whole text out grown same)) = is_answered (app.answers text (calmly text status out) grown)
+  answered (has_left (left.no_memory is grown same)) = is_answered (app.wants_memory is grown)
   answered (has_left (left.cut text other out is grown rose)) = absurd (no_sink_rose rose)
   answered (has_left (left.cut_memory is grown rose)) = absurd (no_sink_rose rose)
   answered (is_short text other out is grown same) = quiet.is_short text other (calmly text other out) is grown
@@ -80,13 +81,14 @@ closed_apart : (P : Parts) (name : List ℕ) (case : Case) (text : List ℕ) →
 closed_apart P name case text (by_state rows some text_is) N network none servable = absurd cc
 closed_apart P name case text (by_elements none closed text_is) N network none_again servable = closed (subst IsServable (sym network) servable)
 
-same_Ok : {X E : Type 0} (x y : X) → Ok {X} {E} x ≡ Ok {X} {E} y → x ≡ y
-same_Ok x y is = cc
+abbrev case_or : {E : Type 0} → Case → Result Case E → Case
+case_or case (Ok found) = found
+case_or case (Err why) = case
 
 unopened : (P : Parts) (name bytes text : List ℕ) → IsNoOpenNetwork P name bytes text → (N : Network) → IsOpenNetwork P bytes N → ⊥
 unopened P name bytes text (has_bad_line (line, why, is, text_is)) N open_so = absurd (let reads = open_so.reads in cc)
 unopened P name bytes text (is_closed case reads closed) N open_so =
-    let same : case ≡ open_so.case = same_Ok case open_so.case (sym reads ∙ open_so.reads) in
+    let same : case ≡ open_so.case = ap (case_or case) (sym reads ∙ open_so.reads) in
     closed_apart P name case text closed N (ap (λ (c : Case). c.network) same ∙ sym open_so.network) (ap (λ (c : Case). c.state) same ∙ open_so.no_state) open_so.servable
 
 not_proven_decided : (size most : ℕ) (bytes net text : List ℕ) (status : ℕ) (P : Parts) → Spells bytes P → IsNotProven size most P text status → IsRunDecided size most bytes net status

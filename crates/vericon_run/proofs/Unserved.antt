@@ -6,6 +6,7 @@ use Rattle.command_words.specs.declared.table.Command.TheVariants.{Check, Show, 
 use Rattle.command_words.specs.Call.{Call}
 use Rattle.csdn_core.specs.declared.program.Parts.{Parts}
 use Rattle.file_loads.specs.declared.read.FileKind.{FileKind}
+use Rattle.file_loads.specs.declared.read.FileKind.TheVariants.{Network, Program}
 use Rattle.file_loads.specs.Lines.{memory_text}
 use Rattle.file_loads.specs.Views.{Change}
 use Rattle.file_loads.specs.Answers.{Answer, held, missing, longer, failed}
@@ -13,7 +14,7 @@ use Rattle.file_loads.specs.Writes.{Write}
 use Rattle.file_loads.specs.Explained.{IsExplained}
 use Rattle.file_loads.specs.Outputs.{IsNone, was_value, was_refused, was_none}
 use Rattle.file_loads.proofs.Explaining.{said_so}
-use Rattle.vericon_app.specs.Calls.{files_named}
+use Rattle.vericon_app.specs.Calls.{file_name, files_named, level_of, size_of}
 use Rattle.vericon_app.specs.Check.{IsNotProven, is_broken, is_not_decided, has_no_network}
 use Rattle.vericon_app.specs.Left as left
 use Rattle.vericon_app.specs.Left.{Finishes, all, front}
@@ -72,18 +73,18 @@ not_proven_refuses size most P text status (is_not_decided level index why unkno
 not_proven_refuses size most P text status (has_no_network proof unmet text_is status_is) = (omega (arith, status_is), omega (arith, status_is))
 
 network_refuses : (P : Parts) (net : List ℕ) (answers : List Answer) (write : Option Write) (text : List ℕ) (status : ℕ) → UnservedNetwork P net answers write text status → IsRefusal status
-network_refuses P net answers write text status (was_value bytes N rest is open out) = let three = out.said.status_is in (omega (arith, three), omega (arith, three))
+network_refuses P net answers write text status (was_value bytes N rest is reads out) = let three = out.said.status_is in (omega (arith, three), omega (arith, three))
 network_refuses P net answers write text status (was_refused bytes is none refused status_is) = (omega (arith, status_is), omega (arith, status_is))
-network_refuses P net answers write text status (was_none answer is none said) = none_refuses _ net answer text status said
+network_refuses P net answers write text status (was_none answer is none said) = none_refuses Network net answer text status said
 
 program_refuses : (size most : ℕ) (net : List ℕ) (P : Parts) (answers : List Answer) (write : Option Write) (text : List ℕ) (status : ℕ) → UnservedProgram size most net P answers write text status → IsRefusal status
 program_refuses size most net P answers write text status (is_not_proven out) = not_proven_refuses size most P text status out.said
 program_refuses size most net P answers write text status (is_proven level proofs proven out) = network_refuses P net answers write text status out
 
 call_refuses : (call : Call) (answers : List Answer) (write : Option Write) (text : List ℕ) (status : ℕ) → Unserved call answers write text status → IsRefusal status
-call_refuses call answers write text status (was_value bytes P rest is spells out) = program_refuses _ _ _ P rest write text status out
+call_refuses call answers write text status (was_value bytes P rest is spells out) = program_refuses (size_of call) (level_of call) (file_name call 1) P rest write text status out
 call_refuses call answers write text status (was_refused bytes is none refused status_is) = (omega (arith, status_is), omega (arith, status_is))
-call_refuses call answers write text status (was_none answer is none said) = none_refuses _ _ answer text status said
+call_refuses call answers write text status (was_none answer is none said) = none_refuses Program (file_name call 0) answer text status said
 
 refuses : (asked : Option Call) → AsksRun asked → (answers : List Answer) (write : Option Write) (text : List ℕ) (status : ℕ) → Output Unserved asked answers write text status → IsRefusal status
 refuses None only answers write text status out = let six = out.said.1 in (omega (arith, six), omega (arith, six))

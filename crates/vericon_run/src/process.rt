@@ -1,5 +1,5 @@
 //! All commands over what a process has.
-ghost use Rattle.std.specs.Prelude.{◌≡◌, false, map, string_bytes};
+ghost use Rattle.std.specs.Prelude.{◌≡◌, ◌≤◌, false, map, string_bytes};
 ghost use Rattle.command_words.specs.Calls.{asked_call};
 ghost use Rattle.link_sessions.specs.Links.{view_by};
 ghost use Rattle.session_workers.specs.Told.{told_given};
@@ -38,6 +38,7 @@ pub fn serve_words<R: Threads + Wait + Sync, F: Files, L: Listener, S: Sink>(
     requires sink { S.has_failed out.old ≡ false }
     // what is written, and its status, whatever the command
     ensures output { HasRunLeft (IsExplained (change_of F.told F.read_calls F.write_calls F.read_faults F.write_faults files.old files.new) (files_named (asked_call (map string_bytes words.now))) (Output (RunOutput (listener_view (λ l. told_given (view_by L.Link.taken L.Link.written L.Link.closed L.Link.is_shut L.Link.read_faults L.Link.write_faults) (L.given l)) L.faults L.came L.back L.ended listener) (listener_view (λ l. told_given (view_by L.Link.taken L.Link.written L.Link.closed L.Link.is_shut L.Link.read_faults L.Link.write_faults) (L.given l)) L.faults L.came L.back L.ended result.listener) (history_in result.runtime)) (asked_call (map string_bytes words.now)))) (S.written out.old) (S.written out.new) (S.faults out.old) (S.faults out.new) result.status }
+    ensures faults { S.faults out.old ≤ S.faults out.new }
 {
     match run_request(words) {
         Some(_) => run_call(rt, alloc, words, files, listener, out),

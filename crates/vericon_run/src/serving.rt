@@ -5,30 +5,39 @@ ghost use Rattle.link_sessions.specs.Links.{view_by};
 ghost use Rattle.session_workers.specs.Endings.{longest};
 ghost use Rattle.session_workers.specs.Told.{told_given};
 ghost use Rattle.run_listing.specs.Lines.{run_text};
-ghost use Rattle.file_loads.specs.Status.{code_of};
 ghost use Rattle.vericon_run.specs.Runs.{HasBegun, HasPrinted, HasRun, HasServed, IsOf, Prints, history_in, is_fault, listener_view, status_of as status_number};
 
 use crate::ran::Ran;
 use csdn_history::entry::Entry;
 use csdn_run::Runtime;
-use file_loads::outcome::Status;
 use run_listing::list_run;
 use session_workers::{Halt, Row, Terms, Worked, serve_sessions};
 use std::alloc::Global;
 use std::sync::Wait;
 use std::thread::Threads;
-use vericon_app::call::finish;
 use vericon_edge::sink::{Sink, write_piece};
 use vericon_links::link::Link;
 use vericon_links::listener::Listener;
 
-fn status_of(halt: Halt) -> Status
-    ensures { code_of result ≡ status_number halt }
+// Writes a text. The answer is the status where all of it was written.
+fn say<S: Sink>(out: &mut S, text: &[u8], status: u8) -> u8
+    requires { S.has_failed out.old ≡ false }
+    ensures prints { Prints text.now status (S.written out.old) (S.written out.new) (S.faults out.old) (S.faults out.new) result }
+    ensures later { S.faults out.old ≤ S.faults out.new }
+{
+    match write_piece(out, text) {
+        Ok(()) => status,
+        Err(_) => 8,
+    }
+}
+
+fn status_of(halt: Halt) -> u8
+    ensures { result ≡ status_number halt }
 {
     match halt {
-        Halt::Done => Status::Done,
-        Halt::Fault => Status::ListenFault,
-        Halt::Memory => Status::Memory,
+        Halt::Done => 0,
+        Halt::Fault => 9,
+        Halt::Memory => 7,
     }
 }
 
@@ -49,7 +58,7 @@ fn print<S: Sink>(alloc: Global, out: &mut S, rows: &[Row], history: &[Entry], h
     ensures later { S.faults out.old ≤ S.faults out.new }
 {
     match list_run(alloc, rows, history, has_fault(halt)) {
-        Ok(text) => finish(out, &text, status_of(halt)),
+        Ok(text) => say(out, &text, status_of(halt)),
         Err(_) => 7,
     }
 }

@@ -30,7 +30,8 @@ pub struct Left {
     pub text: Vec<u8>,
 }
 
-fn words_of(alloc: Global, words: &[&str]) -> Result<Vec<String>, AllocError> {
+/// The words of a call.
+pub fn words_of(alloc: Global, words: &[&str]) -> Result<Vec<String>, AllocError> {
     let mut owned = Vec::new(alloc);
     for word in words {
         owned.push(String::from_str(alloc, word)?)?;
@@ -38,7 +39,8 @@ fn words_of(alloc: Global, words: &[&str]) -> Result<Vec<String>, AllocError> {
     Ok(owned)
 }
 
-fn files_of(alloc: Global, scene: &Scene) -> Result<MemFiles, Fail> {
+/// The files of a scene.
+pub fn files_of(alloc: Global, scene: &Scene) -> Result<MemFiles, Fail> {
     let mut files = MemFiles::new(alloc, FaultPlan::none(alloc), FaultPlan::none(alloc));
     if let Some(program) = scene.program {
         files.write_all(alloc, "P", program_text(program))?;

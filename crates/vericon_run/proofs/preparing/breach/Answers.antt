@@ -1,2 +1,0 @@
-use Rattle.std.proofs.Common.{refl, sym, ◌∙◌}
-use Rattle.vericon_run.proofs.preparing.breach.Goals as goal
