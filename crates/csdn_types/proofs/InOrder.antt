@@ -2,7 +2,7 @@
 use Rattle.std.proofs.Common.{◌≡◌, ◌⊎◌, ℕ, ◌+◌, ◌*◌, ◌<◌, ◌≤◌, Bool, true, false, not, ◌==◌, List, [], ◌∷◌, ◌++◌, length, Option, Some, None, slice_get, is_some, nat_le, All, refl, subst, inl, inr, arith}
 use Rattle.std.proofs.lemmas.List.Elements.{All-nil, All-cons}
 use Rattle.csdn_core.specs.Same.{same_sort}
-use Rattle.csdn_core.specs.declared.terms.Place.{Place}
+use Rattle.csdn_core.specs.declared.terms.FormulaPlace.{FormulaPlace}
 use Rattle.csdn_core.specs.declared.terms.Sort.{Sort}
 use Rattle.csdn_core.specs.declared.terms.Sort.TheVariants.{Sw, Ho, Pr}
 use Rattle.csdn_core.specs.declared.program.Relation.{Relation}
@@ -135,7 +135,7 @@ variable_ordered s name =
 
 -- ---- formulas
 
-pub faults_ordered : (place : Place) (s : Scope) (p : RawFormula) (from to : ℕ) → Within from p to → Ordered (8 * from) (faults place s p) (8 * to)
+pub faults_ordered : (place : FormulaPlace) (s : Scope) (p : RawFormula) (from to : ℕ) → Within from p to → Ordered (8 * from) (faults place s p) (8 * to)
 unfolding Within faults TermsWithin
 faults_ordered place s f.True from to within = none _ _ (omega arith)
 faults_ordered place s f.False from to within = none _ _ (omega arith)
@@ -203,5 +203,5 @@ none_or_least from to [] ordered = inl refl
 none_or_least from to (e ∷ es) ordered = inr (e, head_is_least e es to ordered.1, above_none from e ordered.0)
 
 -- where the places rise, the first fault is the refusal to answer
-pub first_is_least : (place : Place) (s : Scope) (p : RawFormula) (from to : ℕ) → Within from p to → (e : SortRefusal) → IsFirst (faults place s p) e → (e ≡ Memory) ⊎ IsLeast (faults place s p) e
+pub first_is_least : (place : FormulaPlace) (s : Scope) (p : RawFormula) (from to : ℕ) → Within from p to → (e : SortRefusal) → IsFirst (faults place s p) e → (e ≡ Memory) ⊎ IsLeast (faults place s p) e
 first_is_least place s p from to within e first = elim first.is [ inl memory ↦ inl memory | inr is ↦ inr (least (faults place s p) e _ _ (faults_ordered place s p from to within) is) ]
