@@ -121,14 +121,14 @@ Answered bytes = (answer : Result Parts ProgramRefusal) × IsProgramAnswer bytes
 by_rules : (bytes : List ℕ) (tree : RawProgram) → Reads bytes tree → (broken_rules tree ≡ []) ⊎ ((e : SortRefusal) × IsLeast (broken_rules tree) e × (e ≡ sorts.Memory → ⊥)) → Answered bytes
 by_rules bytes tree reads (inl keeps) = (Ok (parts_of tree), record { tree = tree; reads = reads; types = record { keeps = keeps; is = refl } })
 by_rules bytes tree reads (inr (e, least, counts)) =
-    let told = rule_told e counts in (Err (At told.0 told.1.0), breaks_a_rule tree e reads least told.1.1)
+    let told = rule_told e counts in (Err (At told.0 told.1), breaks_a_rule tree e reads least told.2)
 
 by_text : (bytes : List ℕ) (read : Result RawProgram TextRefusal) → MatchResult read (Reads bytes) (IsRefusedText bytes) → Answered bytes
 by_text bytes (Ok tree) reads =
     let from = from_text bytes tree reads in
     by_rules bytes tree reads (none_or_least (8 * 0) (8 * from.end) (broken_rules tree) (items_ordered nothing_declared tree.items 0 from.end from.places))
 by_text bytes (Err f) refused =
-    let told = text_told f (text_counts f refused) in (Err (At told.0 told.1.0), has_no_tree f refused told.1.1)
+    let told = text_told f (text_counts f refused) in (Err (At told.0 told.1), has_no_tree f refused told.2)
 
 pub has_one_answer : (bytes : List ℕ) → HasOneAnswer bytes
 has_one_answer bytes =
