@@ -59,7 +59,7 @@ serve() {
     python3 "$here/relay.py" 6634 6633 "$work/stream" &
     relay=$!
     ovs-vsctl set-controller br1 tcp:127.0.0.1:6634 -- set-controller br2 tcp:127.0.0.1:6633
-    for _ in $(seq 100); do
+    for _ in $(seq 300); do
         [ "$(ovs-vsctl get controller br1 is_connected) $(ovs-vsctl get controller br2 is_connected)" = 'true true' ] && return
         sleep 0.1
     done

@@ -1,10 +1,22 @@
 # `relay.py FROM TO FILE`: takes one connection on the loopback port FROM, joins it to the port TO, and keeps in FILE what came from the first.
-import socket, sys, threading
+import socket, sys, threading, time
 
 here, there, kept = int(sys.argv[1]), int(sys.argv[2]), open(sys.argv[3], "wb")
 with socket.create_server(("127.0.0.1", here)) as listener:
     one, _ = listener.accept()
-other = socket.create_connection(("127.0.0.1", there))
+
+
+def joined():
+    """A connection to the port, which may not be listened at yet."""
+    for _ in range(300):
+        try:
+            return socket.create_connection(("127.0.0.1", there))
+        except ConnectionRefusedError:
+            time.sleep(0.1)
+    sys.exit(f"nobody listens at {there}")
+
+
+other = joined()
 
 
 def carry(source, sink, file=None):
