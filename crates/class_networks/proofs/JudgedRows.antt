@@ -3,7 +3,7 @@ use Rattle.std.proofs.Common.{◌≡◌, ◌∙◌, ap, ap₂, sym, refl, subst,
 use Rattle.std.proofs.lemmas.Bool.{ltb-true}
 use Rattle.std.specs.Prelude.{flat_map}
 use Rattle.csdn_core.specs.Members.{AreDistinct, IsIn}
-use Rattle.csdn_core.proofs.Members.{flat_in, in_both, in_flat, map_in}
+use Rattle.csdn_core.proofs.Members.{distinct_append, flat_in, in_flat, map_in}
 use Rattle.csdn_core.specs.declared.program.Parts.{Parts}
 use Rattle.csdn_core.specs.declared.syntax.Formula.{Formula}
 use Rattle.csdn_core.specs.declared.terms.Pred.{Pred}
@@ -29,13 +29,6 @@ use Rattle.class_networks.specs.Made.{cells_by, left_over, row_at, rows_by, rows
 use Rattle.class_networks.proofs.TupleNumbers.{IsUsed, number_of_tuple, relation_used, tuple_of_number, used_is}
 
 -- The relations of a program are different.
-
-distinct_append : {X : Type 0} (xs ys : List X) → AreDistinct xs → AreDistinct ys → ((x : X) → IsIn x xs → IsIn x ys → ⊥) → AreDistinct (xs ++ ys)
-distinct_append [] ys d e apart = e
-distinct_append (x ∷ xs) ys d e apart = (
-  (λ i. elim (in_both xs ys x i) [ inl here ↦ d.0 here | inr there ↦ apart x (inl refl) there ]),
-  distinct_append xs ys d.1 e (λ y i k. apart y (inr i) k),
-)
 
 abbrev stored : ℕ → Pred
 stored k = Stored (record { 0 = k })

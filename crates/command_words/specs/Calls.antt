@@ -3,6 +3,8 @@ use Rattle.std.specs.Prelude.{ℕ, ◌-◌, Bool, true, false, ◌&&◌, not, if
 use Rattle.std.specs.Option.{option_and_then}
 use Rattle.std.specs.List.{slice_get}
 use Rattle.std.specs.Str.{bytes_eq}
+use Rattle.command_words.specs.declared.table.Command.{Command}
+use Rattle.command_words.specs.declared.table.Command.TheVariants.{Check, Show, Eval, Trace, Conditions, Clauses, Frames, Make, Replay, Run}
 use Rattle.command_words.specs.declared.table.Kind.{Kind}
 use Rattle.command_words.specs.Rows.{CommandRow, commands}
 use Rattle.command_words.specs.Kinds.{behind_kinds, any_number, any_size}
@@ -49,6 +51,29 @@ call_of rows (name ∷ words) = option_and_then (λ row. call_by row words) (row
 -- .. by the table of the commands that are served
 unfoldable pub asked_call : List (List ℕ) → Option Call
 asked_call = call_of commands
+
+-- the command serves sessions
+abbrev pub serves : Command → Bool
+serves Check = false
+serves Show = false
+serves Eval = false
+serves Trace = false
+serves Conditions = false
+serves Clauses = false
+serves Frames = false
+serves Make = false
+serves Replay = false
+serves Run = true
+
+-- a call, where its command serves sessions
+abbrev pub if_serves : Option Call → Option Call
+if_serves None = None
+if_serves (Some call) = if serves call.command then Some call else None
+
+-- .. and where it doesn't
+abbrev pub unless_serves : Option Call → Option Call
+unless_serves None = None
+unless_serves (Some call) = if serves call.command then None else Some call
 
 -- the number that the operand at a place is, where there is one
 abbrev pub number_at : List (List ℕ) → ℕ → Option ℕ

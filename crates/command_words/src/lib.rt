@@ -13,4 +13,4 @@ mod read;
 pub mod request;
 pub mod table;
 
-pub use read::{read_call, request_of};
+pub use read::{read_call, request_but_run, run_request};

@@ -2,12 +2,12 @@
 ghost use Rattle.std.specs.Prelude.{◌≡◌, map, string_bytes, option_map};
 ghost use Rattle.command_words.specs.Rows.{command_row};
 ghost use Rattle.command_words.specs.Kinds.{behind_kinds as kinds_behind};
-ghost use Rattle.command_words.specs.Calls.{row_of as row_in, are_all as are_all_words, end_there, is_call as is_right_call, call_of, call_by, asked_call};
+ghost use Rattle.command_words.specs.Calls.{row_of as row_in, are_all as are_all_words, end_there, is_call as is_right_call, call_of, call_by, asked_call, if_serves, serves as serves_sessions, unless_serves};
 
 use crate::kinds::behind_kinds;
 use crate::options::{are_options, begins_with_option, behind_options};
 use crate::request::Request;
-use crate::table::{COMMANDS, CommandRow, Kind};
+use crate::table::{COMMANDS, Command, CommandRow, Kind};
 
 /// Whether words are the operands of a command.
 fn are_operands(operands: &[Kind], further: &[Kind], words: &[String]) -> bool
@@ -88,10 +88,48 @@ pub fn read_call<'a>(rows: &[CommandRow], words: &'a [String]) -> Option<Request
 
 /// The call that these words are; `None`, where they are the call of no command.
 #[tactic(auto, unfolding(crate::specs::Calls::asked_call, crate::specs::Rows::commands))]
-pub fn request_of(words: &[String]) -> Option<Request<'_>>
+fn request_of(words: &[String]) -> Option<Request<'_>>
     ensures { result ≡ asked_call (map string_bytes words.now) }
 {
     read_call(&COMMANDS, words)
+}
+
+/// Whether a command serves sessions.
+fn serves(command: Command) -> bool
+    ensures { result ≡ serves_sessions command }
+{
+    match command {
+        Command::Check
+        | Command::Show
+        | Command::Eval
+        | Command::Trace
+        | Command::Conditions
+        | Command::Clauses
+        | Command::Frames
+        | Command::Make
+        | Command::Replay => false,
+        Command::Run => true,
+    }
+}
+
+/// The call of `run` that these words are; `None`, where they are the call of no command, or of another.
+pub fn run_request(words: &[String]) -> Option<Request<'_>>
+    ensures { result ≡ if_serves (asked_call (map string_bytes words.now)) }
+{
+    match request_of(words) {
+        Some(request) if serves(request.command()) => Some(request),
+        _ => None,
+    }
+}
+
+/// The call that these words are; `None`, where they are the call of no command, or of `run`.
+pub fn request_but_run(words: &[String]) -> Option<Request<'_>>
+    ensures { result ≡ unless_serves (asked_call (map string_bytes words.now)) }
+{
+    match request_of(words) {
+        Some(request) if !serves(request.command()) => Some(request),
+        _ => None,
+    }
 }
 
 #[cfg(test)]

@@ -12,6 +12,7 @@ pub enum Command {
     Frames,
     Make,
     Replay,
+    Run,
 }
 
 /// What a word may be.
@@ -62,8 +63,34 @@ const INSTANCES: OptionRow = ("--instances", SIZE);
 
 const LOG: OptionRow = ("--log", FILE);
 
+const WORKERS: OptionRow = ("--workers", Kind::Number { least: 1, most: 64 });
+
+const SESSIONS: OptionRow = (
+    "--sessions",
+    Kind::Number {
+        least: 1,
+        most: 1_048_576,
+    },
+);
+
+const PORT: OptionRow = (
+    "--port",
+    Kind::Number {
+        least: 1,
+        most: 65_535,
+    },
+);
+
+const HISTORY: OptionRow = (
+    "--history",
+    Kind::Number {
+        least: 1,
+        most: 4_194_304,
+    },
+);
+
 /// The commands that are served.
-pub const COMMANDS: [CommandRow; 9] = [
+pub const COMMANDS: [CommandRow; 10] = [
     (
         "check",
         Command::Check,
@@ -89,6 +116,13 @@ pub const COMMANDS: [CommandRow; 9] = [
         Command::Replay,
         &[],
         &[FILE, FILE, FILE, SESSION, FILE],
+        &[],
+    ),
+    (
+        "run",
+        Command::Run,
+        &[STRENGTHEN, INSTANCES, WORKERS, SESSIONS, PORT, HISTORY],
+        &[FILE, FILE],
         &[],
     ),
 ];

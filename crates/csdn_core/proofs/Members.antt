@@ -49,6 +49,13 @@ in_contains (y ∷ ys) x i = elim i [ inl e ↦ (0, omega arith, sym e) | inr r 
 
 -- lists without repeats
 
+pub distinct_append : {X : Type 0} (xs ys : List X) → AreDistinct xs → AreDistinct ys → ((x : X) → IsIn x xs → IsIn x ys → ⊥) → AreDistinct (xs ++ ys)
+distinct_append [] ys d e apart = e
+distinct_append (x ∷ xs) ys d e apart = (
+  (λ i. elim (in_both xs ys x i) [ inl here ↦ d.0 here | inr there ↦ apart x (inl refl) there ]),
+  distinct_append xs ys d.1 e (λ y i k. apart y (inr i) k),
+)
+
 pub distinct_left : {X : Type 0} (xs ys : List X) → AreDistinct (xs ++ ys) → AreDistinct xs
 distinct_left [] ys d = tt
 distinct_left (x ∷ xs) ys d = ((λ i. d.0 (in_left xs ys x i)), distinct_left xs ys d.1)

@@ -6,12 +6,7 @@ use Rattle.decision_laws.proofs.Distinct.{no_more}
 use Rattle.clause_log.specs.Literals.{IsModel, Literal, clause_true}
 use Rattle.decision_laws.specs.Sublists.{AreBroken, ArePart, left_of}
 use Rattle.csdn_core.specs.Members.{AreDistinct, IsIn}
-use Rattle.csdn_core.proofs.Members.{in_both}
-
-distinct_append : {X : Type 0} (xs ys : List X) → AreDistinct xs → AreDistinct ys → ((x : X) → IsIn x xs → IsIn x ys → ⊥) → AreDistinct (xs ++ ys)
-distinct_append [] ys d e n = e
-distinct_append (x ∷ xs) ys d e n =
-    ((λ i. elim (in_both xs ys x i) [ inl a ↦ d.0 a | inr b ↦ n x (inl refl) b ]), distinct_append xs ys d.1 e (λ z a b. n z (inr a) b))
+use Rattle.csdn_core.proofs.Members.{distinct_append, in_both}
 
 pub still_part : (whole cs new : List (List Literal)) (v : ℕ → Bool) → ArePart whole cs → IsModel v cs → AreBroken whole v new → ArePart whole (cs ++ new)
 still_part whole cs new v p m b = record {

@@ -160,4 +160,4 @@ pub none_ran : (t : Terms) (r : Running) (h : List Entry) (rows : List Row) (giv
 none_ran t r h rows given came empty no_row none_came =
     let R : List Row × List Entry → Type 0 = λ x. AreRowsIn r x.1 t 0 x.0 [] × All (HasSession t x.0) x.1 in
     let x : R (rows, h) = subst R (λ i. (sym no_row i, sym empty i)) (tt, All-nil (HasSession t [])) in
-    record { links = []; sessions = x.0; given_back = given_none given; count = none_came; entries = x.1 }
+    record { links = []; sessions = x.0; given_back = given_none given; distinct = tt; count = none_came; entries = x.1 }

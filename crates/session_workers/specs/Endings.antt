@@ -1,5 +1,6 @@
 -- What is known of all sessions along the whole history, once all workers are done.
-use Rattle.std.specs.Prelude.{◌≡◌, ℕ, ◌+◌, ◌<◌, ◌⊎◌, max, Bool, true, false, List, [], ◌∷◌, ◌++◌, length, slice_index_or, Option, Some, None, All}
+use Rattle.std.specs.Prelude.{◌≡◌, ℕ, ◌+◌, ◌<◌, ◌⊎◌, max, Bool, true, false, List, [], ◌∷◌, ◌++◌, length, map, slice_index_or, Option, Some, None, All}
+use Rattle.csdn_core.specs.Members.{AreDistinct}
 use Rattle.csdn_history.specs.declared.entry.Entry.{Entry}
 use Rattle.csdn_run.specs.Histories.{Running}
 use Rattle.csdn_run.specs.Sessions.{entries_of, session_of}
@@ -51,6 +52,10 @@ abbrev pub numbered : Terms → ℕ → List (List LinkView) → List (ℕ × Li
 numbered t seat [] = []
 numbered t seat (links ∷ more) = numbered_from t (1 + seat) links ++ numbered t (seat + 1) more
 
+-- their numbers
+abbrev pub numbers : List (ℕ × LinkView) → List ℕ
+numbers links = map (λ (link : ℕ × LinkView). link.0) links
+
 -- how many sessions a seat has at most
 abbrev pub longest : List Row → ℕ
 longest [] = 0
@@ -84,11 +89,12 @@ halt_at false Broken is_full = Fault
 halt_at false Open true = Done
 halt_at false Open false = Memory
 
--- All sessions, by the seats: they ended so, of the links given back this is told, and they are as many as came, and each entry of the history is of
--- one of them.
+-- All sessions, by the seats: they ended so, of the links given back this is told, no two of them have one number, they are as many as came, and
+-- each entry of the history is of one of them.
 pub record IsRunOf (t : Terms) (r : Running) (history : List Entry) (rows : List Row) (given given' : Option (List (ℕ × LinkView))) (came : ℕ) : Type 0 where
   pub links : List (List LinkView)
   pub sessions : AreRowsIn r history t 0 rows links
   pub given_back : GivenMore given given' (numbered t 0 links)
+  pub distinct : AreDistinct (numbers (numbered t 0 links))
   pub count : came ≡ length (numbered t 0 links)
   pub entries : All (HasSession t rows) history

@@ -1,5 +1,4 @@
 pub mod Runs
-mod Falses
 mod Ends
 mod Marking
 pub mod OneText

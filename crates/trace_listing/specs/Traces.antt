@@ -8,10 +8,8 @@ use Rattle.csdn_core.specs.declared.event.Match.{Match}
 use Rattle.csdn_core.specs.declared.event.Packet.{Packet}
 use Rattle.csdn_core.specs.declared.event.Packet.TheVariants.{Nothing, At}
 use Rattle.csdn_core.specs.declared.program.Parts.{Parts}
-use Rattle.csdn_core.specs.declared.program.Invariant.{Invariant}
-use Rattle.csdn_core.specs.Truth.{Structure, truth}
 use Rattle.csdn_core.specs.Network.{Network, State, structure}
-use Rattle.csdn_core.specs.Run.{initial, no_values}
+use Rattle.csdn_core.specs.Run.{initial}
 use Rattle.net_structs.specs.declared.row.Row.{Row}
 use Rattle.net_structs.specs.declared.case.Case.{Case}
 use Rattle.net_structs.specs.Rows.{held, row_cmp}
@@ -23,6 +21,7 @@ use Rattle.csdn_step.specs.Courses.{Course, fired, from_state}
 use Rattle.csdn_run.specs.Marked.{mark_of}
 use Rattle.csdn_run.specs.Standings.{Standing, is_declared, ended, marked}
 use Rattle.net_text.specs.NetText.{net_text}
+use Rattle.net_listing.specs.Falses.{first_false}
 use Rattle.journal_text.specs.declared.note.Note.{Note}
 use Rattle.journal_text.specs.declared.note.Note.TheVariants.{Kept, Flow}
 use Rattle.trace_listing.specs.declared.progress.Progress.{Progress}
@@ -81,12 +80,7 @@ unfoldable pub looked_at : Parts → Network → Standing → Note → Option Pa
 looked_at P N w (Kept entry) = packet_of P N w entry
 looked_at P N w (Flow s a b i o) = Some (At s a b i)
 
--- the name of the first invariant that is false
-abbrev pub first_false : Structure → List Invariant → Option (List ℕ)
-first_false M [] = None
-first_false M (v ∷ vs) = if truth M v.formula no_values then first_false M vs else Some v.name
-
--- of transition invariants, where they are looked at
+-- the name of the first transition invariant that is false, where they are looked at
 abbrev pub first_false_transition : Parts → Network → State → Option Packet → Option (List ℕ)
 first_false_transition P N x None = None
 first_false_transition P N x (Some packet) = first_false (structure P N x packet) P.trans

@@ -1,20 +1,17 @@
 //! The first invariant that is false.
-ghost use Rattle.std.specs.Prelude.{◌≡◌, ◌≤◌, [], All, option_map};
+ghost use Rattle.std.specs.Prelude.{◌≡◌, [], option_map};
 ghost use Rattle.csdn_core.specs.Network.{structure};
-ghost use Rattle.csdn_core.specs.Run.{no_values};
-ghost use Rattle.csdn_core.specs.Truth.{truth as truth_of};
 ghost use Rattle.csdn_core.specs.declared.event.Packet.TheVariants.{Nothing};
-ghost use Rattle.csdn_core.specs.Depth.{depth};
 ghost use Rattle.net_structs.specs.Rows.{held};
-ghost use Rattle.trace_listing.specs.Traces.{first_broken as first_broken_of, first_false as first_false_of, first_false_transition as first_false_transition_of};
+ghost use Rattle.net_listing.specs.Falses.{first_false as first_false_of};
+ghost use Rattle.trace_listing.specs.Traces.{first_broken as first_broken_of, first_false_transition as first_false_transition_of};
 
 use csdn_core::event::Packet;
-use csdn_core::program::{Invariant, Program};
-use net_listing::{safety_of, trans_of};
+use csdn_core::program::Program;
+use net_listing::{first_false, safety_of, trans_of};
 use net_structs::env::Env;
 use net_structs::network::Network;
 use net_structs::state::State;
-use net_structs::truth::truth;
 
 /// What doesn't change while a journal is traced.
 #[derive(Drop)]
@@ -23,55 +20,7 @@ pub struct Setting<'a> {
     pub network: &'a Network,
 }
 
-// Whether an invariant is true.
-fn is_true(
-    setting: &Setting,
-    env: &mut Env,
-    invariant: &Invariant,
-    state: &State,
-    packet: &Packet,
-) -> bool
-    requires shallow { depth invariant.now.formula ≤ 24 }
-    requires pairs { env.old.pairs ≡ [] }
-    requires room { env.old.room ≡ 24 }
-    ensures value { result ≡ truth_of (structure setting.now.program.now setting.now.network.now (held state.now) packet.now) invariant.now.formula no_values }
-    ensures env { env.new ≡ env.old }
-{
-    truth(
-        setting.program,
-        setting.network,
-        state,
-        packet,
-        env,
-        &invariant.formula,
-    )
-}
-
-// The name of the first of these invariants that is false.
-fn first_false<'a>(
-    setting: &Setting,
-    env: &mut Env,
-    invariants: &'a [Invariant],
-    state: &State,
-    packet: &Packet,
-) -> Option<&'a [u8]>
-    requires shallow { All (λ v. depth v.formula ≤ 24) invariants.now }
-    requires pairs { env.old.pairs ≡ [] }
-    requires room { env.old.room ≡ 24 }
-    ensures name { option_map (λ n. n.now) result ≡ first_false_of (structure setting.now.program.now setting.now.network.now (held state.now) packet.now) invariants.now }
-    ensures env { env.new ≡ env.old }
-{
-    let mut rest = invariants;
-    'invariants: while let [invariant, more @ ..] = rest {
-        if !is_true(setting, env, invariant, state, packet) {
-            return Some(invariant.name.as_slice());
-        }
-        rest = more;
-    }
-    None
-}
-
-// That of the transition invariants, where they are asked.
+// The name of the first transition invariant that is false, where they are asked.
 fn first_false_transition<'a>(
     setting: &Setting<'a>,
     env: &mut Env,
@@ -85,7 +34,14 @@ fn first_false_transition<'a>(
 {
     match packet {
         None => None,
-        Some(packet) => first_false(setting, env, trans_of(setting.program), state, packet),
+        Some(packet) => first_false(
+            setting.program,
+            setting.network,
+            env,
+            trans_of(setting.program),
+            state,
+            packet,
+        ),
     }
 }
 
@@ -97,7 +53,8 @@ fn first_false_safety<'a>(setting: &Setting<'a>, env: &mut Env, state: &State) -
     ensures env { env.new ≡ env.old }
 {
     first_false(
-        setting,
+        setting.program,
+        setting.network,
         env,
         safety_of(setting.program),
         state,

@@ -17,7 +17,7 @@ use Rattle.file_loads.specs.Explained.{IsExplained}
 use Rattle.file_loads.specs.Outputs.{Then, Writing, was_done, had_failed}
 use Rattle.vericon_app.specs.Calls.{IsCheck, files_named, size_named, level_named, log_named}
 use Rattle.vericon_app.specs.Check.{IsYesLine, YesOutput, wants_no_log, wants_log, IsNotProven, is_broken, is_not_decided, has_no_network, ProgramOutput, is_proven, is_not_proven}
-use Rattle.vericon_app.specs.Output.{Output}
+use Rattle.vericon_app.specs.Output.{Output, serves_none}
 use Rattle.vericon_app.specs.Left.{Finishes, all, front}
 use Rattle.vericon_app.specs.Broken.{IsShownBroken}
 use Rattle.vericon_app.proofs.Checks.{CheckEnds, of_program, of_no_program, of_none, checked, none_is_not_one}
@@ -57,7 +57,7 @@ module _ (exact : StartsExactly) (size most : ℕ) (log : Option (List ℕ)) (ol
 
 -- a call of `check` that ends with 1 has written a counterexample
 pub shown : StartsExactly → (asked : Option Call) (change : Change) (text : List ℕ) (said : ℕ) (old new : Option (List ℕ)) (before after status : ℕ) (name : List ℕ)
-    → IsExplained change (files_named asked) (Output asked) text said → Finishes text said old new before after status → IsCheck asked name → status ≡ 1 → IsShownBroken (change.before.told name) old new
+    → IsExplained change (files_named asked) (Output serves_none asked) text said → Finishes text said old new before after status → IsCheck asked name → status ≡ 1 → IsShownBroken (change.before.told name) old new
 shown exact asked change text said old new before after status name out (all is grown steady) check one_is =
     end_shown exact (size_named asked) (level_named asked) (log_named asked) old new text grown change name said (checked asked change text said name check out) (sym is ∙ one_is)
 shown exact asked change text said old new before after status name out (front is grown rose) check one_is = absurd (omega arith)

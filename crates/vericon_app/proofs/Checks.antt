@@ -20,7 +20,7 @@ use Rattle.file_loads.specs.Loads.{IsNotProgram}
 use Rattle.file_loads.proofs.Explaining.{first_answer}
 use Rattle.vericon_app.specs.Calls.{IsCheck, file_name, file_of, files_of, files_named, size_of, size_named, level_of, level_named, log_name, log_named}
 use Rattle.vericon_app.specs.Check.{IsNotProven, is_broken, is_not_decided, has_no_network, ProgramOutput, is_proven, is_not_proven, CheckOutput}
-use Rattle.vericon_app.specs.Output.{CommandOutput, Output}
+use Rattle.vericon_app.specs.Output.{CommandOutput, Output, serves_none}
 use Rattle.vericon_app.specs.Left.{Finishes, all, front}
 use Rattle.vericon_app.specs.Verified.{IsVerified}
 
@@ -55,13 +55,13 @@ size_of_check : (asked : Option Call) (name : List ℕ) (check : IsCheck asked n
 size_of_check asked name check = ap size_named check.asked_is
 
 -- what a call of `check` comes to
-pub checked : (asked : Option Call) (change : Change) (text : List ℕ) (status : ℕ) (name : List ℕ) → IsCheck asked name → IsExplained change (files_named asked) (Output asked) text status → CheckEnds change (size_named asked) (level_named asked) (log_named asked) name text status
+pub checked : (asked : Option Call) (change : Change) (text : List ℕ) (status : ℕ) (name : List ℕ) → IsCheck asked name → IsExplained change (files_named asked) (Output serves_none asked) text status → CheckEnds change (size_named asked) (level_named asked) (log_named asked) name text status
 checked asked change text status name check out =
     let size = size_of check.call in
     let most = level_of check.call in
-    let said : IsExplained change (files_of check.call.command check.call) (CommandOutput check.call.command check.call) text status = subst (λ (a : Option Call). IsExplained change (files_named a) (Output a) text status) check.asked_is out in
+    let said : IsExplained change (files_of check.call.command check.call) (CommandOutput serves_none check.call.command check.call) text status = subst (λ (a : Option Call). IsExplained change (files_named a) (Output serves_none a) text status) check.asked_is out in
     let here : IsExplained change (file_of Program check.call 0 ∷ []) (CheckOutput size most (log_name Check check.call) (file_name check.call 0)) text status =
-    subst (λ (command : Command). IsExplained change (files_of command check.call) (CommandOutput command check.call) text status) check.command_is said in
+    subst (λ (command : Command). IsExplained change (files_of command check.call) (CommandOutput serves_none command check.call) text status) check.command_is said in
     let named : IsExplained change (record { kind = Program; name = name } ∷ []) (CheckOutput size most (log_name Check check.call) name) text status =
     subst (λ (n : List ℕ). IsExplained change (record { kind = Program; name = n } ∷ []) (CheckOutput size most (log_name Check check.call) n) text status) check.name_is here in
     let logs : CheckEnds change size most (log_named asked) name text status =
@@ -106,7 +106,7 @@ verified_end change size most log name text status (of_none answer may said) zer
 
 -- a call of `check` that ends with 0 has written a yes
 pub verified : (asked : Option Call) (change : Change) (text : List ℕ) (said : ℕ) (old new : Option (List ℕ)) (before after status : ℕ) (name : List ℕ)
-    → IsExplained change (files_named asked) (Output asked) text said → Finishes text said old new before after status → IsCheck asked name → status ≡ 0 → IsVerified (level_named asked) (change.before.told name)
+    → IsExplained change (files_named asked) (Output serves_none asked) text said → Finishes text said old new before after status → IsCheck asked name → status ≡ 0 → IsVerified (level_named asked) (change.before.told name)
 verified asked change text said old new before after status name out (all is grown steady) check zero_is =
     verified_end change (size_named asked) (level_named asked) (log_named asked) name text said (checked asked change text said name check out) (sym is ∙ zero_is)
 verified asked change text said old new before after status name out (front is grown rose) check zero_is = absurd (omega arith)

@@ -16,7 +16,7 @@ use Rattle.file_loads.specs.Outputs.{IsNone, Writing, was_done, had_failed}
 use Rattle.file_loads.proofs.Explaining.{calmed}
 use Rattle.vericon_app.specs.Calls.{IsCheck, files_named, size_named, level_named, log_named}
 use Rattle.vericon_app.specs.Check.{IsYesLine, YesOutput, wants_no_log, wants_log, IsNotProven, is_broken, is_not_decided, has_no_network, ProgramOutput, is_proven, is_not_proven}
-use Rattle.vericon_app.specs.Output.{Output}
+use Rattle.vericon_app.specs.Output.{Output, serves_none}
 use Rattle.vericon_app.specs.Left.{HasLeft, whole, no_memory, cut, cut_memory}
 use Rattle.vericon_app.specs.Quiet.{IsUndisturbed, IsAnswered, answers, wants_memory}
 use Rattle.vericon_app.specs.Decided as ends
@@ -78,7 +78,7 @@ module _ (asked : Option Call) (change : Change) (old new : Option (List ℕ)) (
   no_sink_rose = steady before after quiet.no_write_fault quiet.writes_counted
 
   -- an undisturbed check decides by the bytes, or memory was short
-  pub decided : (name bytes : List ℕ) → IsCheck asked name → change.before.told name ≡ holds bytes → HasLeft (IsExplained change (files_named asked) (Output asked)) old new before after status → IsDecided (size_named asked) (level_named asked) bytes status ⊎ (status ≡ 7)
+  pub decided : (name bytes : List ℕ) → IsCheck asked name → change.before.told name ≡ holds bytes → HasLeft (IsExplained change (files_named asked) (Output serves_none asked)) old new before after status → IsDecided (size_named asked) (level_named asked) bytes status ⊎ (status ≡ 7)
   decided name bytes check told (whole text out grown same) =
       inl (end_decided change no_write_rose (size_named asked) (level_named asked) (log_named asked) name bytes told no_read_rose text status (checked asked change text status name check out))
   decided name bytes check told (no_memory is grown same) = inr is
@@ -86,8 +86,8 @@ module _ (asked : Option Call) (change : Change) (old new : Option (List ℕ)) (
   decided name bytes check told (cut_memory is grown rose) = absurd (no_sink_rose rose)
 
   -- an undisturbed call answers, or memory was short
-  pub answered : HasLeft (IsExplained change (files_named asked) (Output asked)) old new before after status → IsAnswered asked change old new status
-  answered (whole text out grown same) = answers text (calmed change (files_named asked) (Output asked) text status no_read_rose no_write_rose out) grown
+  pub answered : HasLeft (IsExplained change (files_named asked) (Output serves_none asked)) old new before after status → IsAnswered serves_none asked change old new status
+  answered (whole text out grown same) = answers text (calmed change (files_named asked) (Output serves_none asked) text status no_read_rose no_write_rose out) grown
   answered (no_memory is grown same) = wants_memory is grown
   answered (cut text other out is grown rose) = absurd (no_sink_rose rose)
   answered (cut_memory is grown rose) = absurd (no_sink_rose rose)

@@ -6,4 +6,4 @@ mod Broken
 mod Answered
 mod Yes
 mod Exact
-mod Replayed
+pub mod Replayed

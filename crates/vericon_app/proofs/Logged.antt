@@ -14,7 +14,7 @@ use Rattle.file_loads.specs.Outputs.{Writing, was_done, had_failed}
 use Rattle.answer_listing.specs.Logs.{IsLogOf}
 use Rattle.vericon_app.specs.Calls.{IsCheck, files_named, size_named, level_named, log_named}
 use Rattle.vericon_app.specs.Check.{IsYesLine, YesOutput, wants_no_log, wants_log, ProgramOutput, is_proven, is_not_proven}
-use Rattle.vericon_app.specs.Output.{Output}
+use Rattle.vericon_app.specs.Output.{Output, serves_none}
 use Rattle.vericon_app.specs.Left.{Finishes, all, front}
 use Rattle.vericon_app.specs.Logs.{IsLogged}
 use Rattle.vericon_app.proofs.Checks.{CheckEnds, of_program, of_no_program, of_none, checked, not_proven_status, none_status}
@@ -57,7 +57,7 @@ module _ (change : Change) (size most : ℕ) (log : List ℕ) where
 
 -- a call of `check` that ends with 0 has written the log that it was asked for
 pub logged : (asked : Option Call) (change : Change) (text : List ℕ) (said : ℕ) (old new : Option (List ℕ)) (before after status : ℕ) (name log : List ℕ)
-    → IsExplained change (files_named asked) (Output asked) text said → Finishes text said old new before after status → IsCheck asked name → log_named asked ≡ Some log → status ≡ 0 → IsLogged (level_named asked) (change.before.told name) (change.before.told log) (change.after.told log)
+    → IsExplained change (files_named asked) (Output serves_none asked) text said → Finishes text said old new before after status → IsCheck asked name → log_named asked ≡ Some log → status ≡ 0 → IsLogged (level_named asked) (change.before.told name) (change.before.told log) (change.after.told log)
 logged asked change text said old new before after status name log out (all is grown steady) check wants zero_is =
     end_logged change (size_named asked) (level_named asked) log (log_named asked) wants name text said (checked asked change text said name check out) (sym is ∙ zero_is)
 logged asked change text said old new before after status name log out (front is grown rose) check wants zero_is = absurd (omega arith)

@@ -1,7 +1,7 @@
 -- What the words of a call ask of the commands.
 use Rattle.std.specs.Prelude.{◌≡◌, ℕ, List, [], ◌∷◌, slice_index_or, Option, Some, None, codes, min}
 use Rattle.command_words.specs.declared.table.Command.{Command}
-use Rattle.command_words.specs.declared.table.Command.TheVariants.{Check, Show, Eval, Trace, Conditions, Clauses, Frames, Make, Replay}
+use Rattle.command_words.specs.declared.table.Command.TheVariants.{Check, Show, Eval, Trace, Conditions, Clauses, Frames, Make, Replay, Run}
 use Rattle.command_words.specs.Call.{Call}
 use Rattle.command_words.specs.Calls.{number_at, option_number, option_size}
 use Rattle.command_words.specs.Options.{value_of}
@@ -29,6 +29,7 @@ files_of Clauses call = file_of kind.Logs call 0 ∷ []
 files_of Frames call = file_of kind.Frames call 0 ∷ []
 files_of Make call = []
 files_of Replay call = file_of kind.Program call 0 ∷ file_of kind.Network call 1 ∷ file_of kind.Journal call 2 ∷ file_of kind.Frames call 4 ∷ []
+files_of Run call = file_of kind.Program call 0 ∷ file_of kind.Network call 1 ∷ []
 
 abbrev pub files_named : Option Call → List File
 files_named None = []
@@ -45,6 +46,7 @@ log_name Clauses call = None
 log_name Frames call = None
 log_name Make call = None
 log_name Replay call = None
+log_name Run call = None
 
 abbrev pub log_named : Option Call → Option (List ℕ)
 log_named None = None
@@ -61,6 +63,7 @@ written_name Clauses call = None
 written_name Frames call = None
 written_name Make call = Some (file_name call 1)
 written_name Replay call = None
+written_name Run call = None
 
 abbrev pub written_named : Option Call → Option (List ℕ)
 written_named None = None

@@ -6,7 +6,7 @@ use Rattle.file_loads.specs.Lines.{memory_text}
 use Rattle.file_loads.specs.Views.{Change, calm}
 use Rattle.file_loads.specs.Explained.{IsExplained}
 use Rattle.vericon_app.specs.Calls.{files_named}
-use Rattle.vericon_app.specs.Output.{Output}
+use Rattle.vericon_app.specs.Output.{MayPrint, Output}
 
 -- Of the files before and after a call, and the sink's count of faults before and after: no fault of reading or writing was counted, and the counts could have risen.
 pub record IsUndisturbed (change : Change) (before after : ℕ) : Type 0 where
@@ -17,7 +17,7 @@ pub record IsUndisturbed (change : Change) (before after : ℕ) : Type 0 where
   pub no_write_fault : after ≡ before
   pub writes_counted : before < 2 ^ 64 - 1
 
--- An output that the files explain without a fault was written whole; or the line `memory` was.
-pub data IsAnswered (asked : Option Call) (change : Change) (old new : Option (List ℕ)) (status : ℕ) : Type 0 where
-  answers : (text : List ℕ) → IsExplained (calm change) (files_named asked) (Output asked) text status → Grown old new text → IsAnswered asked change old new status
-  wants_memory : status ≡ 7 → Grown old new memory_text → IsAnswered asked change old new status
+-- Where the output of `run` is this, an output that the files explain without a fault was written whole; or the line `memory` was.
+pub data IsAnswered (run : Call → MayPrint) (asked : Option Call) (change : Change) (old new : Option (List ℕ)) (status : ℕ) : Type 0 where
+  answers : (text : List ℕ) → IsExplained (calm change) (files_named asked) (Output run asked) text status → Grown old new text → IsAnswered run asked change old new status
+  wants_memory : status ≡ 7 → Grown old new memory_text → IsAnswered run asked change old new status

@@ -1,13 +1,12 @@
 //! The call of a command that uses no network.
 ghost use Rattle.std.specs.Prelude.{◌≡◌, ◌≤◌, ◌+◌, ◌⊎◌, ℕ, false, List, length, map, string_bytes, IfOk};
-ghost use Rattle.command_words.specs.Calls.{asked_call};
-ghost use Rattle.csdn_conditions.specs.Classes.{greatest_size};
+ghost use Rattle.command_words.specs.Calls.{asked_call, unless_serves};
 ghost use Rattle.file_loads.specs.Status.{code_of};
 ghost use Rattle.file_loads.specs.Lines.{memory_text};
 ghost use Rattle.file_loads.specs.Views.{Touches, Writes, change_of};
 ghost use Rattle.file_loads.specs.Explained.{IsExplained};
-ghost use Rattle.vericon_app.specs.Calls.{IsCheck, files_of, files_named, chosen_size, level_named, log_named, number_or_zero, size_named, strength, written_name, written_named};
-ghost use Rattle.vericon_app.specs.Output.{CommandOutput, Output};
+ghost use Rattle.vericon_app.specs.Calls.{IsCheck, files_of, files_named, level_named, log_named, size_named, written_name, written_named};
+ghost use Rattle.vericon_app.specs.Output.{CommandOutput, Output, serves_none};
 ghost use Rattle.vericon_app.specs.Left.{HasLeft, Finishes};
 ghost use Rattle.vericon_app.specs.Verified.{IsVerified};
 ghost use Rattle.vericon_app.specs.Broken.{IsShownBroken};
@@ -22,13 +21,13 @@ use crate::conditions::conditions;
 use crate::eval::eval;
 use crate::frames::frames;
 use crate::make::make;
+use crate::numbers::{level_in, number_in, size_in};
 use crate::replay::replay;
 use crate::show::show;
 use crate::trace::trace;
 use command_words::request::Request;
-use command_words::request_of;
+use command_words::request_but_run;
 use command_words::table::Command;
-use csdn_conditions::class::{GREATEST_SIZE, USUAL_SIZE};
 use csdn_conditions::laws::start_is_initial;
 use file_loads::lines::usage;
 use file_loads::outcome::{Outcome, Status};
@@ -36,45 +35,13 @@ use std::alloc::{AllocError, Global};
 use vericon_edge::files::Files;
 use vericon_edge::sink::{Sink, write_piece};
 
-/// A number as a level, at most 9; 0 where it isn't given.
-fn level_in(number: Option<u32>) -> u8
-    ensures level { result ≡ strength number }
-    ensures within { result ≤ 9 }
-{
-    match number {
-        None => 0,
-        Some(level) => level.min(9) as u8,
-    }
-}
-
-/// A number as the size by which conditions are decided, at most 2^53; the usual size where it isn't given.
-fn size_in(number: Option<u64>) -> u64
-    ensures size { result ≡ chosen_size number }
-    ensures within { result ≤ greatest_size }
-{
-    match number {
-        None => USUAL_SIZE,
-        Some(size) => size.min(GREATEST_SIZE),
-    }
-}
-
-/// A number, and 0 where there is none.
-fn number_in(number: Option<u32>) -> u32
-    ensures { result ≡ number_or_zero number }
-{
-    match number {
-        None => 0,
-        Some(number) => number,
-    }
-}
-
 /// What the command that a call names says.
-fn run_request<F: Files>(
+fn answer_request<F: Files>(
     alloc: Global,
     request: &Request,
     files: &mut F,
 ) -> Result<Outcome, AllocError>
-    ensures output { IfOk result (λ outcome. IsExplained (change_of F.told F.read_calls F.write_calls F.read_faults F.write_faults files.old files.new) (files_of request.now.command request.now) (CommandOutput request.now.command request.now) outcome.text.items (code_of outcome.status)) }
+    ensures output { IfOk result (λ outcome. IsExplained (change_of F.told F.read_calls F.write_calls F.read_faults F.write_faults files.old files.new) (files_of request.now.command request.now) (CommandOutput serves_none request.now.command request.now) outcome.text.items (code_of outcome.status)) }
     ensures touches { Touches (length (files_of request.now.command request.now)) (written_name request.now.command request.now) (change_of F.told F.read_calls F.write_calls F.read_faults F.write_faults files.old files.new) }
 {
     let file = request.operand(0);
@@ -96,26 +63,27 @@ fn run_request<F: Files>(
         Command::Frames => frames(alloc, files, file),
         Command::Make => make(alloc, files, u64::from(number_in(request.number(0))), net),
         Command::Replay => replay(alloc, files, file, net, journal, number_in(index), stream),
+        Command::Run => usage(alloc),
     }
 }
 
 /// What the call says that the words are.
-fn run_words<F: Files>(
+fn answer_words<F: Files>(
     alloc: Global,
     words: &[String],
     files: &mut F,
 ) -> Result<Outcome, AllocError>
-    ensures output { IfOk result (λ outcome. IsExplained (change_of F.told F.read_calls F.write_calls F.read_faults F.write_faults files.old files.new) (files_named (asked_call (map string_bytes words.now))) (Output (asked_call (map string_bytes words.now))) outcome.text.items (code_of outcome.status)) }
-    ensures touches { Touches (length (files_named (asked_call (map string_bytes words.now)))) (written_named (asked_call (map string_bytes words.now))) (change_of F.told F.read_calls F.write_calls F.read_faults F.write_faults files.old files.new) }
+    ensures output { IfOk result (λ outcome. IsExplained (change_of F.told F.read_calls F.write_calls F.read_faults F.write_faults files.old files.new) (files_named (unless_serves (asked_call (map string_bytes words.now)))) (Output serves_none (unless_serves (asked_call (map string_bytes words.now)))) outcome.text.items (code_of outcome.status)) }
+    ensures touches { Touches (length (files_named (unless_serves (asked_call (map string_bytes words.now))))) (written_named (unless_serves (asked_call (map string_bytes words.now)))) (change_of F.told F.read_calls F.write_calls F.read_faults F.write_faults files.old files.new) }
 {
-    match request_of(words) {
+    match request_but_run(words) {
         None => usage(alloc),
-        Some(request) => run_request(alloc, &request, files),
+        Some(request) => answer_request(alloc, &request, files),
     }
 }
 
-/// Writes a text. The answer is the status where all of it was written.
-fn finish<S: Sink>(out: &mut S, text: &[u8], status: Status) -> u8
+/// Writes a text. The answer is the status where all of it was written, and else 8.
+pub fn finish<S: Sink>(out: &mut S, text: &[u8], status: Status) -> u8
     requires { S.has_failed out.old ≡ false }
     ensures finishes { Finishes text.now (code_of status) (S.written out.old) (S.written out.new) (S.faults out.old) (S.faults out.new) result }
     ensures later { S.faults out.old ≤ S.faults out.new }
@@ -171,26 +139,26 @@ pub fn check_call<F: Files, S: Sink>(
 ) -> u8
     requires { S.has_failed out.old ≡ false }
     // what is written, and its status: an output that goes with some answers of the files that are named, and with some write, which the files explain
-    ensures output { HasLeft (IsExplained (change_of F.told F.read_calls F.write_calls F.read_faults F.write_faults files.old files.new) (files_named (asked_call (map string_bytes words.now))) (Output (asked_call (map string_bytes words.now)))) (S.written out.old) (S.written out.new) (S.faults out.old) (S.faults out.new) result }
+    ensures output { HasLeft (IsExplained (change_of F.told F.read_calls F.write_calls F.read_faults F.write_faults files.old files.new) (files_named (unless_serves (asked_call (map string_bytes words.now)))) (Output serves_none (unless_serves (asked_call (map string_bytes words.now))))) (S.written out.old) (S.written out.new) (S.faults out.old) (S.faults out.new) result }
     // a yes: the program is inductive, and holds its invariants in every network and every run, and there is a network
-    ensures yes { (name : List ℕ) → IsCheck (asked_call (map string_bytes words.now)) name → result ≡ 0 → IsVerified (level_named (asked_call (map string_bytes words.now))) (F.told files.old name) }
+    ensures yes { (name : List ℕ) → IsCheck (unless_serves (asked_call (map string_bytes words.now))) name → result ≡ 0 → IsVerified (level_named (unless_serves (asked_call (map string_bytes words.now)))) (F.told files.old name) }
     // a counterexample: what is written shows a case of the condition that it names, and reads back; where that is of the start, some run breaks the invariant
-    ensures broken { (name : List ℕ) → IsCheck (asked_call (map string_bytes words.now)) name → result ≡ 1 → IsShownBroken (F.told files.old name) (S.written out.old) (S.written out.new) }
+    ensures broken { (name : List ℕ) → IsCheck (unless_serves (asked_call (map string_bytes words.now))) name → result ≡ 1 → IsShownBroken (F.told files.old name) (S.written out.old) (S.written out.new) }
     // .. and where a log was asked for, its file holds a block for each condition, whose clauses are tied to the condition's sentence and refuted
-    ensures logged { (name log : List ℕ) → IsCheck (asked_call (map string_bytes words.now)) name → log_named (asked_call (map string_bytes words.now)) ≡ Some log → result ≡ 0 → IsLogged (level_named (asked_call (map string_bytes words.now))) (F.told files.old name) (F.told files.old log) (F.told files.new log) }
+    ensures logged { (name log : List ℕ) → IsCheck (unless_serves (asked_call (map string_bytes words.now))) name → log_named (unless_serves (asked_call (map string_bytes words.now))) ≡ Some log → result ≡ 0 → IsLogged (level_named (unless_serves (asked_call (map string_bytes words.now)))) (F.told files.old name) (F.told files.old log) (F.told files.new log) }
     // where no fault was counted, want of memory is the only excuse
-    ensures answered { IsUndisturbed (change_of F.told F.read_calls F.write_calls F.read_faults F.write_faults files.old files.new) (S.faults out.old) (S.faults out.new) → IsAnswered (asked_call (map string_bytes words.now)) (change_of F.told F.read_calls F.write_calls F.read_faults F.write_faults files.old files.new) (S.written out.old) (S.written out.new) result }
+    ensures answered { IsUndisturbed (change_of F.told F.read_calls F.write_calls F.read_faults F.write_faults files.old files.new) (S.faults out.old) (S.faults out.new) → IsAnswered serves_none (unless_serves (asked_call (map string_bytes words.now))) (change_of F.told F.read_calls F.write_calls F.read_faults F.write_faults files.old files.new) (S.written out.old) (S.written out.new) result }
     // so what `check` is told fixes its status
-    ensures decided { (name bytes : List ℕ) → IsCheck (asked_call (map string_bytes words.now)) name → F.told files.old name ≡ holds bytes → IsUndisturbed (change_of F.told F.read_calls F.write_calls F.read_faults F.write_faults files.old files.new) (S.faults out.old) (S.faults out.new) → IsDecided (size_named (asked_call (map string_bytes words.now))) (level_named (asked_call (map string_bytes words.now))) bytes result ⊎ (result ≡ 7) }
+    ensures decided { (name bytes : List ℕ) → IsCheck (unless_serves (asked_call (map string_bytes words.now))) name → F.told files.old name ≡ holds bytes → IsUndisturbed (change_of F.told F.read_calls F.write_calls F.read_faults F.write_faults files.old files.new) (S.faults out.old) (S.faults out.new) → IsDecided (size_named (unless_serves (asked_call (map string_bytes words.now)))) (level_named (unless_serves (asked_call (map string_bytes words.now)))) bytes result ⊎ (result ≡ 7) }
     // each file that is named is read once at most; and none is written but the log or the made program, once at most
-    ensures once { F.read_calls files.new ≤ F.read_calls files.old + length (files_named (asked_call (map string_bytes words.now))) }
-    ensures writes { Writes (written_named (asked_call (map string_bytes words.now))) (change_of F.told F.read_calls F.write_calls F.read_faults F.write_faults files.old files.new) }
+    ensures once { F.read_calls files.new ≤ F.read_calls files.old + length (files_named (unless_serves (asked_call (map string_bytes words.now)))) }
+    ensures writes { Writes (written_named (unless_serves (asked_call (map string_bytes words.now)))) (change_of F.told F.read_calls F.write_calls F.read_faults F.write_faults files.old files.new) }
     ensures reads { F.read_faults files.old ≤ F.read_faults files.new }
     ensures faults { S.faults out.old ≤ S.faults out.new }
 {
     // Its contract says when a case begins at the start.
     start_is_initial();
-    match run_words(alloc, words, files) {
+    match answer_words(alloc, words, files) {
         Ok(outcome) => finish(out, outcome.text.as_slice(), outcome.status),
         Err(_) => no_memory(out),
     }

@@ -7,13 +7,13 @@
 #![tactic(auto)]
 
 pub mod call;
-mod check;
+pub mod check;
 mod clauses;
 mod conditions;
 mod eval;
 mod frames;
 mod make;
-pub mod process;
+pub mod numbers;
 mod replay;
 mod show;
 mod trace;

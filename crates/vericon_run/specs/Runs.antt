@@ -1,7 +1,7 @@
 -- What a run leaves: in its sink, and of its listener.
 use Rattle.std.specs.Prelude.{◌≡◌, ℕ, ◌≤◌, Bool, true, false, if◌then◌else◌, List, [], ◌++◌, Option, Some, None}
 use Rattle.csdn_history.specs.declared.entry.Entry.{Entry}
-use Rattle.csdn_run.specs.Histories.{Running}
+use Rattle.csdn_run.specs.Histories.{Running, with_history}
 use Rattle.vericon_edge.specs.Counts.{Rose}
 use Rattle.vericon_edge.specs.Written.{Grown, GrownByFront}
 use Rattle.link_sessions.specs.Links.{LinkView}
@@ -75,6 +75,11 @@ pub record HasServed (t : Terms) (r : Running) (history : List Entry) (rows : Li
 abbrev pub history_in : Option Running → List Entry
 history_in None = []
 history_in (Some r) = r.history
+
+-- the runtime that is handed back is this one, with its history
+abbrev pub IsOf : Running → Option Running → Type 0
+IsOf r None = ⊥
+IsOf r (Some back) = back ≡ with_history r back.history
 
 -- .. and were printed with it, behind what was printed before.
 pub record HasPrinted (t : Terms) (r : Running) (history : List Entry) (l l' : ListenerView) (old new : Option (List ℕ)) (before after status : ℕ) : Type 0 where

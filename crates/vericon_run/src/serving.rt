@@ -1,43 +1,34 @@
 //! An accepted program, served to the switches that come.
-ghost use Rattle.std.specs.Prelude.{◌≡◌, ◌^◌, ◌<◌, ◌≤◌, ◌⊎◌, [], false, length, IfSome};
+ghost use Rattle.std.specs.Prelude.{◌≡◌, ◌^◌, ◌<◌, ◌≤◌, ◌⊎◌, [], false, length};
 ghost use Rattle.csdn_run.specs.Histories.{with_history};
 ghost use Rattle.link_sessions.specs.Links.{view_by};
 ghost use Rattle.session_workers.specs.Endings.{longest};
 ghost use Rattle.session_workers.specs.Told.{told_given};
 ghost use Rattle.run_listing.specs.Lines.{run_text};
-ghost use Rattle.vericon_run.specs.Runs.{HasBegun, HasPrinted, HasRun, HasServed, Prints, history_in, is_fault, listener_view, status_of as status_number};
+ghost use Rattle.file_loads.specs.Status.{code_of};
+ghost use Rattle.vericon_run.specs.Runs.{HasBegun, HasPrinted, HasRun, HasServed, IsOf, Prints, history_in, is_fault, listener_view, status_of as status_number};
 
 use crate::ran::Ran;
 use csdn_history::entry::Entry;
 use csdn_run::Runtime;
-use run_listing::list;
+use file_loads::outcome::Status;
+use run_listing::list_run;
 use session_workers::{Halt, Row, Terms, Worked, serve_sessions};
 use std::alloc::Global;
 use std::sync::Wait;
 use std::thread::Threads;
+use vericon_app::call::finish;
 use vericon_edge::sink::{Sink, write_piece};
 use vericon_links::link::Link;
 use vericon_links::listener::Listener;
 
-// Writes a text. The answer is the status where all of it was written.
-fn say<S: Sink>(out: &mut S, text: &[u8], status: u8) -> u8
-    requires { S.has_failed out.old ≡ false }
-    ensures prints { Prints text.now status (S.written out.old) (S.written out.new) (S.faults out.old) (S.faults out.new) result }
-    ensures later { S.faults out.old ≤ S.faults out.new }
-{
-    match write_piece(out, text) {
-        Ok(()) => status,
-        Err(_) => 8,
-    }
-}
-
-fn status_of(halt: Halt) -> u8
-    ensures { result ≡ status_number halt }
+fn status_of(halt: Halt) -> Status
+    ensures { code_of result ≡ status_number halt }
 {
     match halt {
-        Halt::Done => 0,
-        Halt::Fault => 9,
-        Halt::Memory => 7,
+        Halt::Done => Status::Done,
+        Halt::Fault => Status::ListenFault,
+        Halt::Memory => Status::Memory,
     }
 }
 
@@ -57,8 +48,8 @@ fn print<S: Sink>(alloc: Global, out: &mut S, rows: &[Row], history: &[Entry], h
     ensures prints { Prints (run_text rows.now history.now (is_fault halt)) (status_number halt) (S.written out.old) (S.written out.new) (S.faults out.old) (S.faults out.new) result }
     ensures later { S.faults out.old ≤ S.faults out.new }
 {
-    match list(alloc, rows, history, has_fault(halt)) {
-        Ok(text) => say(out, &text, status_of(halt)),
+    match list_run(alloc, rows, history, has_fault(halt)) {
+        Ok(text) => finish(out, &text, status_of(halt)),
         Err(_) => 7,
     }
 }
@@ -102,7 +93,7 @@ fn serve_and_print<R: Threads + Wait + Sync, L: Listener, S: Sink>(
     requires listener { (L.came listener ≡ 0) × (L.back listener ≡ 0) }
     requires new { runtime.history ≡ [] }
     requires sink { S.has_failed out.old ≡ false }
-    ensures runtime { IfSome result.runtime (λ r. r ≡ with_history runtime r.history) }
+    ensures runtime { IsOf runtime result.runtime }
     ensures printed { HasPrinted terms.now runtime (history_in result.runtime) (listener_view (λ l. told_given (view_by L.Link.taken L.Link.written L.Link.closed L.Link.is_shut L.Link.read_faults L.Link.write_faults) (L.given l)) L.faults L.came L.back L.ended listener) (listener_view (λ l. told_given (view_by L.Link.taken L.Link.written L.Link.closed L.Link.is_shut L.Link.read_faults L.Link.write_faults) (L.given l)) L.faults L.came L.back L.ended result.listener) (S.written out.old) (S.written out.new) (S.faults out.old) (S.faults out.new) result.status }
     ensures later { S.faults out.old ≤ S.faults out.new }
 {
@@ -135,7 +126,7 @@ pub fn serve_accepted<R: Threads + Wait + Sync, L: Listener, S: Sink>(
     requires listener { (L.came listener ≡ 0) × (L.back listener ≡ 0) }
     requires new { runtime.history ≡ [] }
     requires sink { S.has_failed out.old ≡ false }
-    ensures runtime { IfSome result.runtime (λ r. r ≡ with_history runtime r.history) }
+    ensures runtime { IsOf runtime result.runtime }
     ensures run { HasRun terms.now first.now runtime (history_in result.runtime) (listener_view (λ l. told_given (view_by L.Link.taken L.Link.written L.Link.closed L.Link.is_shut L.Link.read_faults L.Link.write_faults) (L.given l)) L.faults L.came L.back L.ended listener) (listener_view (λ l. told_given (view_by L.Link.taken L.Link.written L.Link.closed L.Link.is_shut L.Link.read_faults L.Link.write_faults) (L.given l)) L.faults L.came L.back L.ended result.listener) (S.written out.old) (S.written out.new) (S.faults out.old) (S.faults out.new) result.status }
     ensures first { HasBegun first.now (S.written out.old) (S.written out.new) ⊎ (result.listener ≡ listener) }
     ensures later { S.faults out.old ≤ S.faults out.new }

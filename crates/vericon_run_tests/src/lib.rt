@@ -2,8 +2,6 @@
 #![tactic(auto)]
 
 #[cfg(test)]
-mod accepts;
-#[cfg(test)]
 mod gate;
 #[cfg(test)]
 mod scenes;

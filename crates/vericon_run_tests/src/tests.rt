@@ -1,126 +1,99 @@
 //! What a run prints, and what it hands back.
-
+use crate::calls::{Left, Scene, call};
 use crate::gate::{GateLink, GateListener};
-use crate::scenes::{firewall, first_fails, scripts, terms};
-use std::alloc::AllocError;
-use std::sync::{Arc, Mutex};
+use crate::rows::{FILES, SERVED, Served, Unserved, WORDS};
+use crate::scenes::{Net, Program, net_text, program_text};
+use std::alloc::{AllocError, Global};
+use std::process::Abort;
+use std::sync::{Arc, Mutex, Wait};
 use std::test::Fail;
+use std::thread::Threads;
 use vericon_edge::fault_plan::FaultPlan;
+use vericon_edge::files::Files;
+use vericon_edge::mem_files::MemFiles;
 use vericon_edge::mem_sink::MemSink;
-use vericon_links::mem_listener::MemListener;
-use vericon_run::serve_accepted;
+use vericon_run::run_call;
 
-const FIRST: &[u8] = b"yes level 1\n";
+// The firewall is served to two links whose switches send three packets.
+const SCENE: Scene = Scene {
+    program: Some(Program::Firewall),
+    net: Some(Net::Two),
+    links: 2,
+    packets: 3,
+    listen_fails: false,
+    write_fails: false,
+};
 
-const ONE_AFTER_THE_OTHER: &[u8] =
-    b"yes level 1\nsession 1 closed ignored 0\nsession 2 closed ignored 0\nvericon-journal 1\njoin 0 1 1\npacket 0 1 1 1 2 1\njoin 0 2 1\npacket 0 2 1 1 2 1\nend\n";
-
-const NOBODY: &[u8] = b"yes level 1\nvericon-journal 1\nend\nlisten fault\n";
-
-const BOTH: &[u8] =
-    b"yes level 1\nsession 1 closed ignored 0\nsession 2 closed ignored 0\nvericon-journal 1\nend\n";
-
-#[test]
-fn one_worker_serves_both(rt: HostRuntime) -> Result<(), Fail> {
-    let alloc = rt.alloc();
-    let none = FaultPlan::none(alloc);
-    let listener = MemListener::new(alloc, scripts(alloc, 2)?, none, FaultPlan::none(alloc))?;
-    let Some(runtime) = firewall(alloc) else {
-        return Err(AllocError.into());
-    };
-    let mut out = MemSink::new(alloc, 1 << 20, FaultPlan::none(alloc));
-    let ran = serve_accepted(
-        &rt,
-        alloc,
-        FIRST,
-        runtime,
-        &terms(1, 2),
-        listener,
-        6633,
-        &mut out,
-    );
-    assert!(&rt; ran.status == 0);
-    assert!(&rt; out.bytes() == ONE_AFTER_THE_OTHER);
-    assert!(&rt; ran.listener.given().len() == 2);
-    for (place, (number, link)) in ran.listener.given().iter().enumerate() {
-        assert!(&rt; *number == place as u32 + 1);
-        assert!(&rt; link.is_shut());
+// Each call prints what stands in its row, and doesn't listen.
+fn refuses<R: Threads + Wait + Sync + Abort>(
+    rt: &R,
+    alloc: Global,
+    rows: &[Unserved],
+) -> Result<(), Fail> {
+    for (words, program, net, text, status) in rows {
+        let scene = Scene {
+            program: *program,
+            net: *net,
+            ..SCENE
+        };
+        let left = call(rt, alloc, words, &scene)?;
+        assert_eq!(rt; left.text.as_slice(), *text);
+        assert_eq!(rt; left.ran.status, *status);
+        assert_eq!(rt; left.ran.listener.uses(), 0);
+        assert_eq!(rt; left.ran.runtime.is_none(), true);
     }
     Ok(())
 }
 
 #[test]
-fn nobody_listens(rt: HostRuntime) -> Result<(), Fail> {
-    let alloc = rt.alloc();
-    let plan = first_fails(alloc)?;
-    let listener = MemListener::new(alloc, scripts(alloc, 1)?, plan, FaultPlan::none(alloc))?;
-    let Some(runtime) = firewall(alloc) else {
-        return Err(AllocError.into());
-    };
-    let mut out = MemSink::new(alloc, 1 << 20, FaultPlan::none(alloc));
-    let ran = serve_accepted(
-        &rt,
-        alloc,
-        FIRST,
-        runtime,
-        &terms(4, 9),
-        listener,
-        6633,
-        &mut out,
-    );
-    assert!(&rt; ran.status == 9);
-    assert!(&rt; out.bytes() == NOBODY);
+fn words_are_refused(rt: HostRuntime) -> Result<(), Fail> {
+    refuses(&rt, rt.alloc(), WORDS)
+}
+
+#[test]
+fn files_are_refused(rt: HostRuntime) -> Result<(), Fail> {
+    refuses(&rt, rt.alloc(), FILES)
+}
+
+// Each call prints what stands in its row, and gives all links back.
+fn serves<R: Threads + Wait + Sync + Abort>(
+    rt: &R,
+    alloc: Global,
+    rows: &[Served],
+) -> Result<(), Fail> {
+    for (words, program, links, packets, text) in rows {
+        let scene = Scene {
+            program: Some(*program),
+            links: *links,
+            packets: *packets,
+            ..SCENE
+        };
+        let left = call(rt, alloc, words, &scene)?;
+        assert_eq!(rt; left.text.as_slice(), *text);
+        assert_eq!(rt; left.ran.status, 0);
+        assert_eq!(rt; left.ran.runtime.is_some(), true);
+    }
     Ok(())
 }
 
 #[test]
-fn nobody_reads(rt: HostRuntime) -> Result<(), Fail> {
-    let alloc = rt.alloc();
-    let none = FaultPlan::none(alloc);
-    let listener = MemListener::new(alloc, scripts(alloc, 1)?, none, FaultPlan::none(alloc))?;
-    let Some(runtime) = firewall(alloc) else {
-        return Err(AllocError.into());
-    };
-    let mut out = MemSink::new(alloc, 1 << 20, first_fails(alloc)?);
-    let ran = serve_accepted(
-        &rt,
-        alloc,
-        FIRST,
-        runtime,
-        &terms(4, 9),
-        listener,
-        6633,
-        &mut out,
-    );
-    assert!(&rt; ran.status == 8);
-    assert!(&rt; ran.listener.uses() == 0);
-    Ok(())
+fn sessions_are_served(rt: HostRuntime) -> Result<(), Fail> {
+    serves(&rt, rt.alloc(), SERVED)
 }
 
 #[test]
-fn two_sessions_at_once(rt: HostRuntime) -> Result<(), Fail> {
+fn links_are_answered(rt: HostRuntime) -> Result<(), Fail> {
     let alloc = rt.alloc();
-    let gate = Arc::new(alloc, Mutex::new(false))?;
-    let mut links = Vec::new(alloc);
-    links.push(GateLink::new(rt.clone()?, Arc::try_clone(&gate)?, false))?;
-    links.push(GateLink::new(rt.clone()?, gate, true))?;
-    let listener = GateListener::new(links);
-    let Some(runtime) = firewall(alloc) else {
-        return Err(AllocError.into());
-    };
-    let mut out = MemSink::new(alloc, 1 << 20, FaultPlan::none(alloc));
-    let ran = serve_accepted(
-        &rt,
-        alloc,
-        FIRST,
-        runtime,
-        &terms(2, 2),
-        listener,
-        6633,
-        &mut out,
-    );
-    assert!(&rt; ran.status == 0);
-    assert!(&rt; out.bytes() == BOTH);
-    assert!(&rt; ran.listener.back == 2);
+    let words = ["run", "--strengthen", "1", "--workers", "1", "P", "N"];
+    let left = call(&rt, alloc, &words, &SCENE)?;
+    assert_eq!(rt; left.ran.listener.given().len(), 2);
+    for (place, (number, link)) in left.ran.listener.given().iter().enumerate() {
+        assert_eq!(rt; *number, place as u32 + 1);
+        assert_eq!(rt; link.is_shut(), true);
+        let written = link.written();
+        assert_eq!(rt; written.starts_with(JOINED), true);
+        assert_eq!(rt; written.ends_with(THREE_PACKETS), true);
+        assert_eq!(rt; written.len(), JOINED.len() + THREE_PACKETS.len());
+    }
     Ok(())
 }

@@ -53,7 +53,15 @@ fn words_of(alloc: Global, words: &[&str]) -> Result<Vec<String>, AllocError> {
 // The command, the options with their values, and the operands.
 fn printed(alloc: Global, request: &Request) -> Result<String, AllocError> {
     let mut text = format!(in alloc; "{:?}", request.command())?;
-    for option in ["--strengthen", "--instances", "--log"] {
+    for option in [
+        "--strengthen",
+        "--instances",
+        "--log",
+        "--workers",
+        "--sessions",
+        "--port",
+        "--history",
+    ] {
         if let Some(value) = request.option(option) {
             text.push_str(" ")?;
             text.push_str(option)?;
@@ -158,7 +166,39 @@ const TODAY: &[Case] = &[
     (&["clauses", "c"], "Clauses c"),
     (&["frames", "f"], "Frames f"),
     (&["frames", ""], "Frames"),
-    (&["run", "p", "n"], "usage"),
+    (&["run", "p", "n"], "Run p n"),
+    (&["run", "p"], "usage"),
+    (&["run", "p", "n", "j"], "usage"),
+    (&["run", "--log", "f", "p", "n"], "usage"),
+    (
+        &[
+            "run",
+            "--history",
+            "4194304",
+            "--port",
+            "65535",
+            "--sessions",
+            "1048576",
+            "--workers",
+            "64",
+            "--instances",
+            "1",
+            "--strengthen",
+            "9",
+            "p",
+            "n",
+        ],
+        "Run --strengthen=9 --instances=1 --workers=64 --sessions=1048576 --port=65535 --history=4194304 p n",
+    ),
+    (&["run", "--workers", "0", "p", "n"], "usage"),
+    (&["run", "--workers", "65", "p", "n"], "usage"),
+    (&["run", "--sessions", "0", "p", "n"], "usage"),
+    (&["run", "--sessions", "1048577", "p", "n"], "usage"),
+    (&["run", "--port", "0", "p", "n"], "usage"),
+    (&["run", "--port", "65536", "p", "n"], "usage"),
+    (&["run", "--history", "0", "p", "n"], "usage"),
+    (&["run", "--history", "4194305", "p", "n"], "usage"),
+    (&["check", "--workers", "1", "p"], "usage"),
     (&["make", "2", "f"], "Make 2 f"),
     (&["make", "0", "f"], "usage"),
     (&["make", "61", "f"], "usage"),

@@ -7,6 +7,7 @@ use Rattle.session_workers.specs.Teams.{views_of}
 use Rattle.session_workers.specs.Endings.{GivenMore, HasSession, numbered}
 use Rattle.session_workers.proofs.SeatWork.{done_few, done_here, done_length}
 use Rattle.session_workers.proofs.Given.{numbered_length, views_length}
+use Rattle.session_workers.proofs.Numbers.{all_distinct}
 use Rattle.session_workers.proofs.Rows.{rows_in, sessions_had}
 use Rattle.session_workers.proofs.sessions.finish.Goals as goal
 
@@ -46,6 +47,9 @@ returns-clause-run g c =
       links = views_of see b.links.items;
       sessions = rows_in hall t h b.rows.items wide had 0 b.seats.items b.rows.items (views_of see b.links.items) done told;
       given_back = subst (λ (x : Option (List (ℕ × LinkView))). GivenMore x (told_given see (g.N.Listener.given c.give_all.new.listener)) (numbered t 0 (views_of see b.links.items))) c.args.desk.given_is c.give_all.ensures.given;
+      distinct =
+          let links : length (views_of see b.links.items) ≡ t.workers = n.1 ∙ c.gather-seats.ensures.len in
+          all_distinct t 0 (views_of see b.links.items) (omega arith);
       count =
           let whole = c.audit.ensures.whole (c.gather-seats.ensures.parts ∙ sym c.requires.len.2) in
           c.give_all.ensures.came ∙ (c.args.desk.came_is ∙ (sym c.args.desk.counted ∙ (sym whole ∙ (c.gather-seats.ensures.amount ∙ sym (numbered_length see t 0 b.links.items)))));

@@ -1,7 +1,0 @@
-use Rattle.std.proofs.Common.{sym, ◌∙◌}
-use Rattle.file_loads.proofs.Explaining.{if_ok}
-use Rattle.vericon_app.proofs.Outputs.{unasked}
-use Rattle.vericon_app.proofs.call.run_words.Goals as goal
-
-pub returns-in-None-clause-output : goal.returns-in-None-clause-output
-returns-in-None-clause-output g c = if_ok c.usage.result _ _ (λ outcome says. unasked _ _ _ _ (sym c.request_of.ensures ∙ c.in-None.is) says) c.usage.ensures

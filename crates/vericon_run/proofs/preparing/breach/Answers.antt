@@ -1,0 +1,2 @@
+use Rattle.std.proofs.Common.{refl, sym, ◌∙◌}
+use Rattle.vericon_run.proofs.preparing.breach.Goals as goal
