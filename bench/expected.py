@@ -771,3 +771,26 @@ def words_differ(given, status, text):
     if (status == 5) != (last.startswith(b"missing ") or last.startswith(b"read fault ")):
         return f"status {status}, {last!r}"
     return None
+
+
+# ------------------------------------------------------------------ deciding
+
+DECIDED = {
+    0: re.compile(rb"yes level 0\n\Z"),
+    1: re.compile(rb"counterexample level 0 condition \d+ (init 0 \w+|(step|trans) \w+ (pktIn|pktFlow|expire))\nvericon-net 1\n(sw|ho|pr).*\nend\n\Z", re.S),
+    2: re.compile(rb"unknown level 0 condition \d+ [\w ]+: (nodes|outside|instances \d+)\n\Z"),
+    3: PROGRAM_REFUSED,
+    4: re.compile(rb"no network\n\Z"),
+}
+
+
+def decided_differs(given, status, text):
+    if given[0] == "eval":
+        return None if status == 0 and text.endswith(b"hypothesis true\ngoal false\n") else f"condition {given[3]!r} isn't broken: {text[-200:]!r}"
+    if given[0] == "log":
+        return only(0, b"yes level 0\n")(status, text)
+    if given[0] == "clauses":
+        lines = text.split(b"\n")[:-1]
+        return None if status == 0 and all(it.endswith(b": accepted") for it in lines) else f"the log isn't accepted: {text[-200:]!r}"
+    form = DECIDED.get(status)
+    return None if form and form.match(text) else f"status {status}, {text[:200]!r}"

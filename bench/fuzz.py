@@ -173,7 +173,7 @@ class Tally:
         name = f"found-{self.reader.name}-{self.found}"
         if self.found <= 20:
             with open(name, "wb") as it:
-                it.write(given if isinstance(given, bytes) else b"\0".join(given))
+                it.write(given if isinstance(given, bytes) else b"\0".join(part if isinstance(part, bytes) else part.encode() for part in given))
             print(f"{self.reader.name}: {name}: {why}", flush=True)
 
     def take(self, given, answer, seeds):
@@ -208,10 +208,8 @@ def fuzz(reader, library, count, seed):
                 tally.keep(it, program.end())
                 break
             tally.take(it, answer, seeds)
-            more = reader.next(answer)
-            if more is not None and chance.random() < 0.1:
-                again.append(more)
-        given = again[: BATCH // 2]
+            again += reader.next(it, answer, chance)
+        given = again[:BATCH]
     taken = time.perf_counter() - since
     program.close()
     statuses = ", ".join(f"status {status}: {number}" for status, number in sorted(tally.statuses.items()))
@@ -224,8 +222,12 @@ class Reader:
 
     def __init__(self, name, words, file, fixed, seeds, tokens, differs, next_of=None):
         self.name, self.words, self.file, self.fixed = name, [word.encode() for word in words.split()], file.encode(), fixed
-        self.seeds, self.tokens, self.differs = seeds, tokens, differs
-        self.next = next_of or (lambda answer: None)
+        self.seeds, self.tokens, self.differs, self.next_of = seeds, tokens, differs, next_of
+
+    def next(self, given, answer, chance):
+        """Inputs that follow from an answer."""
+        more = self.next_of(answer) if self.next_of and chance.random() < 0.1 else None
+        return [] if more is None else [more]
 
     def change(self, chance, seeds):
         return change(chance, seeds, self.tokens)
@@ -261,10 +263,41 @@ class Words:
                 return tuple(words[:20])
 
     def call(self, given):
-        return given, []
+        return given, [(name.encode(), held) for name, held in self.fixed.items()]
 
-    def next(self, answer):
-        return None
+    def next(self, given, answer, chance):
+        return []
+
+
+class Decided:
+    """Programs that are checked. A counterexample is to break its condition, and a log is to be accepted."""
+
+    name = "decided"
+    fixed = {}
+    seeds = [("check", it) for it in expected.PROGRAMS]
+    differs = staticmethod(expected.decided_differs)
+
+    def change(self, chance, seeds):
+        programs = [it for it in seeds if it[0] == "check"]
+        return "check", change(chance, [chance.choice(programs)[1]], expected.PROGRAM_TOKENS)
+
+    def call(self, given):
+        words, program = given[0], given[1]
+        if words == "eval":
+            return [b"eval", b"p", b"n", b"0", given[3]], [(b"p", program), (b"n", given[2])]
+        if words == "clauses":
+            return [b"clauses", b"l"], []
+        log = [b"--log", b"l"] if words == "log" else []
+        return [b"check", b"--instances", b"4096", *log, b"p"], [(b"p", program)]
+
+    def next(self, given, answer, chance):
+        status, text = answer
+        if given[0] != "check" or chance.random() < 0.5:
+            return []
+        if status == 1:
+            first, _, case = text.partition(b"\n")
+            return [("eval", given[1], case, first.split(b" ")[4])]
+        return [("log", given[1]), ("clauses", given[1])] if status == 0 else []
 
 
 def readers():
@@ -278,6 +311,7 @@ def readers():
     yield Reader("frames", "frames f", "f", {}, e.FRAMES, e.FRAME_TOKENS, e.frames_differ)
     yield Reader("stream", "replay p n j 1 s", "s", {"p": e.FIREWALL, "n": e.TWO, "j": e.ENTERED}, e.STREAMS, e.FRAME_TOKENS, e.stream_differs)
     yield Words()
+    yield Decided()
 
 
 def main():
