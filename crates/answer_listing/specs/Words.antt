@@ -5,26 +5,26 @@ use Rattle.csdn_core.specs.declared.program.Parts.{Parts}
 use Rattle.csdn_conditions.specs.declared.kinds.CondKind.{CondKind}
 use Rattle.csdn_conditions.specs.Answers.{OfCondition}
 use Rattle.condition_listing.specs.Words.{kind_words}
-use Rattle.vericon_decide.specs.declared.answer.Why.{Why}
-use Rattle.vericon_decide.specs.declared.answer.Why.TheVariants.{Nodes, Outside, Instances}
+use Rattle.vericon_decide.specs.declared.answer.UnknownWhy.{UnknownWhy}
+use Rattle.vericon_decide.specs.declared.answer.UnknownWhy.TheVariants.{Nodes, Outside, Instances}
 
 -- `I KIND`
 abbrev pub condition_text : Parts → ℕ → CondKind → List ℕ
 condition_text P i kind = decimal i ++ spaced (kind_words P kind)
 
 -- `nodes`, `outside` or `instances N`
-abbrev pub why_words : Why → List (List ℕ)
+abbrev pub why_words : UnknownWhy → List (List ℕ)
 why_words Nodes = codes "nodes" ∷ []
 why_words Outside = codes "outside" ∷ []
 why_words (Instances n) = codes "instances" ∷ decimal n ∷ []
 
 -- `unknown level N condition I KIND: WHY`
-abbrev pub unproven_text : Parts → ℕ → ℕ → CondKind → Why → List ℕ
+abbrev pub unproven_text : Parts → ℕ → ℕ → CondKind → UnknownWhy → List ℕ
 unproven_text P n i kind why =
     codes "unknown level " ++ decimal n ++ codes " condition " ++ condition_text P i kind ++ codes ":" ++ spaced (why_words why) ++ codes "\n"
 
 -- .. by the number of the condition
-abbrev pub IsUnprovenLine : Parts → ℕ → ℕ → Why → List ℕ → Type 0
+abbrev pub IsUnprovenLine : Parts → ℕ → ℕ → UnknownWhy → List ℕ → Type 0
 IsUnprovenLine P n i why text = OfCondition P n i (λ c. text ≡ unproven_text P n i c.kind why)
 
 -- `yes level N`

@@ -2,7 +2,7 @@
 ghost use Rattle.std.specs.Prelude.{◌≡◌, ◌<◌, ◌≤◌, ◌++◌, ◌∷◌, [], IfOk, OnOk, length};
 ghost use Rattle.text_lines.specs.Printed.{spaced};
 ghost use Rattle.csdn_conditions.specs.Kinds.{kinds};
-ghost use Rattle.vericon_decide.specs.declared.answer.Why.TheVariants.{Instances};
+ghost use Rattle.vericon_decide.specs.declared.answer.UnknownWhy.TheVariants.{Instances};
 ghost use Rattle.answer_listing.specs.Words.{IsUnprovenLine, condition_text, no_network_text, unproven_text, why_words, yes_text};
 
 use condition_listing::put_kind;
@@ -10,7 +10,7 @@ use csdn_conditions::kinds::{CondKind, condition_kind};
 use csdn_core::program::Program;
 use std::alloc::{AllocError, Global};
 use text_lines::{put_line_end, put_next_number, put_next_word, put_number, put_word};
-use vericon_decide::answer::Why;
+use vericon_decide::answer::UnknownWhy;
 
 /// Appends `I KIND`: the number of a condition in decimal, and the words of its kind.
 pub fn put_condition(
@@ -39,13 +39,13 @@ fn put_one(out: &mut Vec<u8>, word: &[u8]) -> Result<(), AllocError>
 }
 
 // The words of a reason, each with a space before it.
-fn put_why(out: &mut Vec<u8>, why: Why) -> Result<(), AllocError>
+fn put_why(out: &mut Vec<u8>, why: UnknownWhy) -> Result<(), AllocError>
     ensures { OnOk result (out.new.items ≡ out.old.items ++ spaced (why_words why)) }
 {
     match why {
-        Why::Nodes => put_one(out, b"nodes"),
-        Why::Outside => put_one(out, b"outside"),
-        Why::Instances(count) => put_instances(out, count),
+        UnknownWhy::Nodes => put_one(out, b"nodes"),
+        UnknownWhy::Outside => put_one(out, b"outside"),
+        UnknownWhy::Instances(count) => put_instances(out, count),
     }
 }
 
@@ -56,7 +56,7 @@ fn put_unproven(
     level: u8,
     index: u32,
     kind: CondKind,
-    why: Why,
+    why: UnknownWhy,
 ) -> Result<Vec<u8>, AllocError>
     ensures { IfOk result (λ text. text.items ≡ unproven_text program.now level index kind why) }
 {
@@ -77,7 +77,7 @@ pub fn unproven_line(
     program: &Program,
     level: u8,
     index: u32,
-    why: Why,
+    why: UnknownWhy,
 ) -> Result<Vec<u8>, AllocError>
     requires level { level ≤ 9 }
     requires index { index < length (kinds program.now level) }

@@ -10,4 +10,4 @@ mod named;
 mod print;
 
 pub use laws::answers_are_accepted;
-pub use listing::{Listing, list};
+pub use listing::{Listing, list_clauses};

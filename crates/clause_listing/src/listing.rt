@@ -50,7 +50,7 @@ fn list_blocks(alloc: Global, blocks: &[Block]) -> Result<Listing, AllocError>
 
 /// Checks the log of each block of the text, and solves the clauses of each block without one: a line for each block
 /// (docs/COMMANDS.md, "clauses"). Refused as by `read_log`.
-pub fn list(alloc: Global, bytes: &[u8]) -> Result<Listing, LogRefusal>
+pub fn list_clauses(alloc: Global, bytes: &[u8]) -> Result<Listing, LogRefusal>
     ensures { Lists bytes.now result }
 {
     let blocks = read_log(alloc, bytes)?;

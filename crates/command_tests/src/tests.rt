@@ -1,6 +1,7 @@
 //! Rows of calls, with what they print and their statuses.
 mod checks;
 mod conditions;
+mod faults;
 mod logs;
 mod replays;
 mod traces;

@@ -8,5 +8,5 @@ mod listing;
 mod words;
 
 pub use judgement::{Judgement, judge};
-pub use listing::list;
+pub use listing::list_conditions;
 pub use words::put_kind;

@@ -17,7 +17,12 @@ use text_lines::{put_line_end, put_number};
 
 /// A line for each condition of a level: its number, its kind and its class by a size (docs/COMMANDS.md,
 /// "conditions").
-pub fn list(alloc: Global, program: &Program, size: u64, level: u8) -> Result<Vec<u8>, AllocError>
+pub fn list_conditions(
+    alloc: Global,
+    program: &Program,
+    size: u64,
+    level: u8,
+) -> Result<Vec<u8>, AllocError>
     requires size { size ≤ greatest_size }
     requires level { level ≤ 9 }
     ensures { IfOk result (λ text. IsListed program.now size 0 (conditions program.now level) text.items) }

@@ -9,8 +9,8 @@ use Rattle.csdn_core.specs.declared.terms.Sort.{Sort}
 use Rattle.csdn_core.specs.declared.terms.Term.{Term}
 use Rattle.csdn_core.specs.declared.terms.Pred.{Pred}
 use Rattle.csdn_core.specs.declared.terms.Pred.TheVariants.{Stored, Ft, Sent}
-use Rattle.csdn_core.specs.declared.terms.Place.{Place}
-use Rattle.csdn_core.specs.declared.terms.Place.TheVariants.{Topology, Safety, Trans}
+use Rattle.csdn_core.specs.declared.terms.FormulaPlace.{FormulaPlace}
+use Rattle.csdn_core.specs.declared.terms.FormulaPlace.TheVariants.{Topology, Safety, Trans}
 use Rattle.csdn_core.specs.declared.program.Parts.{Parts}
 use Rattle.csdn_core.specs.declared.program.Invariant.{Invariant}
 use Rattle.csdn_core.specs.declared.program.Relation.{Relation}
@@ -52,7 +52,7 @@ module _ (P : Parts) (R : Relations) where
 
   -- invariants
 
-  pub invariants_sorted : (place : Place) → ((r : Pred) → IsAllowed (signature P) place r → R r) → (vs : List Invariant) → All (λ v. IsSorted (signature P) place v.formula) vs → AreSortedIn no_scope (formulas vs)
+  pub invariants_sorted : (place : FormulaPlace) → ((r : Pred) → IsAllowed (signature P) place r → R r) → (vs : List Invariant) → All (λ v. IsSorted (signature P) place v.formula) vs → AreSortedIn no_scope (formulas vs)
   invariants_sorted place names [] all = tt
   invariants_sorted place names (v ∷ vs) all =
       let Q : Invariant → Type 0 = λ z. IsSorted (signature P) place z.formula in (

@@ -9,7 +9,7 @@ use Rattle.std.proofs.lemmas.List.Folds.{list_all-append}
 use Rattle.csdn_core.specs.declared.terms.Sort.{Sort}
 use Rattle.csdn_core.specs.declared.terms.Pred.{Pred}
 use Rattle.csdn_core.specs.declared.terms.Pred.TheVariants.{Stored, Ft, Sent, RcvThis}
-use Rattle.csdn_core.specs.declared.terms.Place.TheVariants.{Topology}
+use Rattle.csdn_core.specs.declared.terms.FormulaPlace.TheVariants.{Topology}
 use Rattle.csdn_core.specs.declared.event.Event.{Event}
 use Rattle.csdn_core.specs.declared.event.Packet.TheVariants.{Nothing}
 use Rattle.csdn_core.specs.declared.program.Parts.{Parts}

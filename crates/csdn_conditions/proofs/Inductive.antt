@@ -7,7 +7,7 @@ use Rattle.std.proofs.lemmas.Bool.{and_from, and_parts, true_from_ne_false}
 use Rattle.std.proofs.lemmas.List.Folds.{list_all-append, list_all-map}
 use Rattle.csdn_core.specs.declared.terms.Pred.{Pred}
 use Rattle.csdn_core.specs.declared.terms.Pred.TheVariants.{Stored, Ft, Sent, RcvThis}
-use Rattle.csdn_core.specs.declared.terms.Place.TheVariants.{Topology}
+use Rattle.csdn_core.specs.declared.terms.FormulaPlace.TheVariants.{Topology}
 use Rattle.csdn_core.specs.declared.event.Event.{Event}
 use Rattle.csdn_core.specs.declared.event.Event.TheVariants.{PktIn, PktFlow, Expire}
 use Rattle.csdn_core.specs.declared.event.Packet.{Packet}

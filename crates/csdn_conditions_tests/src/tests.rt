@@ -1,7 +1,7 @@
 //! The rows, and what is asked of them.
 ghost use Rattle.std.specs.Prelude.{◌≤◌};
 
-use condition_listing::{judge, list};
+use condition_listing::{judge, list_conditions};
 use csdn_conditions::class::USUAL_SIZE;
 use csdn_conditions::condition::condition;
 use csdn_conditions::kinds::condition_count;
@@ -21,7 +21,7 @@ fn lines_of(alloc: Global, text: &[u8], level: u8) -> Result<Vec<u8>, AllocError
     requires { level ≤ 9 }
 {
     match read_program(alloc, text) {
-        Ok(program) => list(alloc, &program, USUAL_SIZE, level),
+        Ok(program) => list_conditions(alloc, &program, USUAL_SIZE, level),
         Err(_) => Ok(Vec::new(alloc)),
     }
 }

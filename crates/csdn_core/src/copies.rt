@@ -6,14 +6,14 @@ use sqlite_items::Items;
 use std::alloc::{AllocError, Global};
 
 /// What can be copied, so that a list of such can be.
-pub trait Element {
+pub trait TryCopy {
     /// An equal element.
     fn copy(&self, alloc: Global) -> Result<Self, AllocError>
         ensures { IfOk result (λ element. element ≡ self.now) };
 }
 
 /// An equal list.
-pub fn copy_each<T: Element + Drop>(alloc: Global, items: &[T]) -> Result<Items<T>, AllocError>
+pub fn copy_each<T: TryCopy + Drop>(alloc: Global, items: &[T]) -> Result<Items<T>, AllocError>
     ensures { IfOk result (λ copied. copied ≡ items.now) }
 {
     let mut copied = Items::new(alloc);
@@ -23,7 +23,7 @@ pub fn copy_each<T: Element + Drop>(alloc: Global, items: &[T]) -> Result<Items<
     Ok(copied)
 }
 
-impl Element for Relation {
+impl TryCopy for Relation {
     fn copy(&self, alloc: Global) -> Result<Relation, AllocError> {
         Ok(Relation {
             name: Items::from_slice(alloc, self.name.as_slice())?,
@@ -33,7 +33,7 @@ impl Element for Relation {
     }
 }
 
-impl Element for Constant {
+impl TryCopy for Constant {
     fn copy(&self, alloc: Global) -> Result<Constant, AllocError> {
         Ok(Constant {
             name: Items::from_slice(alloc, self.name.as_slice())?,
@@ -42,7 +42,7 @@ impl Element for Constant {
     }
 }
 
-impl Element for StartRow {
+impl TryCopy for StartRow {
     fn copy(&self, _alloc: Global) -> Result<StartRow, AllocError> {
         Ok(StartRow {
             rel: self.rel,
@@ -51,7 +51,7 @@ impl Element for StartRow {
     }
 }
 
-impl Element for Invariant {
+impl TryCopy for Invariant {
     fn copy(&self, alloc: Global) -> Result<Invariant, AllocError> {
         Ok(Invariant {
             name: Items::from_slice(alloc, self.name.as_slice())?,
@@ -60,7 +60,7 @@ impl Element for Invariant {
     }
 }
 
-impl Element for Handler {
+impl TryCopy for Handler {
     fn copy(&self, alloc: Global) -> Result<Handler, AllocError> {
         Ok(Handler {
             port: self.port,

@@ -4,7 +4,7 @@ ghost use Rattle.std.specs.Prelude.{◌≡◌, ◌↔◌, List};
 ghost use Rattle.csdn_core.specs.declared.event.Event.{Event as AnyEvent};
 ghost use Rattle.csdn_core.specs.declared.program.Parts.{Parts as AnyParts};
 ghost use Rattle.csdn_core.specs.declared.event.Packet.{Packet as AnyPacket};
-ghost use Rattle.csdn_core.specs.declared.terms.Place.{Place as AnyPlace};
+ghost use Rattle.csdn_core.specs.declared.terms.FormulaPlace.{FormulaPlace};
 ghost use Rattle.csdn_core.specs.declared.syntax.Formula.{Formula as AnyFormula};
 ghost use Rattle.csdn_core.specs.Truth.{Structure, Assignment, truth};
 ghost use Rattle.csdn_core.specs.Network.{Network, State, structure, IsNetwork};
@@ -33,7 +33,7 @@ pub fn reached_states_are_finite()
 /// relations that a well-sorted formula may name at its place, the same tuples of elements, and under two assignments that
 /// give the variables in scope the same elements of their sorts, the formula has the same truth.
 pub fn truth_sees_what_is_named()
-    ensures { (S : Signature) (place : AnyPlace) (M K : Structure) → IsStructureOf S M → AgreeOn S (IsAllowed S place) M K → (scope : Scope) (p : AnyFormula) (e d : Assignment) → IsSortedIn S (IsAllowed S place) scope p → AgreeInScope M scope e d → truth M p e ≡ truth K p d }
+    ensures { (S : Signature) (place : FormulaPlace) (M K : Structure) → IsStructureOf S M → AgreeOn S (IsAllowed S place) M K → (scope : Scope) (p : AnyFormula) (e d : Assignment) → IsSortedIn S (IsAllowed S place) scope p → AgreeInScope M scope e d → truth M p e ≡ truth K p d }
 {}
 
 /// Truth looks only at tuples of a network's elements: in two states that agree on them, a well-sorted sentence has the

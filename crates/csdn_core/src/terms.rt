@@ -87,7 +87,7 @@ impl Pred {
 
 /// Where a formula stands, which decides what relations it may name.
 #[derive(Clone, Copy, Debug, PartialEq, Eq)]
-pub enum Place {
+pub enum FormulaPlace {
     /// In a topology invariant.
     Topology,
     /// In a safety invariant.

@@ -37,6 +37,12 @@ IsProgramAnswer bytes (Ok P) = Spells bytes P
 IsProgramAnswer bytes (Err Memory) = ⊥
 IsProgramAnswer bytes (Err (At at why)) = IsNoProgram bytes at why
 
+-- Bytes have one answer: one program that they spell, or one reason at one place for which they spell none, and not both.
+pub record HasOneAnswer (bytes : List ℕ) : Type 0 where
+  pub answer : Result Parts ProgramRefusal
+  pub is : IsProgramAnswer bytes answer
+  pub only : (other : Result Parts ProgramRefusal) → IsProgramAnswer bytes other → other ≡ answer
+
 -- why there is no program: want of memory, or the bytes are none
 abbrev pub IsProgramRefusal : List ℕ → ProgramRefusal → Type 0
 IsProgramRefusal bytes Memory = Unit {0}

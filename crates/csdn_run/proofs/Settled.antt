@@ -15,7 +15,7 @@ use Rattle.csdn_history.specs.declared.entry.Entry.TheVariants.{Packet}
 use Rattle.csdn_history.specs.declared.reply.Reply.{Reply}
 use Rattle.csdn_history.specs.declared.reply.Rule.{Rule}
 use Rattle.net_structs.specs.Rows.{held}
-use Rattle.csdn_step.specs.declared.draft.Draft.{Draft}
+use Rattle.csdn_step.specs.declared.draft.StateDraft.{StateDraft}
 use Rattle.csdn_step.specs.declared.events.StepRefusal.{StepRefusal}
 use Rattle.csdn_step.specs.declared.events.StepRefusal.TheVariants.{Stranger, NotEnabled}
 use Rattle.csdn_step.specs.declared.setting.Sending.TheVariants.{Kept as KeptSending}
@@ -36,7 +36,7 @@ pack x y f g m n xs fs ms =
     ∙ ap {B = Standing} (λ (z : ℕ). record { state = y; marks = g; count = z }) ms
 
 -- a draft that is kept
-pub kept_is : (w : Standing) (new : Kept) (draft : Draft) (tally : Tally) (changed : List Match) (course : Course) → drafted draft tally ≡ course → changed ≡ tally.changed
+pub kept_is : (w : Standing) (new : Kept) (draft : StateDraft) (tally : Tally) (changed : List Match) (course : Course) → drafted draft tally ≡ course → changed ≡ tally.changed
     → held new.state ≡ standing draft → mark_of new.marks ≡ with_marks w.marks changed (w.count + 1) → new.count ≡ w.count + 1 → standing_of new ≡ marked w course
 kept_is w new draft tally changed course is same state marks count =
     pack (held new.state) (standing draft) (mark_of new.marks) (with_marks w.marks tally.changed (w.count + 1)) new.count (w.count + 1)
@@ -60,7 +60,7 @@ each_given f marks n all (m ∷ ms) h =
     (ap (λ b. f (if b then n else marks m) m) (sym (h m (ap (λ b. b || list_any (same_match m) ms) (same_itself m)))))
     (each_given f marks n all ms (λ k there. h k (or_later (same_match k m) (list_any (same_match k) ms) there)))
 
-pub reply_is : (P : Parts) (N : Network) (w : Standing) (draft : Draft) (tally : Tally) (changed : List Match) (rules : List Rule) (course : Course) → drafted draft tally ≡ course → changed ≡ tally.changed
+pub reply_is : (P : Parts) (N : Network) (w : Standing) (draft : StateDraft) (tally : Tally) (changed : List Match) (rules : List Rule) (course : Course) → drafted draft tally ≡ course → changed ≡ tally.changed
     → rules ≡ map (rule_in P N (standing draft) (w.count + 1)) changed → ◌≡◌ {A = Reply} (record { rules = rules; outs = tally.outs }) (reply_to_packet P N w course)
 reply_is P N w draft tally changed rules course is same made =
     ap {B = Reply} (λ (rs : List Rule). record { rules = rs; outs = tally.outs })

@@ -9,7 +9,7 @@ use csdn_core::event::Match;
 use csdn_core::program::Program;
 use csdn_core::terms::{Pred, Sort};
 use csdn_history::reply::{Elements, Rule, Rules};
-use csdn_step::Draft;
+use csdn_step::StateDraft;
 use net_structs::cells::Cells;
 use net_structs::network::Network;
 use net_structs::state::State;
@@ -30,7 +30,7 @@ pub enum Sight<'a> {
     /// A state, with its marks.
     Kept(&'a State, &'a Marks),
     /// What an entry of this number makes of a state.
-    Drafted(&'a Draft, u64),
+    Drafted(&'a StateDraft, u64),
 }
 
 impl Sight<'_> {

@@ -19,7 +19,7 @@ use csdn_core::program::Program;
 use csdn_core::terms::Sort;
 use csdn_history::entry::Entry;
 use csdn_history::reply::{Reply, Rules};
-use csdn_step::{Draft, StepRefusal, begin, begin_quiet, initial};
+use csdn_step::{StateDraft, StepRefusal, begin, begin_quiet, initial};
 use net_structs::network::Network;
 use net_structs::state::State;
 use sqlite_items::Items;
@@ -112,7 +112,7 @@ fn join(setting: &Setting, kept: &mut Kept, s: u64) -> Result<Reply, AllocError>
 fn prepare(
     setting: &Setting,
     marks: &mut Marks,
-    draft: &Draft,
+    draft: &StateDraft,
     changed: &[Match],
     number: u64,
 ) -> Result<Rules, AllocError>
@@ -125,7 +125,7 @@ fn prepare(
 }
 
 // Keeps what an entry made of the state. It takes no memory.
-fn keep(kept: &mut Kept, draft: Draft, changed: &[Match])
+fn keep(kept: &mut Kept, draft: StateDraft, changed: &[Match])
     requires room { list_all (has_room kept.old.marks) changed.now ≡ true }
     requires count { kept.old.count + 1 < 2 ^ 64 }
     ensures state { held kept.new.state ≡ standing draft }
@@ -141,7 +141,7 @@ fn keep(kept: &mut Kept, draft: Draft, changed: &[Match])
 fn settle(
     setting: &Setting,
     kept: &mut Kept,
-    draft: Draft,
+    draft: StateDraft,
     changed: &[Match],
 ) -> Result<Rules, AllocError>
     requires { kept.old.count + 1 < 2 ^ 64 }

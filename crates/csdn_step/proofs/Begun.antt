@@ -12,7 +12,7 @@ use Rattle.net_structs.specs.declared.row.Row.{Row}
 use Rattle.net_structs.specs.Binds.{assignment}
 use Rattle.net_structs.specs.Rows.{held}
 use Rattle.net_structs.proofs.Taken.{but-none}
-use Rattle.csdn_step.specs.declared.draft.Draft.{Draft}
+use Rattle.csdn_step.specs.declared.draft.StateDraft.{StateDraft}
 use Rattle.csdn_step.specs.Drafts.{standing}
 use Rattle.csdn_step.specs.Courses.{Course, drafted, from_state}
 
@@ -20,12 +20,12 @@ abbrev course_of : State → List Match → List Out → Course
 course_of x changed outs = record { state = x; changed = changed; outs = outs }
 
 -- nothing is told yet
-pub begun : (draft : Draft) (tally : Tally) → tally.changed ≡ [] → tally.outs ≡ [] → drafted draft tally ≡ from_state (standing draft)
+pub begun : (draft : StateDraft) (tally : Tally) → tally.changed ≡ [] → tally.outs ≡ [] → drafted draft tally ≡ from_state (standing draft)
 begun draft tally none_changed no_outs =
     ap (λ (changed : List Match). course_of (standing draft) changed tally.outs) none_changed ∙ ap (course_of (standing draft) []) no_outs
 
 -- a draft in which nothing is done yet
-pub fresh : (draft : Draft) (rows : List Row) → draft ≡ record { state = rows; gone = []; added = [] } → standing draft ≡ held rows
+pub fresh : (draft : StateDraft) (rows : List Row) → draft ≡ record { state = rows; gone = []; added = [] } → standing draft ≡ held rows
 fresh draft rows is = ap standing is ∙ but-none (held rows)
 
 abbrev with_pair : VarId → ℕ → List Pair → List Pair

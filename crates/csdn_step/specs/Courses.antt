@@ -20,7 +20,7 @@ use Rattle.csdn_core.specs.Execution.{put, take_out, take_out_match, flooded, is
 use Rattle.csdn_core.specs.Run.{first_fit, for_packet}
 use Rattle.net_structs.specs.declared.row.Row.{Row}
 use Rattle.net_structs.specs.Rows.{held}
-use Rattle.csdn_step.specs.declared.draft.Draft.{Draft}
+use Rattle.csdn_step.specs.declared.draft.StateDraft.{StateDraft}
 use Rattle.csdn_step.specs.declared.setting.Sending.{Sending}
 use Rattle.csdn_step.specs.declared.setting.Sending.TheVariants.{Kept, Left}
 use Rattle.csdn_step.specs.Drafts.{standing}
@@ -153,7 +153,7 @@ abbrev pub course : List Row → Tally → Course
 course rows tally = record { state = held rows; changed = tally.changed; outs = tally.outs }
 
 -- what a draft and a tally say
-abbrev pub drafted : Draft → Tally → Course
+abbrev pub drafted : StateDraft → Tally → Course
 drafted draft tally = record { state = standing draft; changed = tally.changed; outs = tally.outs }
 
 -- the second state, but with what is in `sent` in the first

@@ -9,10 +9,10 @@ use Rattle.csdn_core.specs.Execution.{take_out}
 use Rattle.net_structs.specs.declared.row.Row.{Row}
 use Rattle.net_structs.specs.Rows.{held, row_cmp}
 use Rattle.net_structs.specs.Views.{but}
-use Rattle.csdn_step.specs.declared.draft.Draft.{Draft}
+use Rattle.csdn_step.specs.declared.draft.StateDraft.{StateDraft}
 
 -- the state as it stands: what is gone counts as taken out
-abbrev pub standing : Draft → State
+abbrev pub standing : StateDraft → State
 standing draft = but (held draft.state) (held draft.gone)
 
 -- rows taken out of others, the last first
@@ -21,7 +21,7 @@ without [] rows = rows
 without (row ∷ added) rows = remove_key (is_at (row_cmp row)) (without added rows)
 
 -- the rows from which the changes began
-abbrev pub start_of : Draft → List Row
+abbrev pub start_of : StateDraft → List Row
 start_of draft = without draft.added draft.state
 
 -- the flow rules of a match that send from these ports taken out, one after another

@@ -14,7 +14,7 @@ ghost use Rattle.csdn_step.specs.Courses.{drafted, executed, flooded_on, forward
 ghost use Rattle.csdn_step.specs.Least.{first_of, least};
 ghost use Rattle.csdn_step.specs.Drafts.{standing, start_of};
 
-use crate::draft::Draft;
+use crate::draft::StateDraft;
 use crate::sends::flood;
 use crate::setting::{Sending, Setting, cells_of, is_true, is_true_of};
 use crate::tallies::{list_match, list_out, list_port};
@@ -29,7 +29,7 @@ use std::alloc::AllocError;
 #[tactic(auto)]
 fn first_true(
     setting: &Setting,
-    draft: &Draft,
+    draft: &StateDraft,
     env: &mut Env,
     elements: &[u64],
     var: VarId,
@@ -53,7 +53,7 @@ fn first_true(
 #[tactic(auto)]
 fn least_true(
     setting: &Setting,
-    draft: &Draft,
+    draft: &StateDraft,
     env: &mut Env,
     var: VarId,
     sort: Sort,
@@ -68,7 +68,7 @@ fn least_true(
 }
 
 #[tactic(auto)]
-fn install(draft: &mut Draft, tally: &mut Tally, cells: &Cells) -> Result<(), AllocError>
+fn install(draft: &mut StateDraft, tally: &mut Tally, cells: &Cells) -> Result<(), AllocError>
     ensures done { OnOk result (drafted draft.new tally.new ≡ installed (drafted draft.old tally.old) cells.now) }
     ensures start { start_of draft.new ≡ start_of draft.old }
 {
@@ -80,7 +80,7 @@ fn install(draft: &mut Draft, tally: &mut Tally, cells: &Cells) -> Result<(), Al
 }
 
 #[tactic(auto)]
-fn uninstall(draft: &mut Draft, tally: &mut Tally, cells: &Cells) -> Result<(), AllocError>
+fn uninstall(draft: &mut StateDraft, tally: &mut Tally, cells: &Cells) -> Result<(), AllocError>
     ensures done { OnOk result (drafted draft.new tally.new ≡ uninstalled (drafted draft.old tally.old) cells.now) }
     ensures start { start_of draft.new ≡ start_of draft.old }
 {
@@ -93,7 +93,7 @@ fn uninstall(draft: &mut Draft, tally: &mut Tally, cells: &Cells) -> Result<(), 
 
 // Sends a packet, where packets are kept.
 #[tactic(auto)]
-fn send(setting: &Setting, draft: &mut Draft, cells: &Cells) -> Result<(), AllocError>
+fn send(setting: &Setting, draft: &mut StateDraft, cells: &Cells) -> Result<(), AllocError>
     ensures sent { OnOk result (standing draft.new ≡ sent_to setting.now.sending (standing draft.old) (put (standing draft.old) SentPred cells.now)) }
     ensures start { start_of draft.new ≡ start_of draft.old }
 {
@@ -107,7 +107,7 @@ fn send(setting: &Setting, draft: &mut Draft, cells: &Cells) -> Result<(), Alloc
 }
 
 #[tactic(auto)]
-fn send_all(setting: &Setting, draft: &mut Draft, cells: &Cells) -> Result<(), AllocError>
+fn send_all(setting: &Setting, draft: &mut StateDraft, cells: &Cells) -> Result<(), AllocError>
     ensures sent { OnOk result (standing draft.new ≡ sent_to setting.now.sending (standing draft.old) (flooded (standing draft.old) (elements_of setting.now.network.now Ports) cells.now)) }
     ensures start { start_of draft.new ≡ start_of draft.old }
 {
@@ -120,7 +120,7 @@ fn send_all(setting: &Setting, draft: &mut Draft, cells: &Cells) -> Result<(), A
 #[tactic(auto)]
 fn forward(
     setting: &Setting,
-    draft: &mut Draft,
+    draft: &mut StateDraft,
     tally: &mut Tally,
     cells: &Cells,
 ) -> Result<(), AllocError>
@@ -134,7 +134,7 @@ fn forward(
 #[tactic(auto)]
 fn flood_out(
     setting: &Setting,
-    draft: &mut Draft,
+    draft: &mut StateDraft,
     tally: &mut Tally,
     cells: &Cells,
 ) -> Result<(), AllocError>
@@ -150,7 +150,7 @@ fn flood_out(
 #[cycle(execute)]
 pub fn execute(
     setting: &Setting,
-    draft: &mut Draft,
+    draft: &mut StateDraft,
     tally: &mut Tally,
     env: &mut Env,
     command: &Command,
@@ -213,7 +213,7 @@ pub fn execute(
 #[cycle(execute)]
 fn execute_with(
     setting: &Setting,
-    draft: &mut Draft,
+    draft: &mut StateDraft,
     tally: &mut Tally,
     env: &mut Env,
     var: VarId,

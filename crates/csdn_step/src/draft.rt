@@ -23,7 +23,7 @@ use std::mem::replace;
 /// A state, with what was done to it since its changes began. To put a tuple back could want memory, so the tuples that are
 /// taken out stay in the state until the changes are kept, and are listed beside it.
 #[derive(Drop)]
-pub struct Draft {
+pub struct StateDraft {
     pub(crate) state: State,
     /// The tuples that count as taken out.
     pub(crate) gone: State,
@@ -31,19 +31,19 @@ pub struct Draft {
     pub(crate) added: Rows,
 }
 
-impl Draft {
+impl StateDraft {
     /// Begins to change a state, which is empty meanwhile.
     pub(crate) fn begin(
         alloc: Global,
         program: &Program,
         state: &mut State,
-    ) -> Result<Draft, AllocError>
+    ) -> Result<StateDraft, AllocError>
         ensures begun { IfOk result (λ draft. draft ≡ record { state = state.old; gone = []; added = [] }) }
         ensures err { OnErr result (state.new ≡ state.old) }
     {
         let gone = State::try_empty(alloc, program)?;
         let meanwhile = State::try_empty(alloc, program)?;
-        Ok(Draft {
+        Ok(StateDraft {
             state: replace(state, meanwhile),
             gone,
             added: Items::new(alloc),
@@ -113,7 +113,7 @@ impl Draft {
     pub fn kept(self) -> State
         ensures { held result ≡ standing self }
     {
-        let Draft {
+        let StateDraft {
             mut state,
             gone,
             ..
@@ -126,7 +126,7 @@ impl Draft {
     pub fn undone(self) -> State
         ensures { result ≡ start_of self }
     {
-        let Draft {
+        let StateDraft {
             mut state,
             added,
             ..
@@ -147,7 +147,7 @@ fn take_all(state: &mut State, rows: Rows)
 }
 
 // Takes out the flow rules of a match that send from these ports.
-fn remove_each(draft: &mut Draft, key: &Match, ports: &[u64]) -> Result<(), AllocError>
+fn remove_each(draft: &mut StateDraft, key: &Match, ports: &[u64]) -> Result<(), AllocError>
     ensures taken { OnOk result (standing draft.new ≡ taken_each key.now ports.now (standing draft.old)) }
     ensures start { start_of draft.new ≡ start_of draft.old }
 {
@@ -167,14 +167,14 @@ fn flow(key: &Match, o: u64) -> Cells
 }
 
 // Whether a tuple was put in and hadn't been there.
-fn is_added(draft: &Draft, row: &Row) -> bool
+fn is_added(draft: &StateDraft, row: &Row) -> bool
     ensures { result ≡ held draft.now.added row.now.pred row.now.cells }
 {
     draft.added.as_slice().contains(row)
 }
 
 // Whether a flow rule that is in the state or gone is not what it was.
-fn is_changed(draft: &Draft, key: &Match, o: u64) -> bool
+fn is_changed(draft: &StateDraft, key: &Match, o: u64) -> bool
     ensures { result ≡ either_alone (sends (held draft.now.added) key.now o) (sends (held draft.now.gone) key.now o) }
 {
     let row = Row {
@@ -188,7 +188,7 @@ fn is_changed(draft: &Draft, key: &Match, o: u64) -> bool
     }
 }
 
-fn is_any_changed(draft: &Draft, network: &Network, key: &Match, ports: &[u64]) -> bool
+fn is_any_changed(draft: &StateDraft, network: &Network, key: &Match, ports: &[u64]) -> bool
     ensures { result ≡ list_any (λ o. has_element network.now.ports o && either_alone (sends (held draft.now.added) key.now o) (sends (held draft.now.gone) key.now o)) ports.now }
 {
     ports.iter().any(|o| network.has(Sort::Pr, *o) && is_changed(draft, key, *o))

@@ -12,7 +12,7 @@ ghost use Rattle.csdn_step.specs.Drafts.{standing, start_of};
 ghost use Rattle.csdn_step.specs.declared.setting.Sending.TheVariants.{Kept as KeptSending, Left as LeftSending};
 
 use crate::commands::execute;
-use crate::draft::Draft;
+use crate::draft::StateDraft;
 use crate::setting::{Sending, Setting};
 use crate::settle::settle;
 use csdn_core::event::{Event, Match, Tally};
@@ -61,7 +61,7 @@ pub fn begin(
     network: &Network,
     state: &mut State,
     event: &Event,
-) -> Result<(Draft, Tally), StepRefusal>
+) -> Result<(StateDraft, Tally), StepRefusal>
     ensures answer { IsAnswer (first_refusal program.now network.now (held state.old) event.now) result }
     ensures step { IfOk result (λ begun. Step program.now network.now (held state.old) event.now (standing begun.0)) }
     ensures least { IfOk result (λ begun. drafted begun.0 begun.1 ≡ fired program.now network.now KeptSending event.now (from_state (held state.old))) }
@@ -94,7 +94,7 @@ pub fn begin_quiet(
     a: u64,
     b: u64,
     i: u64,
-) -> Result<(Draft, Tally), StepRefusal>
+) -> Result<(StateDraft, Tally), StepRefusal>
     ensures answer { IsAnswer (first_refusal program.now network.now (held state.old) (SpecPktIn s a b i)) result }
     ensures quiet { IfOk result (λ begun. drafted begun.0 begun.1 ≡ quieted (held state.old) (fired program.now network.now KeptSending (SpecPktIn s a b i) (from_state (held state.old)))) }
     ensures start { IfOk result (λ begun. start_of begun.0 ≡ state.old) }
@@ -253,12 +253,12 @@ fn happen(
     setting: &Setting,
     state: &mut State,
     event: &Event,
-) -> Result<(Draft, Tally), AllocError>
+) -> Result<(StateDraft, Tally), AllocError>
     ensures done { IfOk result (λ begun. drafted begun.0 begun.1 ≡ fired setting.now.program.now setting.now.network.now setting.now.sending event.now (from_state (held state.old))) }
     ensures start { IfOk result (λ begun. start_of begun.0 ≡ state.old) }
     ensures same { OnErr result (state.new ≡ state.old) }
 {
-    let mut draft = Draft::begin(alloc, setting.program, state)?;
+    let mut draft = StateDraft::begin(alloc, setting.program, state)?;
     match change(alloc, setting, &mut draft, event) {
         Ok(tally) => Ok((draft, tally)),
         Err(error) => {
@@ -272,7 +272,7 @@ fn happen(
 fn change(
     alloc: Global,
     setting: &Setting,
-    draft: &mut Draft,
+    draft: &mut StateDraft,
     event: &Event,
 ) -> Result<Tally, AllocError>
     requires { held (start_of draft.old) ≡ standing draft.old }
@@ -293,7 +293,7 @@ fn change(
 }
 
 // Ends the flow rules of a match.
-fn expire(alloc: Global, draft: &mut Draft, key: Match) -> Result<Tally, AllocError>
+fn expire(alloc: Global, draft: &mut StateDraft, key: Match) -> Result<Tally, AllocError>
     ensures done { IfOk result (λ tally. drafted draft.new tally ≡ expired (from_state (standing draft.old)) key) }
     ensures start { start_of draft.new ≡ start_of draft.old }
 {
@@ -330,7 +330,7 @@ fn fits(port: Option<u16>, i: u64) -> bool
 fn handle(
     alloc: Global,
     setting: &Setting,
-    draft: &mut Draft,
+    draft: &mut StateDraft,
     s: u64,
     a: u64,
     b: u64,
@@ -349,7 +349,7 @@ fn handle(
 fn run(
     alloc: Global,
     setting: &Setting,
-    draft: &mut Draft,
+    draft: &mut StateDraft,
     handler: &Handler,
     s: u64,
     a: u64,

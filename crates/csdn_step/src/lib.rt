@@ -15,7 +15,7 @@ mod settle;
 mod start;
 mod tallies;
 
-pub use draft::Draft;
+pub use draft::StateDraft;
 pub use events::{StepRefusal, begin, begin_quiet, fire, fire_quiet};
 pub use laws::{changed_matches_differ, steps_keep_elements, tallies_name_elements};
 pub use start::initial;

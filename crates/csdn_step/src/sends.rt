@@ -3,13 +3,13 @@ ghost use Rattle.std.specs.Prelude.{◌≡◌, [], ◌∷◌, ◌≤◌, length,
 ghost use Rattle.csdn_core.specs.Execution.{flooded};
 ghost use Rattle.csdn_step.specs.Drafts.{standing, start_of};
 
-use crate::draft::Draft;
+use crate::draft::StateDraft;
 use csdn_core::terms::Pred;
 use net_structs::cells::Cells;
 use std::alloc::AllocError;
 
 /// Sends a packet from every port but its own.
-pub fn flood(draft: &mut Draft, ports: &[u64], cells: &Cells) -> Result<(), AllocError>
+pub fn flood(draft: &mut StateDraft, ports: &[u64], cells: &Cells) -> Result<(), AllocError>
     ensures flooded { OnOk result (standing draft.new ≡ flooded (standing draft.old) ports.now cells.now) }
     ensures start { start_of draft.new ≡ start_of draft.old }
 {
@@ -20,7 +20,7 @@ pub fn flood(draft: &mut Draft, ports: &[u64], cells: &Cells) -> Result<(), Allo
 }
 
 fn flood_packet(
-    draft: &mut Draft,
+    draft: &mut StateDraft,
     ports: &[u64],
     s: u64,
     a: u64,
@@ -39,7 +39,14 @@ fn flood_packet(
 }
 
 // Sends a packet from a port, unless that is its own.
-fn send_other(draft: &mut Draft, s: u64, a: u64, b: u64, i: u64, o: u64) -> Result<(), AllocError>
+fn send_other(
+    draft: &mut StateDraft,
+    s: u64,
+    a: u64,
+    b: u64,
+    i: u64,
+    o: u64,
+) -> Result<(), AllocError>
     ensures sent { OnOk result (standing draft.new ≡ flooded (standing draft.old) (o ∷ []) (s ∷ a ∷ b ∷ i ∷ [])) }
     ensures start { start_of draft.new ≡ start_of draft.old }
 {

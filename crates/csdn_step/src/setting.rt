@@ -6,7 +6,7 @@ ghost use Rattle.net_structs.specs.Binds.{assignment};
 ghost use Rattle.csdn_core.specs.Depth.{depth};
 ghost use Rattle.csdn_step.specs.Drafts.{standing};
 
-use crate::draft::Draft;
+use crate::draft::StateDraft;
 use csdn_core::event::Packet;
 use csdn_core::program::Program;
 use csdn_core::syntax::Formula;
@@ -37,7 +37,7 @@ pub struct Setting<'a> {
 /// was.
 pub fn is_true_of(
     setting: &Setting,
-    draft: &Draft,
+    draft: &StateDraft,
     env: &mut Env,
     var: VarId,
     element: u64,
@@ -55,7 +55,7 @@ pub fn is_true_of(
 
 /// Whether a formula is true in a draft as it stands, where `env` says what its free variables stand for. `env` needs
 /// room for the variables that the formula binds at once, and is left as it was.
-pub fn is_true(setting: &Setting, draft: &Draft, env: &mut Env, formula: &Formula) -> bool
+pub fn is_true(setting: &Setting, draft: &StateDraft, env: &mut Env, formula: &Formula) -> bool
     requires { length env.old.pairs + depth formula.now ≤ env.old.room }
     ensures value { result ≡ is_true_in setting.now.program.now setting.now.network.now formula.now (assignment env.old.pairs) (standing draft.now) }
     ensures same { env.new ≡ env.old }
@@ -72,7 +72,7 @@ pub fn is_true(setting: &Setting, draft: &Draft, env: &mut Env, formula: &Formul
 }
 
 /// The tuple that a list of terms stands for.
-pub fn cells_of(setting: &Setting, draft: &Draft, env: &Env, terms: &Terms) -> Cells
+pub fn cells_of(setting: &Setting, draft: &StateDraft, env: &Env, terms: &Terms) -> Cells
     ensures { result ≡ tuple setting.now.program.now setting.now.network.now terms.now (assignment env.now.pairs) (standing draft.now) }
 {
     let view = View {

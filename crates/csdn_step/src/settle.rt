@@ -4,7 +4,7 @@ ghost use Rattle.net_structs.specs.Rows.{held};
 ghost use Rattle.csdn_step.specs.Courses.{differs as differs_in, drafted, settled};
 ghost use Rattle.csdn_step.specs.Drafts.{standing, start_of};
 
-use crate::draft::Draft;
+use crate::draft::StateDraft;
 use csdn_core::event::{Match, Matches, Tally};
 use net_structs::network::Network;
 use sqlite_items::Items;
@@ -14,7 +14,7 @@ use std::alloc::{AllocError, Global};
 pub fn settle(
     alloc: Global,
     network: &Network,
-    draft: &Draft,
+    draft: &StateDraft,
     tally: Tally,
 ) -> Result<Tally, AllocError>
     ensures { IfOk result (λ left. drafted draft.now left ≡ settled network.now.ports (held (start_of draft.now)) (drafted draft.now tally)) }
@@ -27,7 +27,7 @@ pub fn settle(
 fn differing(
     alloc: Global,
     network: &Network,
-    draft: &Draft,
+    draft: &StateDraft,
     matches: &[Match],
 ) -> Result<Matches, AllocError>
     ensures { IfOk result (λ changed. changed ≡ filter (λ m. differs_in network.now.ports (held (start_of draft.now)) (standing draft.now) m) matches.now) }

@@ -3,7 +3,7 @@ use Rattle.std.proofs.Common.{◌≡◌, ℕ, ◌+◌, ◌≤◌, max, not, ◌=
 use Rattle.std.proofs.lemmas.Bool.{eqb-true}
 use Rattle.csdn_core.specs.Same.{same_term}
 use Rattle.csdn_core.proofs.Same.{same_term-is}
-use Rattle.csdn_core.specs.declared.terms.Place.TheVariants.{Handler as InHandler}
+use Rattle.csdn_core.specs.declared.terms.FormulaPlace.TheVariants.{Handler as InHandler}
 use Rattle.csdn_core.specs.declared.terms.Sort.{Sort}
 use Rattle.csdn_core.specs.declared.terms.Sort.TheVariants.{Sw, Ho, Pr}
 use Rattle.csdn_core.specs.declared.terms.Term.{Term}

@@ -27,7 +27,7 @@ use Rattle.csdn_types.specs.declared.refusal.SortRefusal.TheVariants.{Duplicate,
 use Rattle.csdn_types.specs.Faults.{fault_if, faults}
 use Rattle.csdn_types.specs.Scope.{Scope, relation_named}
 use Rattle.csdn_types.specs.Items.{name_faults, row_of, rows_of, rows_faults, row_faults, relation_item_faults, handler_of}
-use Rattle.csdn_types.specs.Programs.{Draft, place_of, named_formula, with_invariant, constant_faults, invariant_faults, item_faults, with_item, items_faults, with_items}
+use Rattle.csdn_types.specs.Programs.{ProgramDraft, place_of, named_formula, with_invariant, constant_faults, invariant_faults, item_faults, with_item, items_faults, with_items}
 use Rattle.csdn_types.proofs.Counts.{passes, passes-true, passes-false, times, times-append, times-push, times-new, times-once_more}
 use Rattle.csdn_types.proofs.NumeralSorts.{all_left, all_right}
 use Rattle.csdn_types.proofs.Sorts.{free_left, free_right, fault_free, below}
@@ -102,7 +102,7 @@ pub record KeptInvariants (topology safety trans : List NamedFormula) (names : L
   pub same : (q : List ℕ → Bool) → times q (gathered_names topology safety trans) ≡ times q names
   pub few : length names ≤ 64
 
-pub record Declared (d : Draft) : Type 0 where
+pub record Declared (d : ProgramDraft) : Type 0 where
   pub relations : KeptRelations d.scope.relations d.start
   pub constants : KeptConstants d.scope.constants
   pub invariants : KeptInvariants d.topology d.safety d.trans d.invariants
@@ -175,7 +175,7 @@ names_pushed q vs v = ap (λ names. times q names) (map-append (λ x. x.name) vs
 names_sum : (q : List ℕ → Bool) (xs ys zs : List NamedFormula) → times q (gathered_names xs ys zs) ≡ times q (map (λ x. x.name) xs) + (times q (map (λ x. x.name) ys) + times q (map (λ x. x.name) zs))
 names_sum q xs ys zs = rw (times-append q (map (λ x. x.name) xs) (map (λ x. x.name) ys ++ map (λ x. x.name) zs), times-append q (map (λ x. x.name) ys) (map (λ x. x.name) zs)) refl
 
-module _ (d : Draft) (name : RawName) (p : RawFormula) (word : IsName name.text) (free : invariant_faults d name ≡ []) (h : KeptInvariants d.topology d.safety d.trans d.invariants) where
+module _ (d : ProgramDraft) (name : RawName) (p : RawFormula) (word : IsName name.text) (free : invariant_faults d name ≡ []) (h : KeptInvariants d.topology d.safety d.trans d.invariants) where
   abbrev made : NamedFormula
   made = named_formula d.scope name p
 
@@ -194,7 +194,7 @@ module _ (d : Draft) (name : RawName) (p : RawFormula) (word : IsName name.text)
       → times q (gathered_names xs ys zs) ≡ times q (d.invariants ++ name.text ∷ [])
   same_step q xs ys zs sum = omega (arith, names_sum q xs ys zs, sum, h.same q, times-push q d.invariants name.text)
 
-  abbrev Grown : Draft → Type 0
+  abbrev Grown : ProgramDraft → Type 0
   Grown e = KeptInvariants e.topology e.safety e.trans e.invariants
 
   one_invariant : (kind : InvariantKind) → Grown (with_invariant d kind name p)
@@ -230,7 +230,7 @@ module _ (d : Draft) (name : RawName) (p : RawFormula) (word : IsName name.text)
 
 -- ---- all items
 
-declared-item : (d : Draft) (item : RawItem) → ByRecursion IsName (item_names item) → item_faults d item ≡ [] → Declared d → Declared (with_item d item)
+declared-item : (d : ProgramDraft) (item : RawItem) → ByRecursion IsName (item_names item) → item_faults d item ≡ [] → Declared d → Declared (with_item d item)
 declared-item d (Relation r) words free h = record { relations = one_relation d.scope d.start r words.0 free h.relations; constants = h.constants; invariants = h.invariants; handlers = h.handlers }
 declared-item d (Constant name sort) words free h = record { relations = h.relations; constants = one_constant d.scope name sort words.0 free h.constants; invariants = h.invariants; handlers = h.handlers }
 declared-item d (Invariant kind name p) words free h =
@@ -240,7 +240,7 @@ declared-item d (Handler x) words free h =
     record { relations = h.relations; constants = h.constants; invariants = h.invariants; handlers = omega (arith, few, length-append d.handlers (handler_of d.scope x ∷ [])) }
 declared-item d (Timeout t) words free h = record { relations = h.relations; constants = h.constants; invariants = h.invariants; handlers = h.handlers }
 
-pub declared-items : (d : Draft) (items : List RawItem) → ByRecursion IsName (items_names items) → items_faults d items ≡ [] → Declared d → Declared (with_items d items)
+pub declared-items : (d : ProgramDraft) (items : List RawItem) → ByRecursion IsName (items_names items) → items_faults d items ≡ [] → Declared d → Declared (with_items d items)
 unfolding with_items items_faults
 declared-items d [] words free h = h
 declared-items d (item ∷ items) words free h =

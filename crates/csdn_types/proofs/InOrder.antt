@@ -1,8 +1,8 @@
 -- The faults of a tree stand in the order of refusals, where its places rise in the order of the text.
-use Rattle.std.proofs.Common.{◌≡◌, ◌⊎◌, ℕ, ◌+◌, ◌*◌, ◌<◌, ◌≤◌, Bool, true, false, not, ◌==◌, List, [], ◌∷◌, ◌++◌, length, Option, Some, None, slice_get, is_some, nat_le, All, refl, inl, inr, arith}
+use Rattle.std.proofs.Common.{◌≡◌, ◌⊎◌, ℕ, ◌+◌, ◌*◌, ◌<◌, ◌≤◌, Bool, true, false, not, ◌==◌, List, [], ◌∷◌, ◌++◌, length, Option, Some, None, slice_get, is_some, nat_le, All, refl, subst, inl, inr, arith}
 use Rattle.std.proofs.lemmas.List.Elements.{All-nil, All-cons}
 use Rattle.csdn_core.specs.Same.{same_sort}
-use Rattle.csdn_core.specs.declared.terms.Place.{Place}
+use Rattle.csdn_core.specs.declared.terms.FormulaPlace.{FormulaPlace}
 use Rattle.csdn_core.specs.declared.terms.Sort.{Sort}
 use Rattle.csdn_core.specs.declared.terms.Sort.TheVariants.{Sw, Ho, Pr}
 use Rattle.csdn_core.specs.declared.program.Relation.{Relation}
@@ -31,10 +31,10 @@ use Rattle.csdn_tree.proofs.Ends.{terms_end}
 abbrev pub key : SortRefusal → ℕ
 key e = 8 * at_of e + rank e
 
--- keys rise, from one number on and below another
+-- keys rise, above one number and at most to another
 unfoldable pub Ordered : ℕ → List SortRefusal → ℕ → Type 0
 Ordered from [] to = from ≤ to
-Ordered from (e ∷ es) to = (from ≤ key e) × Ordered (key e + 1) es to
+Ordered from (e ∷ es) to = (from < key e) × Ordered (key e) es to
 
 pub ordered_from : (from later : ℕ) (es : List SortRefusal) (to : ℕ) → from ≤ later → Ordered later es to → Ordered from es to
 unfolding Ordered
@@ -44,17 +44,17 @@ ordered_from from later (e ∷ es) to sooner ordered = (omega (arith, ordered.0)
 pub joined : (from middle to : ℕ) (xs ys : List SortRefusal) → Ordered from xs middle → Ordered middle ys to → Ordered from (xs ++ ys) to
 unfolding Ordered
 joined from middle to [] ys left right = ordered_from from middle ys to left right
-joined from middle to (x ∷ xs) ys left right = (left.0, joined (key x + 1) middle to xs ys left.1 right)
+joined from middle to (x ∷ xs) ys left right = (left.0, joined (key x) middle to xs ys left.1 right)
 
 pub none : (from to : ℕ) → from ≤ to → Ordered from [] to
 unfolding Ordered
 none from to fits = fits
 
-pub one : (from to : ℕ) (e : SortRefusal) → from ≤ key e → key e < to → Ordered from (e ∷ []) to
+pub one : (from to : ℕ) (e : SortRefusal) → from < key e → key e ≤ to → Ordered from (e ∷ []) to
 unfolding Ordered
-one from to e low high = (low, omega arith)
+one from to e low high = (low, high)
 
-pub if_one : (b : Bool) (from to : ℕ) (e : SortRefusal) → from ≤ key e → key e < to → Ordered from (fault_if b e) to
+pub if_one : (b : Bool) (from to : ℕ) (e : SortRefusal) → from < key e → key e ≤ to → Ordered from (fault_if b e) to
 if_one true from to e low high = one from to e low high
 if_one false from to e low high = none from to (omega arith)
 
@@ -68,14 +68,14 @@ sort_ordered : (at : ℕ) (sort : Sort) (known : Option SortedTerm) → Ordered 
 sort_ordered at sort None = one _ _ (Unknown at) (omega arith) (omega arith)
 sort_ordered at sort (Some k) = if_one (not (same_sort k.sort sort)) _ _ (WrongSort at) (omega arith) (omega arith)
 
-pub sort_low : (at : ℕ) (sort : Sort) (known : Option SortedTerm) → Ordered (8 * at) (sort_faults at sort known) (8 * at + 5)
+pub sort_low : (at : ℕ) (sort : Sort) (known : Option SortedTerm) → Ordered (8 * at) (sort_faults at sort known) (8 * at + 4)
 sort_low at sort None = one _ _ (Unknown at) (omega arith) (omega arith)
 sort_low at sort (Some k) = if_one (not (same_sort k.sort sort)) _ _ (WrongSort at) (omega arith) (omega arith)
 
 pub ordered_to : (from nearer to : ℕ) (es : List SortRefusal) → Ordered from es nearer → nearer ≤ to → Ordered from es to
 unfolding Ordered
 ordered_to from nearer to [] ordered fits = omega arith
-ordered_to from nearer to (e ∷ es) ordered fits = (ordered.0, ordered_to (key e + 1) nearer to es ordered.1 fits)
+ordered_to from nearer to (e ∷ es) ordered fits = (ordered.0, ordered_to (key e) nearer to es ordered.1 fits)
 
 -- between two places
 pub between : (from at to : ℕ) (es : List SortRefusal) → from ≤ at → at < to → Ordered (8 * at) es (8 * at + 8) → Ordered (8 * from) es (8 * to)
@@ -135,7 +135,7 @@ variable_ordered s name =
 
 -- ---- formulas
 
-pub faults_ordered : (place : Place) (s : Scope) (p : RawFormula) (from to : ℕ) → Within from p to → Ordered (8 * from) (faults place s p) (8 * to)
+pub faults_ordered : (place : FormulaPlace) (s : Scope) (p : RawFormula) (from to : ℕ) → Within from p to → Ordered (8 * from) (faults place s p) (8 * to)
 unfolding Within faults TermsWithin
 faults_ordered place s f.True from to within = none _ _ (omega arith)
 faults_ordered place s f.False from to within = none _ _ (omega arith)
@@ -180,15 +180,28 @@ comes_first e d le = record { is = split (at_of e) (at_of d) (rank e) (rank d) (
 all_later : (e : SortRefusal) (from to : ℕ) (es : List SortRefusal) → key e ≤ from → Ordered from es to → All (ComesFirst e) es
 unfolding Ordered
 all_later e from to [] low ordered = All-nil (ComesFirst e)
-all_later e from to (d ∷ es) low ordered = All-cons (ComesFirst e) d es (comes_first e d (omega (arith, ordered.0))) (all_later e (key d + 1) to es (omega (arith, ordered.0)) ordered.1)
+all_later e from to (d ∷ es) low ordered = All-cons (ComesFirst e) d es (comes_first e d (omega (arith, low, ordered.0))) (all_later e (key d) to es (omega (arith, low, ordered.0)) ordered.1)
+
+head_is_least : (e : SortRefusal) (es : List SortRefusal) (to : ℕ) → Ordered (key e) es to → IsLeast (e ∷ es) e
+head_is_least e es to ordered =
+    record { among = (0, omega arith, refl); first = All-cons (ComesFirst e) e es (comes_first e e (omega arith)) (all_later e (key e) to es (omega arith) ordered) }
 
 pub least : (es : List SortRefusal) (e : SortRefusal) (from to : ℕ) → Ordered from es to → head es ≡ Some e → IsLeast es e
 unfolding Ordered
 least [] e from to ordered is = absurd cc
 least (d ∷ es) e from to ordered is =
     let same : d ≡ e = cc in
-    rw (← same) (record { among = (0, omega arith, refl); first = All-cons (ComesFirst d) d es (comes_first d d (omega arith)) (all_later d (key d + 1) to es (omega arith) ordered.1) })
+    rw (← same) (head_is_least d es to ordered.1)
+
+above_none : (from : ℕ) (e : SortRefusal) → from < key e → e ≡ Memory → ⊥
+above_none from e low is = let low' : from < key Memory = subst (λ (x : SortRefusal). from < key x) is low in omega arith
+
+-- there is no fault, or a least one, which is not want of memory
+pub none_or_least : (from to : ℕ) (es : List SortRefusal) → Ordered from es to → (es ≡ []) ⊎ ((e : SortRefusal) × IsLeast es e × (e ≡ Memory → ⊥))
+unfolding Ordered
+none_or_least from to [] ordered = inl refl
+none_or_least from to (e ∷ es) ordered = inr (e, head_is_least e es to ordered.1, above_none from e ordered.0)
 
 -- where the places rise, the first fault is the refusal to answer
-pub first_is_least : (place : Place) (s : Scope) (p : RawFormula) (from to : ℕ) → Within from p to → (e : SortRefusal) → IsFirst (faults place s p) e → (e ≡ Memory) ⊎ IsLeast (faults place s p) e
+pub first_is_least : (place : FormulaPlace) (s : Scope) (p : RawFormula) (from to : ℕ) → Within from p to → (e : SortRefusal) → IsFirst (faults place s p) e → (e ≡ Memory) ⊎ IsLeast (faults place s p) e
 first_is_least place s p from to within e first = elim first.is [ inl memory ↦ inl memory | inr is ↦ inr (least (faults place s p) e _ _ (faults_ordered place s p from to within) is) ]

@@ -1,7 +1,7 @@
 -- The faults of commands and items stand in the order of refusals.
 use Rattle.std.proofs.Common.{◌≡◌, ◌⊎◌, ℕ, ◌+◌, ◌*◌, Bool, not, ◌==◌, List, [], ◌∷◌, ◌++◌, length, is_some, nat_le, nat_lt, inl, inr, arith}
 use Rattle.csdn_core.specs.Same.{same_term}
-use Rattle.csdn_core.specs.declared.terms.Place.TheVariants.{Handler as InHandler}
+use Rattle.csdn_core.specs.declared.terms.FormulaPlace.TheVariants.{Handler as InHandler}
 use Rattle.csdn_core.specs.declared.terms.Sort.{Sort}
 use Rattle.csdn_core.specs.declared.terms.Sort.TheVariants.{Sw, Ho, Pr}
 use Rattle.csdn_core.specs.declared.terms.Term.{Term}
@@ -29,7 +29,7 @@ use Rattle.csdn_types.specs.Faults.{fault_if, term_faults, variable_faults, faul
 use Rattle.csdn_types.specs.Commands.{own_faults, command_faults, later}
 use Rattle.csdn_tree.specs.Binders.{command_binders}
 use Rattle.csdn_types.specs.Items.{row_faults, rows_faults, name_faults, ingress_faults, own_of, inside}
-use Rattle.csdn_types.specs.Programs.{Draft, place_of as kind_place, invariant_faults, item_faults, with_item, items_faults}
+use Rattle.csdn_types.specs.Programs.{ProgramDraft, place_of as kind_place, invariant_faults, item_faults, with_item, items_faults}
 use Rattle.csdn_types.specs.Order.{IsLeast}
 use Rattle.csdn_tree.specs.Within.{TermsWithin, CommandWithin, RowsWithin, port_place, ItemWithin, ItemsWithin}
 use Rattle.csdn_types.proofs.InOrder.{Ordered, sort_low, ordered_from, joined, none, if_one, between, then_later, term_ordered, terms_ordered, atom_ordered, variable_ordered, faults_ordered, least}
@@ -37,12 +37,12 @@ use Rattle.csdn_types.proofs.InOrder.{Ordered, sort_low, ordered_from, joined, n
 -- ---- commands
 
 -- what `term_faults` may hold stands below NotAllowed
-term_low : (s : Scope) (sort : Sort) (t : RawTerm) → Ordered (8 * place_of t) (term_faults s sort t) (8 * place_of t + 5)
+term_low : (s : Scope) (sort : Sort) (t : RawTerm) → Ordered (8 * place_of t) (term_faults s sort t) (8 * place_of t + 4)
 term_low s sort t = sort_low (place_of t) sort (meaning s t)
 
 own_ordered : (s : Scope) (sort : Sort) (own : Term) (t : RawTerm) → Ordered (8 * place_of t) (own_faults s sort own t) (8 * place_of t + 8)
 own_ordered s sort own t =
-    joined _ (8 * place_of t + 5) _ (term_faults s sort t) _ (term_low s sort t) (if_one (not (same_term (term_of s t) own)) _ _ (NotAllowed (place_of t)) (omega arith) (omega arith))
+    joined _ (8 * place_of t + 4) _ (term_faults s sort t) _ (term_low s sort t) (if_one (not (same_term (term_of s t) own)) _ _ (NotAllowed (place_of t)) (omega arith) (omega arith))
 
 module _ (own : OwnTerms) where
   command_ordered : (s : Scope) (x : RawCommand) (from to : ℕ) → CommandWithin from x to → Ordered (8 * from) (command_faults own s x) (8 * to)
@@ -110,7 +110,7 @@ ingress_ordered : (s : Scope) (port : RawPattern) → Ordered (8 * port_place po
 ingress_ordered s (AnyPort n) = variable_ordered s n
 ingress_ordered s (OnePort k) = none _ _ (omega arith)
 
-item_ordered : (d : Draft) (item : RawItem) (from to : ℕ) → ItemWithin from item to → Ordered (8 * from) (item_faults d item) (8 * to)
+item_ordered : (d : ProgramDraft) (item : RawItem) (from to : ℕ) → ItemWithin from item to → Ordered (8 * from) (item_faults d item) (8 * to)
 item_ordered d (Relation r) from to within = then_later from r.name.at to (name_faults d.scope r) _ within.0 (name_ordered d.scope r) (rows_ordered d.scope r.sorts 0 r.rows (r.name.at + 1) to within.1)
 item_ordered d (Constant name sort) from to within = between from name.at to _ within.0 within.1 (two_ordered _ _ name.at)
 item_ordered d (Invariant kind name p) from to within = then_later from name.at to (invariant_faults d name) _ within.0 (two_ordered _ _ name.at) (faults_ordered (kind_place kind) d.scope p (name.at + 1) to within.1)
@@ -124,11 +124,11 @@ item_ordered d (Handler h) from to (low, first, second, third, fourth, body) =
     (command_ordered (own_of s h) (inside s h) h.body (port_place h.ingress + 1) to body)))))
 item_ordered d (Timeout t) from to within = between from t.at to _ within.0 within.1 (if_one (is_some d.timeout) _ _ (Duplicate t.at) (omega arith) (omega arith))
 
-pub items_ordered : (d : Draft) (items : List RawItem) (from to : ℕ) → ItemsWithin from items to → Ordered (8 * from) (items_faults d items) (8 * to)
+pub items_ordered : (d : ProgramDraft) (items : List RawItem) (from to : ℕ) → ItemsWithin from items to → Ordered (8 * from) (items_faults d items) (8 * to)
 unfolding ItemsWithin items_faults
 items_ordered d [] from to within = none _ _ (omega (arith, within))
 items_ordered d (item ∷ items) from to (m, here, more) = joined _ (8 * m) _ (item_faults d item) _ (item_ordered d item from m here) (items_ordered (with_item d item) items m to more)
 
 -- where the places rise, the first fault is the refusal to answer
-pub first_is_least : (d : Draft) (items : List RawItem) (from to : ℕ) → ItemsWithin from items to → (e : SortRefusal) → IsFirst (items_faults d items) e → (e ≡ Memory) ⊎ IsLeast (items_faults d items) e
+pub first_is_least : (d : ProgramDraft) (items : List RawItem) (from to : ℕ) → ItemsWithin from items to → (e : SortRefusal) → IsFirst (items_faults d items) e → (e ≡ Memory) ⊎ IsLeast (items_faults d items) e
 first_is_least d items from to within e first = elim first.is [ inl memory ↦ inl memory | inr is ↦ inr (least (items_faults d items) e _ _ (items_ordered d items from to within) is) ]

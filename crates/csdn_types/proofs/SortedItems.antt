@@ -4,8 +4,8 @@ use Rattle.std.specs.List.{AllByRecursion as ByRecursion}
 use Rattle.std.proofs.lemmas.Bool.{cases_Bool, eqb-true}
 use Rattle.std.proofs.lemmas.List.Elements.{All-push, All-append, All-from_recursion}
 use Rattle.general_facts.proofs.Lists.{slice_get-append}
-use Rattle.csdn_core.specs.declared.terms.Place.{Place}
-use Rattle.csdn_core.specs.declared.terms.Place.TheVariants as place
+use Rattle.csdn_core.specs.declared.terms.FormulaPlace.{FormulaPlace}
+use Rattle.csdn_core.specs.declared.terms.FormulaPlace.TheVariants as place
 use Rattle.csdn_core.specs.declared.terms.RelId.{RelId}
 use Rattle.csdn_core.specs.declared.program.Relation.{Relation as AnyRelation}
 use Rattle.csdn_core.specs.declared.program.Invariant.{Invariant as NamedFormula}
@@ -26,7 +26,7 @@ use Rattle.csdn_types.specs.declared.refusal.SortRefusal.TheVariants.{WrongArity
 use Rattle.csdn_types.specs.Scope.{Scope}
 use Rattle.csdn_types.specs.Faults.{fault_if, faults, terms_faults}
 use Rattle.csdn_types.specs.Items.{row_faults, rows_faults, name_faults, row_of, rows_of, handler_of}
-use Rattle.csdn_types.specs.Programs.{Draft, named_formula, invariant_faults, item_faults, with_item, items_faults, with_items}
+use Rattle.csdn_types.specs.Programs.{ProgramDraft, named_formula, invariant_faults, item_faults, with_item, items_faults, with_items}
 use Rattle.csdn_types.specs.Signed.{IsPart}
 use Rattle.csdn_types.proofs.NumeralSorts.{Named, all_left, all_right, terms_named, formula_named, command_named}
 use Rattle.csdn_types.proofs.Sorts.{free_left, free_right, no_fault, scope_none, terms_have, typed_is_sorted}
@@ -38,7 +38,7 @@ pub get-last : {X : Type 0} (xs : List X) (x : X) → slice_get (xs ++ x ∷ [])
 get-last [] x = refl
 get-last (y ∷ xs) x = get-last xs x
 
-part-item : (S : Signature) (d : Draft) (item : RawItem) → IsPart (with_item d item).scope S → IsPart d.scope S
+part-item : (S : Signature) (d : ProgramDraft) (item : RawItem) → IsPart (with_item d item).scope S → IsPart d.scope S
 part-item S d (Relation r) part = record { relations = λ k x is. part.relations k x (slice_get-append d.scope.relations _ k x is); constants = part.constants }
 part-item S d (Constant name sort) part = record { relations = part.relations; constants = λ k x is. part.constants k x (slice_get-append d.scope.constants _ k x is) }
 part-item S d (Invariant Topology name p) part = record { relations = part.relations; constants = part.constants }
@@ -47,13 +47,13 @@ part-item S d (Invariant Trans name p) part = record { relations = part.relation
 part-item S d (Handler h) part = record { relations = part.relations; constants = part.constants }
 part-item S d (Timeout t) part = record { relations = part.relations; constants = part.constants }
 
-part-items : (S : Signature) (d : Draft) (items : List RawItem) → IsPart (with_items d items).scope S → IsPart d.scope S
+part-items : (S : Signature) (d : ProgramDraft) (items : List RawItem) → IsPart (with_items d items).scope S → IsPart d.scope S
 unfolding with_items
 part-items S d [] part = part
 part-items S d (item ∷ items) part = part-item S d item (part-items S (with_item d item) items part)
 
 -- between items no variable is in scope
-none-item : (d : Draft) (item : RawItem) → d.scope.variables ≡ [] → (with_item d item).scope.variables ≡ []
+none-item : (d : ProgramDraft) (item : RawItem) → d.scope.variables ≡ [] → (with_item d item).scope.variables ≡ []
 none-item d (Relation r) none = none
 none-item d (Constant name sort) none = none
 none-item d (Invariant Topology name p) none = none
@@ -65,10 +65,10 @@ none-item d (Timeout t) none = none
 -- ---- the items so far, as parts of a whole program
 
 module _ (P : Parts) where
-  abbrev pub SortedAt : Place → NamedFormula → Type 0
+  abbrev pub SortedAt : FormulaPlace → NamedFormula → Type 0
   SortedAt place v = IsSorted (signature P) place v.formula
 
-  pub record SortedDraft (d : Draft) : Type 0 where
+  pub record SortedDraft (d : ProgramDraft) : Type 0 where
     pub start : All (IsStartRow P) d.start
     pub topology : All (SortedAt place.Topology) d.topology
     pub safety : All (SortedAt place.Safety) d.safety
@@ -88,7 +88,7 @@ module _ (P : Parts) where
         rows_sorted s none part id relation declared stored (count + 1) rows (all_right (Contains P.numerals) (terms_numerals row.terms) (rows_numerals rows) numerals) (free_right (row_faults s relation.sorts count row) _ free),
       )
 
-  sorted-relation : (d : Draft) (r : RawRelation) → d.scope.variables ≡ [] → IsPart (with_item d (Relation r)).scope (signature P) → Named (signature P) (rows_numerals r.rows) → KeepsStatics (Relation r) → item_faults d (Relation r) ≡ [] → All (IsStartRow P) (rows_of d.scope r)
+  sorted-relation : (d : ProgramDraft) (r : RawRelation) → d.scope.variables ≡ [] → IsPart (with_item d (Relation r)).scope (signature P) → Named (signature P) (rows_numerals r.rows) → KeepsStatics (Relation r) → item_faults d (Relation r) ≡ [] → All (IsStartRow P) (rows_of d.scope r)
   sorted-relation d r none part numerals statics free = elim (cases_Bool r.fixed) [
     | inl e ↦ rw (statics e) (λ k x within. absurd (omega (arith, within)))
     | inr e ↦ All-from_recursion (IsStartRow P) (rows_of d.scope r)
@@ -96,12 +96,12 @@ module _ (P : Parts) where
         (part.relations (length d.scope.relations) _ (get-last d.scope.relations _)) e 0 r.rows numerals (free_right (name_faults d.scope r) (rows_faults d.scope r.sorts 0 r.rows) free))
   ]
 
-  sorted-formula : (d : Draft) (at : Place) (name : RawName) (p : RawFormula) → d.scope.variables ≡ [] → IsPart d.scope (signature P) → Named (signature P) (formula_numerals p) → faults at d.scope p ≡ [] → SortedAt at (named_formula d.scope name p)
+  sorted-formula : (d : ProgramDraft) (at : FormulaPlace) (name : RawName) (p : RawFormula) → d.scope.variables ≡ [] → IsPart d.scope (signature P) → Named (signature P) (formula_numerals p) → faults at d.scope p ≡ [] → SortedAt at (named_formula d.scope name p)
   sorted-formula d at name p none part numerals free =
       let fits = typed_is_sorted (signature P) at d.scope no_scope p part (scope_none d.scope none) (formula_named (signature P) p numerals) free in
       record { sorts = fits.0; few = (let room = fits.1 in omega (arith, room)) }
 
-  sorted-item : (d : Draft) (item : RawItem) → d.scope.variables ≡ [] → IsPart (with_item d item).scope (signature P) → Named (signature P) (item_numerals item) → KeepsStatics item → item_faults d item ≡ [] → SortedDraft d → SortedDraft (with_item d item)
+  sorted-item : (d : ProgramDraft) (item : RawItem) → d.scope.variables ≡ [] → IsPart (with_item d item).scope (signature P) → Named (signature P) (item_numerals item) → KeepsStatics item → item_faults d item ≡ [] → SortedDraft d → SortedDraft (with_item d item)
   sorted-item d (Relation r) none part numerals statics free h = record {
     start = All-append (IsStartRow P) d.start (rows_of d.scope r) h.start (sorted-relation d r none part numerals statics free);
     topology = h.topology;
@@ -141,7 +141,7 @@ module _ (P : Parts) where
   }
   sorted-item d (Timeout t) none part numerals statics free h = record { start = h.start; topology = h.topology; safety = h.safety; trans = h.trans; handlers = h.handlers }
 
-  pub sorted-items : (d : Draft) (items : List RawItem) → d.scope.variables ≡ [] → IsPart (with_items d items).scope (signature P) → Named (signature P) (items_numerals items) → ByRecursion KeepsStatics items → items_faults d items ≡ [] → SortedDraft d → SortedDraft (with_items d items)
+  pub sorted-items : (d : ProgramDraft) (items : List RawItem) → d.scope.variables ≡ [] → IsPart (with_items d items).scope (signature P) → Named (signature P) (items_numerals items) → ByRecursion KeepsStatics items → items_faults d items ≡ [] → SortedDraft d → SortedDraft (with_items d items)
   unfolding with_items items_faults
   sorted-items d [] none part numerals statics free h = h
   sorted-items d (item ∷ items) none part numerals statics free h =
@@ -149,7 +149,7 @@ module _ (P : Parts) where
       (sorted-item d item none (part-items (signature P) (with_item d item) items part) (all_left (Contains P.numerals) (item_numerals item) (items_numerals items) numerals) statics.0 (free_left (item_faults d item) (items_faults (with_item d item) items) free) h)
 
 -- the timeout of items is that of the text
-timeout-item : (d : Draft) (item : RawItem) → HasSeconds item → IsTimeout d.timeout → IsTimeout (with_item d item).timeout
+timeout-item : (d : ProgramDraft) (item : RawItem) → HasSeconds item → IsTimeout d.timeout → IsTimeout (with_item d item).timeout
 timeout-item d (Relation r) is h = h
 timeout-item d (Constant name sort) is h = h
 timeout-item d (Invariant Topology name p) is h = h
@@ -158,7 +158,7 @@ timeout-item d (Invariant Trans name p) is h = h
 timeout-item d (Handler x) is h = h
 timeout-item d (Timeout t) is h = is
 
-pub timeout-items : (d : Draft) (items : List RawItem) → ByRecursion HasSeconds items → IsTimeout d.timeout → IsTimeout (with_items d items).timeout
+pub timeout-items : (d : ProgramDraft) (items : List RawItem) → ByRecursion HasSeconds items → IsTimeout d.timeout → IsTimeout (with_items d items).timeout
 unfolding with_items
 timeout-items d [] are h = h
 timeout-items d (item ∷ items) are h = timeout-items (with_item d item) items are.1 (timeout-item d item are.0 h)

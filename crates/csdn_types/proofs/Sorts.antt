@@ -6,8 +6,8 @@ use Rattle.std.proofs.lemmas.List.Elements.{Contains-append_right}
 use Rattle.std.specs.Str.{bytes_eq}
 use Rattle.csdn_core.specs.Same.{same_sort}
 use Rattle.csdn_core.proofs.Same.{same_sort-is}
-use Rattle.csdn_core.specs.declared.terms.Place.{Place}
-use Rattle.csdn_core.specs.declared.terms.Place.TheVariants.{Topology, Safety, Trans, Handler}
+use Rattle.csdn_core.specs.declared.terms.FormulaPlace.{FormulaPlace}
+use Rattle.csdn_core.specs.declared.terms.FormulaPlace.TheVariants.{Topology, Safety, Trans, Handler}
 use Rattle.csdn_core.specs.declared.terms.Sort.{Sort}
 use Rattle.csdn_core.specs.declared.terms.Sort.TheVariants.{Sw, Ho, Pr}
 use Rattle.csdn_core.specs.declared.terms.Term.TheVariants.{Var, Const, Port as PortTerm}
@@ -129,7 +129,7 @@ pub below : (m n : ℕ) (e : SortRefusal) → fault_if (nat_le m n) e ≡ [] →
 below m n e free = let b = fault_free (nat_le m n) e free in grind (arith, nat_tests)
 
 -- a declared relation, with its faults
-pub use_is_atom : (place : Place) (s : Scope) (S : Signature) (Γ : SortedScope) → IsPart s S → IsScopeOf s Γ → (at : ℕ) (ts : List RawTerm) (id : ℕ) (d : Option Relation) → slice_get s.relations id ≡ d → HaveNumerals S ts → use_faults (InFormula place) s at ts d ≡ [] → IsAtomIn S Γ (pred.Stored (record { 0 = id })) (terms_of s ts) × IsAllowed S place (pred.Stored (record { 0 = id }))
+pub use_is_atom : (place : FormulaPlace) (s : Scope) (S : Signature) (Γ : SortedScope) → IsPart s S → IsScopeOf s Γ → (at : ℕ) (ts : List RawTerm) (id : ℕ) (d : Option Relation) → slice_get s.relations id ≡ d → HaveNumerals S ts → use_faults (InFormula place) s at ts d ≡ [] → IsAtomIn S Γ (pred.Stored (record { 0 = id })) (terms_of s ts) × IsAllowed S place (pred.Stored (record { 0 = id }))
 use_is_atom place s S Γ part scope at ts id None is numerals free = absurd cc
 use_is_atom place s S Γ part scope at ts id (Some d) is numerals free =
     let arity = fault_if (not (length ts == length d.sorts)) (WrongArity at) in
@@ -145,13 +145,13 @@ use_is_atom place s S Γ part scope at ts id (Some d) is numerals free =
     is_static true no_more = refl
     is_static false no_more = absurd cc
 
-    atom_allowed : (place : Place) (d : Relation) (id : ℕ) → slice_get S.relations id ≡ Some d → stands_outside place d ≡ false → IsAllowed S place (pred.Stored (record { 0 = id }))
+    atom_allowed : (place : FormulaPlace) (d : Relation) (id : ℕ) → slice_get S.relations id ≡ Some d → stands_outside place d ≡ false → IsAllowed S place (pred.Stored (record { 0 = id }))
     atom_allowed Topology d id stands inside = rw stands (ap (λ b. Some b) (is_static d.fixed inside))
     atom_allowed Safety d id stands inside = tt
     atom_allowed Trans d id stands inside = tt
     atom_allowed Handler d id stands inside = tt
 
-relation_is_atom : (place : Place) (s : Scope) (S : Signature) (Γ : SortedScope) → IsPart s S → IsScopeOf s Γ → (at : ℕ) (ts : List RawTerm) (id : Option ℕ) → HaveNumerals S ts → relation_faults (InFormula place) s at ts id ≡ [] → IsAtomIn S Γ (stored (unwrap_or id 0)) (terms_of s ts) × IsAllowed S place (stored (unwrap_or id 0))
+relation_is_atom : (place : FormulaPlace) (s : Scope) (S : Signature) (Γ : SortedScope) → IsPart s S → IsScopeOf s Γ → (at : ℕ) (ts : List RawTerm) (id : Option ℕ) → HaveNumerals S ts → relation_faults (InFormula place) s at ts id ≡ [] → IsAtomIn S Γ (stored (unwrap_or id 0)) (terms_of s ts) × IsAllowed S place (stored (unwrap_or id 0))
 relation_is_atom place s S Γ part scope at ts None numerals free = absurd cc
 relation_is_atom place s S Γ part scope at ts (Some id) numerals free = use_is_atom place s S Γ part scope at ts id (slice_get s.relations id) refl numerals free
 
@@ -195,7 +195,7 @@ packet_have s S Γ part scope w numerals first free =
       ),
     )
 
-word_sorted : (S : Signature) (place : Place) (word : FlowWord) → word_is_outside place word ≡ false → (sorts_of S (pred_of word) ≡ Some flow_sorts) × IsAllowed S place (pred_of word)
+word_sorted : (S : Signature) (place : FormulaPlace) (word : FlowWord) → word_is_outside place word ≡ false → (sorts_of S (pred_of word) ≡ Some flow_sorts) × IsAllowed S place (pred_of word)
 word_sorted S Topology word inside = absurd cc
 word_sorted S Handler Ft inside = (refl, tt)
 word_sorted S Handler Sent inside = absurd cc
@@ -204,7 +204,7 @@ word_sorted S Safety Sent inside = (refl, tt)
 word_sorted S Trans Ft inside = (refl, tt)
 word_sorted S Trans Sent inside = (refl, tt)
 
-packet_allowed : (S : Signature) (place : Place) → packet_is_outside place ≡ false → IsAllowed S place pred.RcvThis
+packet_allowed : (S : Signature) (place : FormulaPlace) → packet_is_outside place ≡ false → IsAllowed S place pred.RcvThis
 packet_allowed S Topology inside = absurd cc
 packet_allowed S Safety inside = absurd cc
 packet_allowed S Handler inside = absurd cc
@@ -252,13 +252,13 @@ pub none_bound : (s : Scope) (Γ : SortedScope) → IsScopeOf s Γ → length s.
 none_bound s Γ scope = let few = scope.few in omega (arith, few)
 
 -- well-sorted in the scope, with room for the variables that it binds
-abbrev pub Fits : Signature → Place → Scope → SortedScope → Formula → Type 0
+abbrev pub Fits : Signature → FormulaPlace → Scope → SortedScope → Formula → Type 0
 Fits S place s Γ q = IsSortedIn S (IsAllowed S place) Γ q × (length s.variables + depth q ≤ most_variables)
 
 both : {A B : Type 0} (n a b : ℕ) → A × (n + a ≤ most_variables) → B × (n + b ≤ most_variables) → (A × B) × (n + max a b ≤ most_variables)
 both n a b left right = ((left.0, right.0), greater n a b left.1 right.1)
 
-pub typed_is_sorted : (S : Signature) (place : Place) (s : Scope) (Γ : SortedScope) (p : RawFormula) → IsPart s S → IsScopeOf s Γ → FormulaNumerals S p → faults place s p ≡ [] → Fits S place s Γ (typed s p)
+pub typed_is_sorted : (S : Signature) (place : FormulaPlace) (s : Scope) (Γ : SortedScope) (p : RawFormula) → IsPart s S → IsScopeOf s Γ → FormulaNumerals S p → faults place s p ≡ [] → Fits S place s Γ (typed s p)
 unfolding FormulaNumerals faults typed IsSortedIn depth
 typed_is_sorted S place s Γ f.True part scope numerals free = (tt, none_bound s Γ scope)
 typed_is_sorted S place s Γ f.False part scope numerals free = (tt, none_bound s Γ scope)

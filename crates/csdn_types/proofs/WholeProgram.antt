@@ -15,7 +15,7 @@ use Rattle.csdn_tree.specs.declared.syntax.RawProgram.{RawProgram}
 use Rattle.csdn_tree.specs.FromText.{IsFromText, KeepsStatics, HasSeconds, items_names}
 use Rattle.csdn_tree.specs.Numerals.{items_numerals}
 use Rattle.csdn_types.specs.Numerals.{with_numerals}
-use Rattle.csdn_types.specs.Programs.{Draft, items_faults, with_items}
+use Rattle.csdn_types.specs.Programs.{ProgramDraft, items_faults, with_items}
 use Rattle.csdn_types.specs.Resolved.{nothing_declared, broken_rules, parts_of_draft, parts_of}
 use Rattle.csdn_types.specs.Signed.{counted}
 use Rattle.csdn_types.proofs.Counts.{passes-true, passes-false, times, times-nil, times-append, times-filter, times-every, times-apart, times-All, times-Contains, Contains-times}
@@ -78,7 +78,7 @@ nothing_numbered q = refl
 -- ---- the whole
 
 module _ (raw : RawProgram) (from : IsFromText raw) (free : broken_rules raw ≡ []) where
-  abbrev whole : Draft
+  abbrev whole : ProgramDraft
   whole = with_items nothing_declared raw.items
 
   abbrev parts : Parts
@@ -155,7 +155,7 @@ module _ (raw : RawProgram) (from : IsFromText raw) (free : broken_rules raw ≡
   }
 
 -- .. as they are made of the items so far
-pub sealed : (raw : RawProgram) → IsFromText raw → (P : Parts) (ns : List ℕ) (start d : Draft) (xs ys : List RawItem) → start ≡ nothing_declared → xs ≡ raw.items → ys ≡ raw.items → items_faults start xs ≡ [] → d ≡ with_items start xs → ns ≡ with_numerals [] (items_numerals ys) → P ≡ parts_of_draft ns d → IsWellSorted P
+pub sealed : (raw : RawProgram) → IsFromText raw → (P : Parts) (ns : List ℕ) (start d : ProgramDraft) (xs ys : List RawItem) → start ≡ nothing_declared → xs ≡ raw.items → ys ≡ raw.items → items_faults start xs ≡ [] → d ≡ with_items start xs → ns ≡ with_numerals [] (items_numerals ys) → P ≡ parts_of_draft ns d → IsWellSorted P
 sealed raw from P ns start d xs ys empty first second free drafted listed made =
     let broken : broken_rules raw ≡ [] = ap₂ items_faults (sym empty) (sym first) ∙ free in
     let numerals : ns ≡ with_numerals [] (items_numerals raw.items) = listed ∙ ap (λ zs. with_numerals [] (items_numerals zs)) second in

@@ -1,6 +1,6 @@
 -- The clauses of commands, at what the code sees.
 use Rattle.std.specs.Prelude.{◌≡◌, ◌+◌, List, [], ◌∷◌, ◌++◌, refl}
-use Rattle.csdn_core.specs.declared.terms.Place.TheVariants.{Handler as InHandler}
+use Rattle.csdn_core.specs.declared.terms.FormulaPlace.TheVariants.{Handler as InHandler}
 use Rattle.csdn_core.specs.declared.terms.Sort.{Sort}
 use Rattle.csdn_core.specs.declared.syntax.Command.TheVariants as command
 use Rattle.csdn_tree.specs.declared.names.RawName.{RawName}

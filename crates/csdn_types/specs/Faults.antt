@@ -1,7 +1,7 @@
 -- The rules on names and sorts: what is broken, and where, in the order of the text.
 use Rattle.std.specs.Prelude.{ℕ, ◌==◌, nat_le, Bool, true, false, not, List, [], ◌∷◌, ◌++◌, length, Option, Some, None, is_some, slice_get}
-use Rattle.csdn_core.specs.declared.terms.Place.{Place}
-use Rattle.csdn_core.specs.declared.terms.Place.TheVariants.{Topology, Trans, Handler}
+use Rattle.csdn_core.specs.declared.terms.FormulaPlace.{FormulaPlace}
+use Rattle.csdn_core.specs.declared.terms.FormulaPlace.TheVariants.{Topology, Trans, Handler}
 use Rattle.csdn_core.specs.declared.terms.Sort.{Sort}
 use Rattle.csdn_core.specs.declared.terms.Sort.TheVariants.{Sw, Ho, Pr}
 use Rattle.csdn_core.specs.declared.program.Relation.{Relation}
@@ -62,16 +62,16 @@ same_faults s t u = known_faults (place_of t) (meaning s t) ++ right_faults s (m
 -- ---- atoms
 
 -- a `rel` in a topology invariant
-abbrev pub stands_outside : Place → Relation → Bool
+abbrev pub stands_outside : FormulaPlace → Relation → Bool
 stands_outside Topology d = not d.fixed
 stands_outside _ d = false
 
-abbrev pub word_is_outside : Place → FlowWord → Bool
+abbrev pub word_is_outside : FormulaPlace → FlowWord → Bool
 word_is_outside Topology word = true
 word_is_outside Handler Sent = true
 word_is_outside _ word = false
 
-abbrev pub packet_is_outside : Place → Bool
+abbrev pub packet_is_outside : FormulaPlace → Bool
 packet_is_outside Trans = false
 packet_is_outside _ = true
 
@@ -109,7 +109,7 @@ variable_faults s name =
 
 -- ---- formulas
 
-unfoldable pub faults : Place → Scope → RawFormula → List SortRefusal
+unfoldable pub faults : FormulaPlace → Scope → RawFormula → List SortRefusal
 faults place s f.True = []
 faults place s f.False = []
 faults place s (f.Atom name ts) = atom_faults (InFormula place) s name ts

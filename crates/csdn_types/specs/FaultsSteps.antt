@@ -1,6 +1,6 @@
 -- The clauses of the rules on formulas, at what the code sees.
 use Rattle.std.specs.Prelude.{◌≡◌, ℕ, List, [], ◌++◌, refl}
-use Rattle.csdn_core.specs.declared.terms.Place.{Place}
+use Rattle.csdn_core.specs.declared.terms.FormulaPlace.{FormulaPlace}
 use Rattle.csdn_core.specs.declared.terms.Sort.{Sort}
 use Rattle.csdn_core.specs.declared.terms.Sort.TheVariants.{Sw}
 use Rattle.csdn_tree.specs.declared.names.RawName.{RawName}
@@ -18,55 +18,55 @@ use Rattle.csdn_types.specs.Scope.{Scope, bound}
 use Rattle.csdn_types.specs.Typed.{after}
 use Rattle.csdn_types.specs.Faults.{faults, fault_if, atom_faults, same_faults, term_faults, flow_faults, packet_faults, variable_faults, word_is_outside, packet_is_outside}
 
-pub faults-True : (place : Place) (s : Scope) → faults place s f.True ≡ []
+pub faults-True : (place : FormulaPlace) (s : Scope) → faults place s f.True ≡ []
 unfolding faults
 faults-True place s = refl
 
-pub faults-False : (place : Place) (s : Scope) → faults place s f.False ≡ []
+pub faults-False : (place : FormulaPlace) (s : Scope) → faults place s f.False ≡ []
 unfolding faults
 faults-False place s = refl
 
-pub faults-Atom : (place : Place) (s : Scope) (name : RawName) (ts : List RawTerm) → faults place s (f.Atom name ts) ≡ atom_faults (InFormula place) s name ts
+pub faults-Atom : (place : FormulaPlace) (s : Scope) (name : RawName) (ts : List RawTerm) → faults place s (f.Atom name ts) ≡ atom_faults (InFormula place) s name ts
 unfolding faults
 faults-Atom place s name ts = refl
 
-pub faults-Same : (place : Place) (s : Scope) (t u : RawTerm) → faults place s (f.Same t u) ≡ same_faults s t u
+pub faults-Same : (place : FormulaPlace) (s : Scope) (t u : RawTerm) → faults place s (f.Same t u) ≡ same_faults s t u
 unfolding faults
 faults-Same place s t u = refl
 
-pub faults-Flow : (place : Place) (s : Scope) (at : ℕ) (word : FlowWord) (w : RawFlow) → faults place s (f.Flow at word w) ≡ term_faults s Sw (Name w.switch) ++ (fault_if (word_is_outside place word) (NotAllowed at) ++ flow_faults s w)
+pub faults-Flow : (place : FormulaPlace) (s : Scope) (at : ℕ) (word : FlowWord) (w : RawFlow) → faults place s (f.Flow at word w) ≡ term_faults s Sw (Name w.switch) ++ (fault_if (word_is_outside place word) (NotAllowed at) ++ flow_faults s w)
 unfolding faults
 faults-Flow place s at word w = refl
 
-pub faults-RcvThis : (place : Place) (s : Scope) (at : ℕ) (w : RawPacket) → faults place s (f.RcvThis at w) ≡ term_faults s Sw (Name w.switch) ++ (fault_if (packet_is_outside place) (NotAllowed at) ++ packet_faults s w)
+pub faults-RcvThis : (place : FormulaPlace) (s : Scope) (at : ℕ) (w : RawPacket) → faults place s (f.RcvThis at w) ≡ term_faults s Sw (Name w.switch) ++ (fault_if (packet_is_outside place) (NotAllowed at) ++ packet_faults s w)
 unfolding faults
 faults-RcvThis place s at w = refl
 
-pub faults-Not : (place : Place) (s : Scope) (p : RawFormula) → faults place s (f.Not p) ≡ faults place s p
+pub faults-Not : (place : FormulaPlace) (s : Scope) (p : RawFormula) → faults place s (f.Not p) ≡ faults place s p
 unfolding faults
 faults-Not place s p = rw Not-is
 
-pub faults-And : (place : Place) (s : Scope) (p q : RawFormula) → faults place s (f.And p q) ≡ faults place s p ++ faults place (after s p) q
+pub faults-And : (place : FormulaPlace) (s : Scope) (p q : RawFormula) → faults place s (f.And p q) ≡ faults place s p ++ faults place (after s p) q
 unfolding faults
 faults-And place s p q = rw And-is
 
-pub faults-Or : (place : Place) (s : Scope) (p q : RawFormula) → faults place s (f.Or p q) ≡ faults place s p ++ faults place (after s p) q
+pub faults-Or : (place : FormulaPlace) (s : Scope) (p q : RawFormula) → faults place s (f.Or p q) ≡ faults place s p ++ faults place (after s p) q
 unfolding faults
 faults-Or place s p q = rw Or-is
 
-pub faults-Implies : (place : Place) (s : Scope) (p q : RawFormula) → faults place s (f.Implies p q) ≡ faults place s p ++ faults place (after s p) q
+pub faults-Implies : (place : FormulaPlace) (s : Scope) (p q : RawFormula) → faults place s (f.Implies p q) ≡ faults place s p ++ faults place (after s p) q
 unfolding faults
 faults-Implies place s p q = rw Implies-is
 
-pub faults-Iff : (place : Place) (s : Scope) (p q : RawFormula) → faults place s (f.Iff p q) ≡ faults place s p ++ faults place (after s p) q
+pub faults-Iff : (place : FormulaPlace) (s : Scope) (p q : RawFormula) → faults place s (f.Iff p q) ≡ faults place s p ++ faults place (after s p) q
 unfolding faults
 faults-Iff place s p q = rw Iff-is
 
-pub faults-Forall : (place : Place) (s : Scope) (name : RawName) (sort : Sort) (p : RawFormula) → faults place s (f.Forall name sort p) ≡ variable_faults s name ++ faults place (bound s name sort) p
+pub faults-Forall : (place : FormulaPlace) (s : Scope) (name : RawName) (sort : Sort) (p : RawFormula) → faults place s (f.Forall name sort p) ≡ variable_faults s name ++ faults place (bound s name sort) p
 unfolding faults
 faults-Forall place s name sort p = rw Forall-is
 
-pub faults-Exists : (place : Place) (s : Scope) (name : RawName) (sort : Sort) (p : RawFormula) → faults place s (f.Exists name sort p) ≡ variable_faults s name ++ faults place (bound s name sort) p
+pub faults-Exists : (place : FormulaPlace) (s : Scope) (name : RawName) (sort : Sort) (p : RawFormula) → faults place s (f.Exists name sort p) ≡ variable_faults s name ++ faults place (bound s name sort) p
 unfolding faults
 faults-Exists place s name sort p = rw Exists-is
 

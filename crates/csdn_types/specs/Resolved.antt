@@ -4,13 +4,13 @@ use Rattle.csdn_core.specs.declared.program.Parts.{Parts}
 use Rattle.csdn_types.specs.declared.refusal.SortRefusal.{SortRefusal}
 use Rattle.csdn_types.specs.declared.refusal.SortRefusal.TheVariants.{Memory}
 use Rattle.csdn_tree.specs.declared.syntax.RawProgram.{RawProgram}
-use Rattle.csdn_types.specs.Programs.{Draft, items_faults, with_items}
+use Rattle.csdn_types.specs.Programs.{ProgramDraft, items_faults, with_items}
 use Rattle.csdn_types.specs.Numerals.{with_numerals}
 use Rattle.csdn_tree.specs.Numerals.{items_numerals}
 use Rattle.csdn_types.specs.Order.{IsLeast}
 
 -- before the first item
-abbrev pub nothing_declared : Draft
+abbrev pub nothing_declared : ProgramDraft
 nothing_declared = record {
   scope = record { relations = []; constants = []; variables = []; next = 0 };
   invariants = [];
@@ -26,7 +26,7 @@ nothing_declared = record {
 abbrev pub broken_rules : RawProgram → List SortRefusal
 broken_rules raw = items_faults nothing_declared raw.items
 
-abbrev pub parts_of_draft : List ℕ → Draft → Parts
+abbrev pub parts_of_draft : List ℕ → ProgramDraft → Parts
 parts_of_draft numerals d = record {
   relations = d.scope.relations;
   constants = d.scope.constants;

@@ -19,7 +19,7 @@ use crate::refusal::SortRefusal;
 use crate::scope::Scope;
 use crate::terms::{named_term, term};
 use csdn_core::syntax::Formula;
-use csdn_core::terms::{MOST_VARIABLES, Place, Pred, Sort, Term, Terms, VarId};
+use csdn_core::terms::{FormulaPlace, MOST_VARIABLES, Pred, Sort, Term, Terms, VarId};
 use csdn_tree::names::RawName;
 use csdn_tree::syntax::{FlowWord, RawFlow, RawFormula, RawPacket};
 use sqlite_items::Boxed;
@@ -102,21 +102,21 @@ pub fn packet(scope: &Scope, switch: Term, raw: &RawPacket) -> Result<Terms, Sor
     Ok(packet_row(switch, source, target, ingress))
 }
 
-fn word_is_outside(place: Place, word: FlowWord) -> bool
+fn word_is_outside(place: FormulaPlace, word: FlowWord) -> bool
     ensures { result ≡ word_outside place word }
 {
     match (place, word) {
-        (Place::Topology, _) => true,
-        (Place::Handler, FlowWord::Sent) => true,
+        (FormulaPlace::Topology, _) => true,
+        (FormulaPlace::Handler, FlowWord::Sent) => true,
         _ => false,
     }
 }
 
-fn packet_is_outside(place: Place) -> bool
+fn packet_is_outside(place: FormulaPlace) -> bool
     ensures { result ≡ packet_outside place }
 {
     match place {
-        Place::Trans => false,
+        FormulaPlace::Trans => false,
         _ => true,
     }
 }
@@ -135,7 +135,7 @@ fn pred(word: FlowWord) -> Pred
 #[tactic(auto, using(crate::proofs::First::first_steps))]
 pub fn flow_atom(
     scope: &Scope,
-    place: Place,
+    place: FormulaPlace,
     at: usize,
     word: FlowWord,
     raw: &RawFlow,
@@ -155,7 +155,7 @@ pub fn flow_atom(
 #[tactic(auto, using(crate::proofs::First::first_steps))]
 pub fn packet_atom(
     scope: &Scope,
-    place: Place,
+    place: FormulaPlace,
     at: usize,
     raw: &RawPacket,
 ) -> Result<Formula, SortRefusal>

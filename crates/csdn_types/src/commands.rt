@@ -2,7 +2,7 @@
 #![tactic(auto, using(crate::proofs::First::first_steps, crate::specs::CommandSteps::command_steps, csdn_tree::specs::NodeSteps::raw_node_steps, csdn_tree::specs::BinderSteps::binder_steps))]
 
 ghost use Rattle.std.specs.Prelude.{◌≡◌, ◌≤◌, ◌<◌, ◌+◌, ◌++◌, OnOk};
-ghost use Rattle.csdn_core.specs.declared.terms.Place.TheVariants.{Handler as InHandler};
+ghost use Rattle.csdn_core.specs.declared.terms.FormulaPlace.TheVariants.{Handler as InHandler};
 ghost use Rattle.csdn_types.specs.Answers.{Answers};
 ghost use Rattle.csdn_types.specs.Faults.{faults, variable_faults};
 ghost use Rattle.csdn_types.specs.Typed.{typed, next_var};
@@ -19,7 +19,7 @@ use crate::refusal::SortRefusal;
 use crate::scope::Scope;
 use crate::terms::{Use, used};
 use csdn_core::syntax::{Command, Formula};
-use csdn_core::terms::{Place, Sort, VarId};
+use csdn_core::terms::{FormulaPlace, Sort, VarId};
 use csdn_tree::names::RawName;
 use csdn_tree::syntax::{RawCommand, RawFormula};
 use sqlite_items::Boxed;
@@ -43,7 +43,7 @@ fn condition(
     ensures answers { Answers (faults InHandler scope.old raw.now) (typed scope.old raw.now) result }
     ensures scope { OnOk result (scope.new ≡ later scope.old (binders raw.now)) }
 {
-    let made = formula(alloc, scope, Place::Handler, raw)?;
+    let made = formula(alloc, scope, FormulaPlace::Handler, raw)?;
     let made = Boxed::new(alloc, made)?;
     Ok(made)
 }

@@ -17,7 +17,7 @@ use crate::refusal::SortRefusal;
 use crate::relations::relation;
 use crate::scope::Scope;
 use csdn_core::program::{Handler, Invariant, Parts, StartRow};
-use csdn_core::terms::{Place, Sort};
+use csdn_core::terms::{FormulaPlace, Sort};
 use csdn_tree::names::RawName;
 use csdn_tree::syntax::{InvariantKind, RawFormula, RawItem, RawTimeout};
 use sqlite_items::Items;
@@ -25,7 +25,7 @@ use std::alloc::Global;
 use std::marker::Model;
 
 /// The items so far. `invariants` are the names of all three kinds.
-pub struct Draft {
+pub struct ProgramDraft {
     pub scope: Scope,
     pub invariants: Names,
     pub start: Items<StartRow>,
@@ -37,9 +37,9 @@ pub struct Draft {
     pub timeout: Option<u16>,
 }
 
-impl Drop for Draft {
+impl Drop for ProgramDraft {
     fn drop(self) {
-        let Draft {
+        let ProgramDraft {
             scope: _scope,
             invariants: _invariants,
             start: _start,
@@ -52,7 +52,7 @@ impl Drop for Draft {
     }
 }
 
-impl Draft {
+impl ProgramDraft {
     ghost use Rattle.csdn_types.specs.Resolved.{parts_of_draft};
     ghost use Rattle.std.specs.Prelude.{◌≡◌};
 
@@ -60,7 +60,7 @@ impl Draft {
     pub fn into_parts(self, numerals: Items<u16>) -> Parts
         ensures { result ≡ parts_of_draft numerals self }
     {
-        let Draft {
+        let ProgramDraft {
             scope,
             invariants: _,
             start,
@@ -85,8 +85,8 @@ impl Draft {
     }
 }
 
-impl Model for Draft {
-    ghost use Rattle.csdn_types.specs.Programs.{Draft as Seen};
+impl Model for ProgramDraft {
+    ghost use Rattle.csdn_types.specs.Programs.{ProgramDraft as Seen};
     ghost use Rattle.csdn_core.specs.contracts.syntax.Formula as formula;
     ghost use Rattle.csdn_core.specs.contracts.syntax.Command as command;
     ghost use Rattle.std.specs.Coded.{codes};
@@ -98,13 +98,13 @@ impl Model for Draft {
     ghost view = { λ d. record { scope = d.scope; invariants = d.invariants; start = d.start; topology = d.topology; safety = d.safety; trans = d.trans; handlers = d.handlers; timeout = d.timeout } };
 }
 
-fn place(kind: InvariantKind) -> Place
+fn place(kind: InvariantKind) -> FormulaPlace
     ensures { result ≡ place_there kind }
 {
     match kind {
-        InvariantKind::Topology => Place::Topology,
-        InvariantKind::Safety => Place::Safety,
-        InvariantKind::Trans => Place::Trans,
+        InvariantKind::Topology => FormulaPlace::Topology,
+        InvariantKind::Safety => FormulaPlace::Safety,
+        InvariantKind::Trans => FormulaPlace::Trans,
     }
 }
 
@@ -125,7 +125,7 @@ fn constant(alloc: Global, scope: &mut Scope, name: &RawName, sort: Sort) -> Res
 
 fn invariant(
     alloc: Global,
-    draft: &mut Draft,
+    draft: &mut ProgramDraft,
     kind: InvariantKind,
     name: &RawName,
     raw: &RawFormula,
@@ -157,7 +157,7 @@ fn invariant(
 }
 
 /// The one timeout of a program.
-fn timeout(draft: &mut Draft, raw: &RawTimeout) -> Result<(), SortRefusal>
+fn timeout(draft: &mut ProgramDraft, raw: &RawTimeout) -> Result<(), SortRefusal>
     ensures passes { Passes (timeout_faults draft.old raw.now) result }
     ensures draft { OnOk result (draft.new ≡ record draft.old { timeout = Some raw.now.seconds }) }
 {
@@ -170,7 +170,7 @@ fn timeout(draft: &mut Draft, raw: &RawTimeout) -> Result<(), SortRefusal>
 
 /// Takes one more item. Refused is the first rule that is broken, at its byte (docs/LANGUAGE.md, "Names, sorts and
 /// limits").
-pub fn item(alloc: Global, draft: &mut Draft, raw: &RawItem) -> Result<(), SortRefusal>
+pub fn item(alloc: Global, draft: &mut ProgramDraft, raw: &RawItem) -> Result<(), SortRefusal>
     requires { draft.old.scope.next + item_binders raw.now ≤ most_numbers }
     ensures passes { Passes (item_faults draft.old raw.now) result }
     ensures draft { OnOk result (draft.new ≡ with_item draft.old raw.now) }
@@ -204,7 +204,7 @@ pub fn item(alloc: Global, draft: &mut Draft, raw: &RawItem) -> Result<(), SortR
 
 /// Takes all items, one after another. Refused is the first rule that is broken, at its byte (docs/LANGUAGE.md, "Names,
 /// sorts and limits").
-pub fn items(alloc: Global, draft: &mut Draft, raw: &[RawItem]) -> Result<(), SortRefusal>
+pub fn items(alloc: Global, draft: &mut ProgramDraft, raw: &[RawItem]) -> Result<(), SortRefusal>
     requires { draft.old.scope.next + items_binders raw.now ≤ most_numbers }
     ensures passes { Passes (items_faults draft.old raw.now) result }
     ensures draft { OnOk result (draft.new ≡ with_items draft.old raw.now) }

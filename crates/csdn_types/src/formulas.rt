@@ -14,7 +14,7 @@ use crate::refusal::SortRefusal;
 use crate::scope::Scope;
 use crate::terms::{Use, same, used};
 use csdn_core::syntax::Formula;
-use csdn_core::terms::{Place, Pred, Sort};
+use csdn_core::terms::{FormulaPlace, Pred, Sort};
 use csdn_tree::names::RawName;
 use csdn_tree::syntax::RawFormula;
 use sqlite_items::Boxed;
@@ -26,7 +26,7 @@ use std::alloc::Global;
 pub fn formula(
     alloc: Global,
     scope: &mut Scope,
-    place: Place,
+    place: FormulaPlace,
     raw: &RawFormula,
 ) -> Result<Formula, SortRefusal>
     requires { scope.old.next + binders raw.now ≤ most_numbers }
@@ -91,7 +91,7 @@ pub fn formula(
 fn boxed(
     alloc: Global,
     scope: &mut Scope,
-    place: Place,
+    place: FormulaPlace,
     raw: &RawFormula,
 ) -> Result<Boxed<Formula>, SortRefusal>
     requires { scope.old.next + binders raw.now ≤ most_numbers }
@@ -108,7 +108,7 @@ fn boxed(
 fn quantified(
     alloc: Global,
     scope: &mut Scope,
-    place: Place,
+    place: FormulaPlace,
     name: &RawName,
     sort: Sort,
     raw: &RawFormula,

@@ -1,6 +1,6 @@
 //! What holds of every tree.
 ghost use Rattle.std.specs.Prelude.{◌≡◌, ◌+◌, ◌≤◌, ℕ, [], length};
-ghost use Rattle.csdn_core.specs.declared.terms.Place.{Place};
+ghost use Rattle.csdn_core.specs.declared.terms.FormulaPlace.{FormulaPlace};
 ghost use Rattle.csdn_core.specs.Sorted.{Signature, IsAllowed, most_variables, bound_in};
 ghost use Rattle.csdn_core.specs.SortedIn.{Scope as SortedScope, IsSortedIn};
 ghost use Rattle.csdn_core.specs.Depth.{depth, command_depth};
@@ -18,7 +18,7 @@ ghost use Rattle.csdn_tree.specs.Binders.{command_binders};
 
 /// A formula that breaks no rule is well-sorted, and with those that it binds no variable too many is in scope.
 pub fn typed_formulas_are_sorted()
-    ensures { (S : Signature) (place : Place) (s : Scope) (scope : SortedScope) (p : RawFormula) → IsPart s S → IsScopeOf s scope → FormulaNumerals S p → faults place s p ≡ [] → IsSortedIn S (IsAllowed S place) scope (typed s p) × (length s.variables + depth (typed s p) ≤ most_variables) }
+    ensures { (S : Signature) (place : FormulaPlace) (s : Scope) (scope : SortedScope) (p : RawFormula) → IsPart s S → IsScopeOf s scope → FormulaNumerals S p → faults place s p ≡ [] → IsSortedIn S (IsAllowed S place) scope (typed s p) × (length s.variables + depth (typed s p) ≤ most_variables) }
 {}
 
 /// The bound variables of a typed formula have the next numbers, each its own.

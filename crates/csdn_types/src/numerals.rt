@@ -249,7 +249,7 @@ fn listed(alloc: Global, set: &BTreeSet<u16>) -> Result<Vec<u16>, AllocError>
 
 impl Numerals {
     /// The numerals, rising.
-    pub fn list(&self, alloc: Global) -> Result<Items<u16>, AllocError>
+    pub fn to_items(&self, alloc: Global) -> Result<Items<u16>, AllocError>
         ensures { IfOk result (λ ns. ns ≡ self.now) }
     {
         let numbers = listed(alloc, &self.set)?;
@@ -263,6 +263,6 @@ pub fn all_numerals(alloc: Global, raw: &[RawItem]) -> Result<Items<u16>, AllocE
 {
     let mut found = Numerals::new(alloc);
     found.items(raw)?;
-    let made = found.list(alloc)?;
+    let made = found.to_items(alloc)?;
     Ok(made)
 }

@@ -3,7 +3,7 @@ ghost use Rattle.std.specs.Prelude.{◌≡◌, MatchResult};
 ghost use Rattle.csdn_tree.specs.FromText.{IsFromText};
 ghost use Rattle.csdn_types.specs.Resolved.{Types, IsRefusal};
 
-use crate::draft::{Draft, items};
+use crate::draft::{ProgramDraft, items};
 use crate::names::Names;
 use crate::numerals::all_numerals;
 use crate::refusal::SortRefusal;
@@ -13,15 +13,15 @@ use csdn_tree::syntax::RawProgram;
 use sqlite_items::Items;
 use std::alloc::Global;
 
-impl Draft {
+impl ProgramDraft {
     ghost use Rattle.csdn_types.specs.Resolved.{nothing_declared};
     ghost use Rattle.std.specs.Prelude.{◌≡◌};
 
     /// No items.
-    pub fn new(alloc: Global) -> Draft
+    pub fn new(alloc: Global) -> ProgramDraft
         ensures { result ≡ nothing_declared }
     {
-        Draft {
+        ProgramDraft {
             scope: Scope::new(alloc),
             invariants: Names::new(alloc),
             start: Items::new(alloc),
@@ -53,7 +53,7 @@ pub fn resolve(alloc: Global, raw: &RawProgram) -> Result<Program, SortRefusal>
     requires { IsFromText raw.now }
     ensures { MatchResult result (Types raw.now) (IsRefusal raw.now) }
 {
-    let mut draft = Draft::new(alloc);
+    let mut draft = ProgramDraft::new(alloc);
     items(alloc, &mut draft, raw.items.as_slice())?;
     let numerals = all_numerals(alloc, raw.items.as_slice())?;
     Ok(Program::seal(draft.into_parts(numerals)))

@@ -11,14 +11,14 @@ ghost use Rattle.csdn_types.specs.Scope.{meaning, relation_named};
 use crate::refusal::SortRefusal;
 use crate::scope::{Scope, SortedTerm};
 use csdn_core::program::Relation;
-use csdn_core::terms::{Place, RelId, Sort, Term, Terms};
+use csdn_core::terms::{FormulaPlace, RelId, Sort, Term, Terms};
 use csdn_tree::names::{RawName, RawTerm};
 
 /// What a relation is used for.
 #[derive(Clone, Copy)]
 pub enum Use {
     /// In a formula at this place of a program.
-    InFormula(Place),
+    InFormula(FormulaPlace),
     /// In `insert` or `remove`.
     Write,
 }
@@ -76,11 +76,11 @@ pub fn terms(scope: &Scope, sorts: &[Sort], raw: &[RawTerm]) -> Result<Terms, So
     Ok(done)
 }
 
-fn stands_outside(place: Place, declaration: &Relation) -> bool
+fn stands_outside(place: FormulaPlace, declaration: &Relation) -> bool
     ensures { result ≡ stands_there place declaration.now }
 {
     match place {
-        Place::Topology => !declaration.fixed,
+        FormulaPlace::Topology => !declaration.fixed,
         _ => false,
     }
 }

@@ -6,8 +6,8 @@ use Rattle.csdn_core.specs.declared.terms.RelId.{RelId}
 use Rattle.csdn_core.specs.declared.terms.Pred.{Pred}
 use Rattle.csdn_core.specs.declared.terms.Pred.TheVariants.{Stored, Ft, Sent, RcvThis}
 use Rattle.csdn_core.specs.declared.terms.Term.{Term}
-use Rattle.csdn_core.specs.declared.terms.Place.{Place}
-use Rattle.csdn_core.specs.declared.terms.Place.TheVariants.{Topology, Safety, Trans, Handler as InHandler}
+use Rattle.csdn_core.specs.declared.terms.FormulaPlace.{FormulaPlace}
+use Rattle.csdn_core.specs.declared.terms.FormulaPlace.TheVariants.{Topology, Safety, Trans, Handler as InHandler}
 use Rattle.csdn_core.specs.declared.program.Parts.{Parts}
 use Rattle.csdn_core.specs.declared.program.Relation.{Relation}
 use Rattle.csdn_core.specs.declared.syntax.Formula.{Formula}
@@ -25,7 +25,7 @@ use Rattle.csdn_core.specs.SortedIn.{Scope, IsAtomIn, IsSortedIn, no_scope, with
 use Rattle.csdn_core.proofs.Scopes.{AreNew, numbers_of, AreNew-binds, AreNew-none}
 
 -- but in transition invariants no formula speaks of the packet
-pub names_no_packet : (S : Signature) (place : Place) → place ≢ Trans → (r : Pred) → IsAllowed S place r → no_rcv_this r
+pub names_no_packet : (S : Signature) (place : FormulaPlace) → place ≢ Trans → (r : Pred) → IsAllowed S place r → no_rcv_this r
 names_no_packet S place other (Stored r) allowed = refl
 names_no_packet S place other Ft allowed = refl
 names_no_packet S place other Sent allowed = refl
@@ -34,7 +34,7 @@ names_no_packet S Safety other RcvThis allowed = absurd allowed
 names_no_packet S InHandler other RcvThis allowed = absurd allowed
 names_no_packet S Trans other RcvThis allowed = absurd (other refl)
 
-pub no_packet_in : (S : Signature) (place : Place) → place ≢ Trans → (Γ : Scope) (p : Formula) → IsSortedIn S (IsAllowed S place) Γ p → IsSortedIn S no_rcv_this Γ p
+pub no_packet_in : (S : Signature) (place : FormulaPlace) → place ≢ Trans → (Γ : Scope) (p : Formula) → IsSortedIn S (IsAllowed S place) Γ p → IsSortedIn S no_rcv_this Γ p
 no_packet_in S place other Γ = IsSortedIn-more S (IsAllowed S place) no_rcv_this (names_no_packet S place other) Γ Γ (λ v s is. is)
 
 module _ (P : Parts) where

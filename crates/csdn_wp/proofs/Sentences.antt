@@ -5,8 +5,8 @@ use Rattle.csdn_core.specs.declared.terms.VarId.{VarId}
 use Rattle.csdn_core.specs.declared.terms.Sort.TheVariants.{Pr}
 use Rattle.csdn_core.specs.declared.terms.Pred.{Pred}
 use Rattle.csdn_core.specs.declared.terms.Pred.TheVariants.{Stored, Ft, Sent, RcvThis}
-use Rattle.csdn_core.specs.declared.terms.Place.{Place}
-use Rattle.csdn_core.specs.declared.terms.Place.TheVariants.{Trans}
+use Rattle.csdn_core.specs.declared.terms.FormulaPlace.{FormulaPlace}
+use Rattle.csdn_core.specs.declared.terms.FormulaPlace.TheVariants.{Trans}
 use Rattle.csdn_core.specs.declared.event.Packet.{Packet}
 use Rattle.csdn_core.specs.declared.event.Packet.TheVariants.{Nothing}
 use Rattle.csdn_core.specs.declared.program.Parts.{Parts}
@@ -114,7 +114,7 @@ module _ (P : Parts) (well : IsWellSorted P) where
 
 -- ---- sentences of programs
 
-module _ (P : Parts) (F : Formula) (place : Place) (sorted : IsSorted (signature P) place F) where
+module _ (P : Parts) (F : Formula) (place : FormulaPlace) (sorted : IsSorted (signature P) place F) where
   pub sentence_in : IsSortedIn (signature P) any_relation no_scope F
   sentence_in = IsSortedIn-more (signature P) (IsAllowed (signature P) place) any_relation (λ r allowed. tt) no_scope no_scope (λ v s is. is) F sorted.sorts
 

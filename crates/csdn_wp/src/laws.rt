@@ -1,7 +1,7 @@
 //! What weakest preconditions are true of.
 ghost use Rattle.std.specs.Prelude.{◌≡◌, ◌≢◌, ℕ, ◌↔◌, List, IsTrue, IsFalse, is_some};
-ghost use Rattle.csdn_core.specs.declared.terms.Place.{Place as AnyPlace};
-ghost use Rattle.csdn_core.specs.declared.terms.Place.TheVariants.{Trans};
+ghost use Rattle.csdn_core.specs.declared.terms.FormulaPlace.{FormulaPlace};
+ghost use Rattle.csdn_core.specs.declared.terms.FormulaPlace.TheVariants.{Trans};
 ghost use Rattle.csdn_core.specs.declared.event.Packet.{Packet as AnyPacket};
 ghost use Rattle.csdn_core.specs.Variables.{free_in};
 ghost use Rattle.csdn_core.specs.declared.event.Event.TheVariants.{PktIn, PktFlow, Expire};
@@ -57,8 +57,8 @@ pub fn wp_expire_is_exact()
 
 /// What may stand as an invariant is a well-sorted sentence; outside of transition invariants it doesn't speak of the packet.
 pub fn invariants_are_sentences()
-    ensures any { (P : AnyParts) (F : AnyFormula) (place : AnyPlace) → IsSorted (signature P) place F → IsSortedIn (signature P) any_relation no_scope F }
-    ensures quiet { (P : AnyParts) (F : AnyFormula) (place : AnyPlace) → IsSorted (signature P) place F → place ≢ Trans → IsSortedIn (signature P) no_rcv_this no_scope F }
+    ensures any { (P : AnyParts) (F : AnyFormula) (place : FormulaPlace) → IsSorted (signature P) place F → IsSortedIn (signature P) any_relation no_scope F }
+    ensures quiet { (P : AnyParts) (F : AnyFormula) (place : FormulaPlace) → IsSorted (signature P) place F → place ≢ Trans → IsSortedIn (signature P) no_rcv_this no_scope F }
 {}
 
 /// No variable is free in a well-sorted sentence. One that doesn't speak of the packet is one of any kind, so that its own

@@ -4,9 +4,9 @@ use Rattle.text_lines.specs.Machine.{reading}
 use Rattle.csdn_core.specs.declared.program.Parts.{Parts}
 use Rattle.csdn_tree.specs.declared.syntax.RawProgram.{RawProgram}
 use Rattle.net_structs.specs.declared.case.Case.{Case}
-use Rattle.net_text.specs.declared.refusal.Why.{Why as NetWhy}
+use Rattle.net_text.specs.declared.refusal.NetWhy.{NetWhy}
 use Rattle.net_text.specs.NetText.{net_format}
-use Rattle.net_listing.specs.Listings.{refused_text as net_refused_text}
+use Rattle.net_listing.specs.Listings.{network_refusal_text}
 use Rattle.journal_text.specs.declared.note.Note.{Note}
 use Rattle.journal_text.specs.JournalText.{journal_format}
 use Rattle.csdn_read.specs.declared.refusal.ProgramWhy.{ProgramWhy}
@@ -30,7 +30,7 @@ IsCase P bytes kase = reading (net_format P) bytes ≡ Ok kase
 
 -- they have a bad line
 abbrev pub IsNotCase : Parts → List ℕ → List ℕ → List ℕ → Type 0
-IsNotCase P name bytes text = (line : ℕ) × (why : NetWhy) × (reading (net_format P) bytes ≡ Err (record { number = line; reason = why })) × (text ≡ net_refused_text name line why)
+IsNotCase P name bytes text = (line : ℕ) × (why : NetWhy) × (reading (net_format P) bytes ≡ Err (record { number = line; reason = why })) × (text ≡ network_refusal_text name line why)
 
 -- the bytes are the notes
 abbrev pub AreNotes : List ℕ → List Note → Type 0

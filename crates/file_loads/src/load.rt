@@ -6,7 +6,7 @@ ghost use Rattle.file_loads.specs.Lines.{Says};
 ghost use Rattle.file_loads.specs.Views.{OnlyReads, change_of};
 ghost use Rattle.file_loads.specs.Loads.{IsNotProgram, IsCase, IsNotCase, AreNotes, AreNotNotes};
 ghost use Rattle.file_loads.specs.Gives.{Gives, Reads};
-ghost use Rattle.net_listing.specs.Listings.{refused_text as net_refused_text};
+ghost use Rattle.net_listing.specs.Listings.{network_refusal_text};
 
 use crate::lines::{refused, refused_line};
 use crate::outcome::{Outcome, Status};
@@ -15,9 +15,9 @@ use csdn_core::program::Program;
 use csdn_read::{ProgramRefusal, read_program, read_tree};
 use csdn_tree::syntax::RawProgram;
 use journal_text::{JournalRefusal, Notes, read_journal};
-use net_listing::refused as net_refused;
+use net_listing::network_refusal_line;
 use net_structs::case::Case;
-use net_text::{NetTextRefusal, Why, read_net};
+use net_text::{NetTextRefusal, NetWhy, read_net};
 use std::alloc::{AllocError, Global};
 use vericon_edge::files::Files;
 
@@ -80,10 +80,10 @@ pub fn load_tree<F: Files>(
 }
 
 /// `NET refused line N: WHY`
-fn bad_line(alloc: Global, net: &str, number: u64, why: Why) -> Result<Outcome, AllocError>
-    ensures { IfOk result (Says (net_refused_text net.now number why) 3) }
+fn bad_line(alloc: Global, net: &str, number: u64, why: NetWhy) -> Result<Outcome, AllocError>
+    ensures { IfOk result (Says (network_refusal_text net.now number why) 3) }
 {
-    let text = net_refused(alloc, net.as_bytes(), number, why)?;
+    let text = network_refusal_line(alloc, net.as_bytes(), number, why)?;
     Ok(Outcome {
         text,
         status: Status::Refused,

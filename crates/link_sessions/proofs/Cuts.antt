@@ -11,8 +11,8 @@ use Rattle.of10_session.specs.Sessions.{spelled}
 use Rattle.of10_speech.specs.declared.speaking.Spoken.{Spoken}
 use Rattle.of10_speech.specs.declared.stops.Broken.{Broken}
 use Rattle.of10_speech.specs.declared.stops.Broken.TheVariants.{Full, Memory}
-use Rattle.of10_speech.specs.declared.stops.Stop.{Stop}
-use Rattle.of10_speech.specs.declared.stops.Stop.TheVariants.{Goes, Waits, Ends}
+use Rattle.of10_speech.specs.declared.stops.SpeechStop.{SpeechStop}
+use Rattle.of10_speech.specs.declared.stops.SpeechStop.TheVariants.{Goes, Waits, Ends}
 use Rattle.of10_speech.specs.Speeches.{Told, Further, Speech, opening, IsSpoken, IsBeginning}
 use Rattle.of10_speech.specs.Hearings.{Following, IsAnswer, Awaits, HasAsked}
 use Rattle.of10_speech.proofs.Ends.{one_spoken}
@@ -73,7 +73,7 @@ cut_waiting t number bytes now few h y spoken =
     }
 
 -- whatever came of a piece
-pub cut_piece : (t : Told) (number : ℕ) (bytes : List ℕ) (f : Framing) (s : Progress) (now : List ℕ) (result : Result Stop Broken) → AfterPiece t number bytes f s now result → CutOff t number bytes now s.ignored
+pub cut_piece : (t : Told) (number : ℕ) (bytes : List ℕ) (f : Framing) (s : Progress) (now : List ℕ) (result : Result SpeechStop Broken) → AfterPiece t number bytes f s now result → CutOff t number bytes now s.ignored
 cut_piece t number bytes f s now (Ok Goes) h = cut_following t t number bytes (length bytes) f s now (no_further t) h (following_asked t number bytes (length bytes) f s now h)
 cut_piece t number bytes f s now (Ok Waits) h = cut_answer t number bytes now (record { stop = Waits; ignored = s.ignored }) h
 cut_piece t number bytes f s now (Ok (Ends e)) h = cut_answer t number bytes now (record { stop = Ends e; ignored = s.ignored }) h

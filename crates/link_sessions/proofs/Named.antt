@@ -19,13 +19,13 @@ use Rattle.of10_session.specs.declared.turn.TurnEnd.TheVariants as end
 use Rattle.of10_session.specs.Progresses.{Progress}
 use Rattle.of10_session.specs.Sessions.{turn}
 use Rattle.of10_session.specs.Replies.{answered}
-use Rattle.of10_speech.specs.declared.stops.Stop.{Stop}
-use Rattle.of10_speech.specs.declared.stops.Stop.TheVariants.{Goes, Waits, Ends}
+use Rattle.of10_speech.specs.declared.stops.SpeechStop.{SpeechStop}
+use Rattle.of10_speech.specs.declared.stops.SpeechStop.TheVariants.{Goes, Waits, Ends}
 use Rattle.of10_speech.specs.declared.stops.SpokenEnd.TheVariants.{Wire}
 use Rattle.of10_speech.specs.Speeches.{Told, Speech, on_ask, on_entry, on_stranger, on_turn, hear, hear_all, heard, speech, opening, ended_by, IsSpoken}
 
 -- no end by bytes that are no message
-abbrev NoWire : Stop → Type 0
+abbrev NoWire : SpeechStop → Type 0
 NoWire stop = (at : ℕ) (why : WireWhy) → stop ≡ Ends (Wire at why) → ⊥
 
 entry_says : (o : Option Reply) (s : Progress) (ask : Ask) → NoWire (on_entry o s ask).stop
@@ -52,7 +52,7 @@ turn_says t place k s sent (AskFor ask) at why e = asked_says t k s ask at why e
 turn_says t place k s sent (End end.Incompatible) at why e = cc
 turn_says t place k s sent (End end.OutOfTurn) at why e = cc
 
-hear_says : (t : Told) (x : Speech) (m : Message) (stop : Stop) → x.stop ≡ stop → NoWire x.stop → NoWire (heard stop t x m).stop
+hear_says : (t : Told) (x : Speech) (m : Message) (stop : SpeechStop) → x.stop ≡ stop → NoWire x.stop → NoWire (heard stop t x m).stop
 hear_says t x m Goes is none = turn_says t x.place (length x.asks) (turn x.session m).session (turn x.session m).sent (turn x.session m).turn
 hear_says t x m Waits is none = none
 hear_says t x m (Ends e) is none = none
@@ -68,11 +68,11 @@ tail_named : (rest : List ℕ) (e : WireRefusal) → IsTail rest (Broken e) → 
 tail_named rest e (inl refused) = (refused_near rest e refused).0.named
 tail_named rest e (inr bad) = (refused-place _ e bad.refused).named
 
-ended_says : (x : Speech) (tail : Tail) (stop : Stop) → NoWire x.stop → ((e : WireRefusal) → tail ≡ Broken e → e.why ≢ Memory) → (at : ℕ) (why : WireWhy) → (ended_by stop tail x).stop ≡ Ends (Wire at why) → why ≢ Memory
+ended_says : (x : Speech) (tail : Tail) (stop : SpeechStop) → NoWire x.stop → ((e : WireRefusal) → tail ≡ Broken e → e.why ≢ Memory) → (at : ℕ) (why : WireWhy) → (ended_by stop tail x).stop ≡ Ends (Wire at why) → why ≢ Memory
 ended_says x (Cut n) Goes none named at why is = absurd (none at why is)
 ended_says x (Broken e) Goes none named at why is = λ h. named e refl (same (x.place + e.at) at e.why why is ∙ h)
   where
-    same : (a b : ℕ) (v w : WireWhy) → ◌≡◌ {A = Stop} (Ends (Wire a v)) (Ends (Wire b w)) → v ≡ w
+    same : (a b : ℕ) (v w : WireWhy) → ◌≡◌ {A = SpeechStop} (Ends (Wire a v)) (Ends (Wire b w)) → v ≡ w
     same a b v w e = cc
 ended_says x tail Waits none named at why is = absurd (none at why is)
 ended_says x tail (Ends end) none named at why is = absurd (none at why is)

@@ -6,8 +6,8 @@ use Rattle.of10_session.specs.Progresses.{Progress}
 use Rattle.of10_speech.specs.declared.stops.Broken.{Broken}
 use Rattle.of10_speech.specs.declared.stops.Broken.TheVariants.{Full}
 use Rattle.of10_speech.specs.declared.stops.Broken.TheVariants as broken
-use Rattle.of10_speech.specs.declared.stops.Stop.{Stop}
-use Rattle.of10_speech.specs.declared.stops.Stop.TheVariants.{Goes, Waits, Ends}
+use Rattle.of10_speech.specs.declared.stops.SpeechStop.{SpeechStop}
+use Rattle.of10_speech.specs.declared.stops.SpeechStop.TheVariants.{Goes, Waits, Ends}
 use Rattle.of10_speech.specs.declared.stops.SpokenEnd.{SpokenEnd}
 use Rattle.of10_speech.specs.declared.stops.SpokenEnd.TheVariants as spoken
 use Rattle.of10_speech.specs.Speeches.{Told}
@@ -56,7 +56,7 @@ counts_write_fault link link' unclosed reads = record { closed = (λ is. absurd 
 
 -- the session was cut off
 pub over_cut : (t : Told) (full : Bool) (number most reach left few : ℕ) (link link' : LinkView) (end : SessionEnd) (bytes front : List ℕ) → cuts_bytes end ≡ true → cuts_entries end ≡ true → CutOff t number bytes front few
-    → Tells link'.taken bytes → Tells link'.written front → length bytes ≤ most → ((stop : Stop) → IsCauseOf stop full most (length bytes) link link' end) → CountsEnd link link' end → reach ≤ 16 * left + length bytes
+    → Tells link'.taken bytes → Tells link'.written front → length bytes ≤ most → ((stop : SpeechStop) → IsCauseOf stop full most (length bytes) link link' end) → CountsEnd link link' end → reach ≤ 16 * left + length bytes
     → Over t full number most reach left link link' (record { end = end; ignored = few })
 over_cut t full number most reach left few link link' end bytes front cuts_b cuts_e cut took wrote within cause counts reached =
     let a = one_spoken t number bytes in
@@ -84,7 +84,7 @@ over_cut t full number most reach left few link link' end bytes front cuts_b cut
     )
 
 -- the session said its whole answer
-pub over_answer : (t : Told) (full : Bool) (number most reach left few : ℕ) (link link' : LinkView) (end : SessionEnd) (stop : Stop) (bytes now : List ℕ) → IsAnswer t number bytes [] now (record { stop = stop; ignored = few })
+pub over_answer : (t : Told) (full : Bool) (number most reach left few : ℕ) (link link' : LinkView) (end : SessionEnd) (stop : SpeechStop) (bytes now : List ℕ) → IsAnswer t number bytes [] now (record { stop = stop; ignored = few })
     → Tells link'.taken bytes → Tells link'.written now → length bytes ≤ most → IsCauseOf stop full most (length bytes) link link' end → CountsEnd link link' end → reach ≤ 16 * left + length bytes
     → Over t full number most reach left link link' (record { end = end; ignored = few })
 over_answer t full number most reach left few link link' end stop bytes now h took wrote within cause counts reached = (
@@ -104,7 +104,7 @@ over_answer t full number most reach left few link link' end stop bytes now h to
     whole = λ off. refl;
     ignored = omega (arith, h.ignored);
     counted = λ off. h.ignored;
-    cause = subst (λ (s : Stop). IsCauseOf s full most (length bytes) link link' end) h.stop cause;
+    cause = subst (λ (s : SpeechStop). IsCauseOf s full most (length bytes) link link' end) h.stop cause;
     counts = counts;
   },
   reached,
@@ -152,7 +152,7 @@ told_end t full number most reach left few link link' (spoken.OutOfTurn at) byte
 told_end t full number most reach left few link link' (spoken.UnknownSwitch s) bytes now h took wrote within steady reached =
     over_answer t full number most reach left few link link' (UnknownSwitch s) (Ends (spoken.UnknownSwitch s)) bytes now h took wrote within refl (counts_steady link link' (UnknownSwitch s) (λ e. cc) steady) reached
 
-pub piece_ends : (t : Told) (full : Bool) (number most reach left : ℕ) (link link' : LinkView) (result : Result Stop Broken) (bytes now : List ℕ) (f : Framing) (s : Progress) (end : SessionEnd) → AfterPiece t number bytes f s now result → IsEndOf result end
+pub piece_ends : (t : Told) (full : Bool) (number most reach left : ℕ) (link link' : LinkView) (result : Result SpeechStop Broken) (bytes now : List ℕ) (f : Framing) (s : Progress) (end : SessionEnd) → AfterPiece t number bytes f s now result → IsEndOf result end
     → (result ≡ Err Full → full ≡ true) → (result ≡ Ok Waits → full ≡ true) → Tells link'.taken bytes → Tells link'.written now → length bytes ≤ most → IsSteady link link' → reach ≤ 16 * left + length bytes
     → Over t full number most reach left link link' (record { end = end; ignored = s.ignored })
 piece_ends t full number most reach left link link' (Ok Goes) bytes now f s end h is out_full out_waits took wrote within steady reached = absurd is
@@ -178,7 +178,7 @@ over_heard t full number most reach left link link' end bytes now f s w took wro
 
 -- ---- from an earlier link
 
-cause_from : (stop : Stop) (full : Bool) (most n : ℕ) (before link link' : LinkView) (end : SessionEnd) → link.read_faults ≡ before.read_faults → link.write_faults ≡ before.write_faults → IsCauseOf stop full most n link link' end → IsCauseOf stop full most n before link' end
+cause_from : (stop : SpeechStop) (full : Bool) (most n : ℕ) (before link link' : LinkView) (end : SessionEnd) → link.read_faults ≡ before.read_faults → link.write_faults ≡ before.write_faults → IsCauseOf stop full most n link link' end → IsCauseOf stop full most n before link' end
 cause_from stop full most n before link link' Closed r w h = h
 cause_from stop full most n before link link' ReadFault r w h = (h.0, h.1, subst (λ (k : ℕ). Rose k link'.read_faults) r h.2)
 cause_from stop full most n before link link' WriteFault r w h = subst (λ (k : ℕ). Rose k link'.write_faults) w h

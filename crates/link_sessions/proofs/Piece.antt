@@ -8,8 +8,8 @@ use Rattle.of10_session.specs.Progresses.{Progress, IsListening}
 use Rattle.of10_speech.specs.declared.hearing.Hearing.{Hearing}
 use Rattle.of10_speech.specs.declared.stops.Broken.{Broken}
 use Rattle.of10_speech.specs.declared.stops.Broken.TheVariants.{Full, Memory}
-use Rattle.of10_speech.specs.declared.stops.Stop.{Stop}
-use Rattle.of10_speech.specs.declared.stops.Stop.TheVariants.{Goes, Waits, Ends}
+use Rattle.of10_speech.specs.declared.stops.SpeechStop.{SpeechStop}
+use Rattle.of10_speech.specs.declared.stops.SpeechStop.TheVariants.{Goes, Waits, Ends}
 use Rattle.of10_speech.specs.Speeches.{Told, Further}
 use Rattle.of10_speech.specs.Hearings.{Following, Hears, IsAnswer, Awaits, Breaks}
 use Rattle.of10_speech.proofs.Following.{following_next, following_stops}
@@ -55,7 +55,7 @@ some_next o t u f0 s0 piece at f s g s' r before after further some h on number 
     let same : (length bytes + at) + r.used ≡ length bytes + (at + r.used) = omega arith in
     subst (λ (n : ℕ). Following u number (bytes ++ piece) n g s' [] (now ++ after)) same there
 
-after_stop : (t : Told) (number : ℕ) (bytes : List ℕ) (f : Framing) (s : Progress) (now : List ℕ) (stop : Stop) → stop ≢ Goes → IsAnswer t number bytes [] now (record { stop = stop; ignored = s.ignored }) → AfterPiece t number bytes f s now (Ok stop)
+after_stop : (t : Told) (number : ℕ) (bytes : List ℕ) (f : Framing) (s : Progress) (now : List ℕ) (stop : SpeechStop) → stop ≢ Goes → IsAnswer t number bytes [] now (record { stop = stop; ignored = s.ignored }) → AfterPiece t number bytes f s now (Ok stop)
 after_stop t number bytes f s now Goes off h = absurd (off refl)
 after_stop t number bytes f s now Waits off h = h
 after_stop t number bytes f s now (Ends e) off h = h
@@ -106,6 +106,6 @@ is_there o t f0 s0 piece at f s said h some =
     }
 
 -- what a `?` hands on
-pub err_is : (P : Result Stop Broken → Type 0) (r : Result Stop Broken) (e : Broken) → IsErrAnd r (λ x. x ≡ e) → P (Err e) → P r
+pub err_is : (P : Result SpeechStop Broken → Type 0) (r : Result SpeechStop Broken) (e : Broken) → IsErrAnd r (λ x. x ≡ e) → P (Err e) → P r
 err_is P (Ok stop) e is h = elim is [ ]
 err_is P (Err x) e is h = subst (λ (y : Broken). P (Err y)) (sym is) h

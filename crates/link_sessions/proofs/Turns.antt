@@ -7,8 +7,8 @@ use Rattle.of10_session.specs.Progresses.{Progress}
 use Rattle.of10_session.specs.Sessions.{spelled}
 use Rattle.of10_speech.specs.declared.stops.Broken.{Broken}
 use Rattle.of10_speech.specs.declared.stops.Broken.TheVariants.{Full}
-use Rattle.of10_speech.specs.declared.stops.Stop.{Stop}
-use Rattle.of10_speech.specs.declared.stops.Stop.TheVariants.{Goes, Waits}
+use Rattle.of10_speech.specs.declared.stops.SpeechStop.{SpeechStop}
+use Rattle.of10_speech.specs.declared.stops.SpeechStop.TheVariants.{Goes, Waits}
 use Rattle.of10_speech.specs.Speeches.{Told, opening}
 use Rattle.of10_speech.proofs.Following.{follows_nothing}
 use Rattle.vericon_edge.specs.Counts.{Rose}
@@ -41,7 +41,7 @@ answered_whole o t number f s count piece g s' said link link' h hears grown sam
 }
 
 -- .. or its answer ends the session
-pub answered_end : (o t : Told) (full : Bool) (number : ℕ) (f : Framing) (s : Progress) (count : ℕ) (piece : List ℕ) (g : Framing) (s' : Progress) (said : List ℕ) (result : Result Stop Broken) (end : SessionEnd) (reach left : ℕ) (link link' : LinkView)
+pub answered_end : (o t : Told) (full : Bool) (number : ℕ) (f : Framing) (s : Progress) (count : ℕ) (piece : List ℕ) (g : Framing) (s' : Progress) (said : List ℕ) (result : Result SpeechStop Broken) (end : SessionEnd) (reach left : ℕ) (link link' : LinkView)
     → HasTaken o number f s count piece link.taken link.written → HearsPiece o t f s piece g s' said result → IsEndOf result end → (result ≡ Err Full → full ≡ true) → (result ≡ Ok Waits → full ≡ true)
     → Grown link.written link'.written said → link'.taken ≡ link.taken → IsSteady link link' → reach ≤ 16 * left + ((f.start + length f.held) + length piece) → IsOverAt t full number (count + length piece) reach left link link' (record { end = end; ignored = s'.ignored })
 answered_end o t full number f s count piece g s' said result end reach left link link' h hears is out_full out_waits grown same steady reached most within =
@@ -50,7 +50,7 @@ answered_end o t full number f s count piece g s' said result end reach left lin
     (omega (arith, within, length-append h.bytes piece, h.counted)) steady (omega (arith, reached, length-append h.bytes piece, h.follows.taken))
 
 -- .. or a write failed
-pub answered_fault : (o t : Told) (full : Bool) (number : ℕ) (f : Framing) (s : Progress) (count : ℕ) (piece : List ℕ) (g : Framing) (s' : Progress) (said : List ℕ) (result : Result Stop Broken) (reach left : ℕ) (link link' : LinkView)
+pub answered_fault : (o t : Told) (full : Bool) (number : ℕ) (f : Framing) (s : Progress) (count : ℕ) (piece : List ℕ) (g : Framing) (s' : Progress) (said : List ℕ) (result : Result SpeechStop Broken) (reach left : ℕ) (link link' : LinkView)
     → HasTaken o number f s count piece link.taken link.written → HearsPiece o t f s piece g s' said result → GrownByFront link.written link'.written said → Rose link.write_faults link'.write_faults
     → link'.taken ≡ link.taken → link'.closed ≡ false → link'.read_faults ≡ link.read_faults → reach ≤ 16 * left + ((f.start + length f.held) + length piece) → IsOverAt t full number (count + length piece) reach left link link' (record { end = WriteFault; ignored = s'.ignored })
 answered_fault o t full number f s count piece g s' said result reach left link link' h hears (n, less, grown) rose same unclosed reads reached most within =
@@ -63,11 +63,11 @@ answered_fault o t full number f s count piece g s' said result reach left link 
     (omega (arith, within, length-append h.bytes piece, h.counted)) (λ stop. rose) (counts_write_fault link link' unclosed reads) (omega (arith, reached, length-append h.bytes piece, h.follows.taken))
 
 -- what is so where nothing more can come
-pub full_at : (X : Type 0) (result : Result Stop Broken) → IfErr result (λ why. why ≡ Full → X) → result ≡ Err Full → X
-full_at X result h is = (subst (λ (r : Result Stop Broken). IfErr r (λ why. why ≡ Full → X)) is h) refl
+pub full_at : (X : Type 0) (result : Result SpeechStop Broken) → IfErr result (λ why. why ≡ Full → X) → result ≡ Err Full → X
+full_at X result h is = (subst (λ (r : Result SpeechStop Broken). IfErr r (λ why. why ≡ Full → X)) is h) refl
 
-pub waits_at : (X : Type 0) (result : Result Stop Broken) → IfOk result (λ stop. stop ≡ Waits → X) → result ≡ Ok Waits → X
-waits_at X result h is = (subst (λ (r : Result Stop Broken). IfOk r (λ stop. stop ≡ Waits → X)) is h) refl
+pub waits_at : (X : Type 0) (result : Result SpeechStop Broken) → IfOk result (λ stop. stop ≡ Waits → X) → result ≡ Ok Waits → X
+waits_at X result h is = (subst (λ (r : Result SpeechStop Broken). IfOk r (λ stop. stop ≡ Waits → X)) is h) refl
 
 -- .. from an earlier link, where more may have been taken
 pub over_later : (t : Told) (full : Bool) (number count count' reach left : ℕ) (before link link' : LinkView) (ended : Ended) → link.read_faults ≡ before.read_faults → link.write_faults ≡ before.write_faults → count' ≤ count

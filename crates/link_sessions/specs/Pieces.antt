@@ -5,8 +5,8 @@ use Rattle.of10_session.specs.Progresses.{Progress}
 use Rattle.of10_session.specs.Sessions.{spelled}
 use Rattle.of10_speech.specs.declared.stops.Broken.{Broken}
 use Rattle.of10_speech.specs.declared.stops.Broken.TheVariants.{Full, Memory}
-use Rattle.of10_speech.specs.declared.stops.Stop.{Stop}
-use Rattle.of10_speech.specs.declared.stops.Stop.TheVariants.{Goes, Waits, Ends}
+use Rattle.of10_speech.specs.declared.stops.SpeechStop.{SpeechStop}
+use Rattle.of10_speech.specs.declared.stops.SpeechStop.TheVariants.{Goes, Waits, Ends}
 use Rattle.of10_speech.specs.declared.stops.SpokenEnd.{SpokenEnd}
 use Rattle.of10_speech.specs.declared.stops.SpokenEnd.TheVariants as spoken
 use Rattle.of10_speech.specs.Speeches.{Told, Speech, IsSpoken}
@@ -26,7 +26,7 @@ end_of (spoken.UnknownSwitch s) = UnknownSwitch s
 end_of (spoken.Wire at why) = Wire at why
 
 -- .. or by what came of a piece
-abbrev pub IsEndOf : Result Stop Broken → SessionEnd → Type 0
+abbrev pub IsEndOf : Result SpeechStop Broken → SessionEnd → Type 0
 IsEndOf (Ok Goes) end = ⊥
 IsEndOf (Ok Waits) end = end ≡ HistoryFull
 IsEndOf (Ok (Ends e)) end = end ≡ end_of e
@@ -45,7 +45,7 @@ abbrev pub CutOff : (t : Told) (number : ℕ) (bytes now : List ℕ) (few : ℕ)
 CutOff t number bytes now few = (y : Speech) → IsSpoken t number bytes y → IsCut t y now few
 
 -- how a session stands when the last of these bytes was heard, or it stopped or broke off, and this was said
-abbrev pub AfterPiece : (t : Told) (number : ℕ) (bytes : List ℕ) → Framing → Progress → List ℕ → Result Stop Broken → Type 0
+abbrev pub AfterPiece : (t : Told) (number : ℕ) (bytes : List ℕ) → Framing → Progress → List ℕ → Result SpeechStop Broken → Type 0
 AfterPiece t number bytes f s now (Ok Goes) = Following t number bytes (length bytes) f s [] now
 AfterPiece t number bytes f s now (Ok Waits) = IsAnswer t number bytes [] now (record { stop = Waits; ignored = s.ignored })
 AfterPiece t number bytes f s now (Ok (Ends e)) = IsAnswer t number bytes [] now (record { stop = Ends e; ignored = s.ignored })
@@ -53,7 +53,7 @@ AfterPiece t number bytes f s now (Err Full) = Awaits t number bytes [] now s.ig
 AfterPiece t number bytes f s now (Err Memory) = CutOff t number bytes now s.ignored
 
 -- a piece was heard, and this was said
-abbrev pub HearsPiece : (o t : Told) → Framing → Progress → List ℕ → Framing → Progress → List ℕ → Result Stop Broken → Type 0
+abbrev pub HearsPiece : (o t : Told) → Framing → Progress → List ℕ → Framing → Progress → List ℕ → Result SpeechStop Broken → Type 0
 HearsPiece o t f s piece g s' said result =
     (number : ℕ) (bytes now : List ℕ) → Following o number bytes (length bytes) f s [] now → AfterPiece t number (bytes ++ piece) g s' (now ++ said) result
 

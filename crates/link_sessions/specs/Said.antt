@@ -3,8 +3,8 @@ use Rattle.std.specs.Prelude.{ℕ, ◌≡◌, ◌≢◌, ◌↔◌, ◌≤◌, �
 use Rattle.of10_wire.specs.declared.refusal.WireWhy.TheVariants as wire
 use Rattle.of10_session.specs.declared.turn.Ask.{Ask}
 use Rattle.of10_session.specs.Sessions.{spelled}
-use Rattle.of10_speech.specs.declared.stops.Stop.{Stop}
-use Rattle.of10_speech.specs.declared.stops.Stop.TheVariants.{Goes, Waits, Ends}
+use Rattle.of10_speech.specs.declared.stops.SpeechStop.{SpeechStop}
+use Rattle.of10_speech.specs.declared.stops.SpeechStop.TheVariants.{Goes, Waits, Ends}
 use Rattle.of10_speech.specs.declared.stops.SpokenEnd.TheVariants as spoken
 use Rattle.of10_speech.specs.Speeches.{Told, Speech, IsSpoken}
 use Rattle.of10_speech.specs.Hearings.{TookFew}
@@ -29,7 +29,7 @@ cuts_bytes end = false
 
 -- Why a session ended so: where its answer stops, whether no further entry can come, how many bytes it may take and took, and the link before
 -- and after.
-abbrev pub IsCauseOf : Stop → (full : Bool) → (most taken : ℕ) → (link link' : LinkView) → SessionEnd → Type 0
+abbrev pub IsCauseOf : SpeechStop → (full : Bool) → (most taken : ℕ) → (link link' : LinkView) → SessionEnd → Type 0
 IsCauseOf stop full most taken link link' Closed = (stop ≡ Goes) × (taken < most)
 IsCauseOf stop full most taken link link' ReadFault = (stop ≡ Goes) × (taken < most) × Rose link.read_faults link'.read_faults
 IsCauseOf stop full most taken link link' WriteFault = Rose link.write_faults link'.write_faults

@@ -11,7 +11,7 @@ ghost use Rattle.link_sessions.specs.Said.{IsSaidOver};
 use crate::ends::{Ended, SessionEnd};
 use crate::pieces::hear_piece;
 use of10_session::Session;
-use of10_speech::{Answers, Broken, SpokenEnd, Stop};
+use of10_speech::{Answers, Broken, SpeechStop, SpokenEnd};
 use of10_stream::Framer;
 use std::alloc::{AllocError, Global};
 use vericon_links::link::{Got, Link, write_whole};
@@ -54,14 +54,14 @@ fn end_of(end: SpokenEnd) -> SessionEnd
 }
 
 /// Whether a session that was told so goes on, or how it ends.
-fn goes_on(heard: Result<Stop, Broken>) -> Result<(), SessionEnd>
-    ensures ok { OnOk result (heard ≡ OkIs Stop.Goes) }
+fn goes_on(heard: Result<SpeechStop, Broken>) -> Result<(), SessionEnd>
+    ensures ok { OnOk result (heard ≡ OkIs SpeechStop.Goes) }
     ensures err { IfErr result (IsEndOf heard) }
 {
     match heard {
-        Ok(Stop::Goes) => Ok(()),
-        Ok(Stop::Ends(end)) => Err(end_of(end)),
-        Ok(Stop::Waits) | Err(Broken::Full) => Err(SessionEnd::HistoryFull),
+        Ok(SpeechStop::Goes) => Ok(()),
+        Ok(SpeechStop::Ends(end)) => Err(end_of(end)),
+        Ok(SpeechStop::Waits) | Err(Broken::Full) => Err(SessionEnd::HistoryFull),
         Err(Broken::Memory) => Err(SessionEnd::Memory),
     }
 }

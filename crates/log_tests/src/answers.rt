@@ -1,5 +1,5 @@
 //! What is said of blocks: worked answers, and refutations that are given back to the checker.
-use clause_listing::list;
+use clause_listing::list_clauses;
 use log_text::LogRefusal;
 use std::alloc::{AllocError, Global};
 use std::test::*;
@@ -28,7 +28,7 @@ fn one_block(alloc: Global, lines: &[u8], steps: &[u8]) -> Result<Vec<u8>, Alloc
 
 fn listed(alloc: Global, lines: &[u8], steps: &[u8]) -> Result<Vec<u8>, Fail> {
     let text = one_block(alloc, lines, steps)?;
-    let listing = list(alloc, &text)?;
+    let listing = list_clauses(alloc, &text)?;
     Ok(listing.text)
 }
 
@@ -124,7 +124,7 @@ fn each_block_has_a_model_or_steps_that_are_accepted(rt: HostRuntime) -> Result<
 
 // The number of the first bad line, of a text that is refused.
 fn first_bad_line(alloc: Global, text: &[u8]) -> Option<u64> {
-    match list(alloc, text) {
+    match list_clauses(alloc, text) {
         Err(LogRefusal::Line { number }) => Some(number),
         _ => None,
     }

@@ -4,7 +4,7 @@ use Rattle.std.proofs.Math.Bool.{or-false}
 use Rattle.std.proofs.lemmas.Bool.{not-true}
 use Rattle.csdn_core.specs.declared.terms.Pred.{Pred}
 use Rattle.csdn_core.specs.declared.terms.Pred.TheVariants.{Stored}
-use Rattle.csdn_core.specs.declared.terms.Place.TheVariants.{Safety}
+use Rattle.csdn_core.specs.declared.terms.FormulaPlace.TheVariants.{Safety}
 use Rattle.csdn_core.specs.declared.event.Event.{Event}
 use Rattle.csdn_core.specs.declared.event.Event.TheVariants.{PktIn, PktFlow, Expire}
 use Rattle.csdn_core.specs.declared.event.Packet.TheVariants.{Nothing}

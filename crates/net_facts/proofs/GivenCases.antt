@@ -34,8 +34,8 @@ use Rattle.net_structs.proofs.Ordered.{has-in_order, distinct-in_order, sorted-i
 use Rattle.net_text.specs.declared.place.Open.{Open}
 use Rattle.net_text.specs.declared.place.Place.{Place}
 use Rattle.net_text.specs.declared.place.Place.TheVariants as place
-use Rattle.net_text.specs.declared.refusal.Why.{Why}
-use Rattle.net_text.specs.declared.refusal.Why.TheVariants as why
+use Rattle.net_text.specs.declared.refusal.NetWhy.{NetWhy}
+use Rattle.net_text.specs.declared.refusal.NetWhy.TheVariants as why
 use Rattle.net_text.specs.declared.refusal.NetTextRefusal.{NetTextRefusal}
 use Rattle.net_text.specs.Lines.{most, or_why, wants, header_of, behind, has_some, sort_of, no_values, ports_of, constant_from, has_value, constant_of, values_from, tuple_of, flow_of, packet_of}
 use Rattle.net_text.specs.NetText.{end_of, static_of_line, with_fact, stored_of_line, flow_of_line, item_by, fact_by, item_line, fact_line, step, finish, net_format, net_text}
@@ -330,11 +330,11 @@ end_given P draft state packet ws to is draft_is all there =
     (whole P draft draft_is ms (some.2 ∙ ap (map Some) (sym some.1)) state packet all there)
 
 -- one of the two
-by_test : {A : Type 0} (Q : A → Type 0) (b : Bool) (x y : Result A Why) (to : A) → cond b x y ≡ Ok to → (x ≡ Ok to → Q to) → (y ≡ Ok to → Q to) → Q to
+by_test : {A : Type 0} (Q : A → Type 0) (b : Bool) (x y : Result A NetWhy) (to : A) → cond b x y ≡ Ok to → (x ≡ Ok to → Q to) → (y ≡ Ok to → Q to) → Q to
 by_test Q true x y to is left right = left is
 by_test Q false x y to is left right = right is
 
-none_given : {A : Type 0} (e : Why) (to : A) (Q : Type 0) → Err e ≡ Ok to → Q
+none_given : {A : Type 0} (e : NetWhy) (to : A) (Q : Type 0) → Err e ≡ Ok to → Q
 none_given e to Q is = absurd cc
 
 item_given : (P : Parts) (draft : Open) (key : List ℕ) (ws : List (List ℕ)) (to : Place) → item_by P draft key ws ≡ Ok to → IsOpen P draft → IsFine P to
@@ -402,7 +402,7 @@ step_given P (place.Ended case) ws to is fine = none_given why.Shape to (IsFine 
 
 -- ---- texts
 
-refused : {A : Type 0} (e : Refused Why) (v : Case) → Err e ≡ Ok v → A
+refused : {A : Type 0} (e : Refused NetWhy) (v : Case) → Err e ≡ Ok v → A
 refused e v is = absurd cc
 
 finish_given : (P : Parts) (past : ℕ) (from : Place) (v : Case) → ended_at past (finish from) ≡ Ok v → IsFine P from → IsWhole P v
@@ -415,14 +415,14 @@ finish_given P past (place.Facts draft rows) v is fine = refused _ v is
 finish_given P past (place.Closing draft rows packet) v is fine = refused _ v is
 finish_given P past (place.Ended case) v is fine = subst (IsWhole P) (one case v is) fine
   where
-    one : (case v : Case) → ◌≡◌ {A = Result Case (Refused Why)} (Ok case) (Ok v) → case ≡ v
+    one : (case v : Case) → ◌≡◌ {A = Result Case (Refused NetWhy)} (Ok case) (Ok v) → case ≡ v
     one case v is = cc
 
 run_given : (P : Parts) (past : ℕ) (ls : List Line) (from : Place) (v : Case) → run (net_format P) past ls from ≡ Ok v → IsFine P from → IsWhole P v
 run_given P past [] from v is fine = finish_given P past from v is fine
 run_given P past (l ∷ ls) from v is fine = by_step (step P from (words l.text)) refl is (λ to goes. run_given P past ls to v goes)
   where
-    by_step : (r : Result Place Why) → step P from (words l.text) ≡ r → after_step l.number r (run (net_format P) past ls) ≡ Ok v
+    by_step : (r : Result Place NetWhy) → step P from (words l.text) ≡ r → after_step l.number r (run (net_format P) past ls) ≡ Ok v
         → ((to : Place) → run (net_format P) past ls to ≡ Ok v → IsFine P to → IsWhole P v) → IsWhole P v
     by_step (Ok to) stepped goes on = on to goes (step_given P from (words l.text) to stepped fine)
     by_step (Err e) stepped goes on = refused _ v goes

@@ -22,28 +22,28 @@ use Rattle.net_structs.specs.Networks.{has}
 use Rattle.net_facts.specs.Cases.{IsPacket}
 use Rattle.net_structs.specs.Refusals.{have_elements}
 use Rattle.net_structs.proofs.Accepted.{there}
-use Rattle.net_text.specs.declared.refusal.Why.{Why}
-use Rattle.net_text.specs.declared.refusal.Why.TheVariants as why
+use Rattle.net_text.specs.declared.refusal.NetWhy.{NetWhy}
+use Rattle.net_text.specs.declared.refusal.NetWhy.TheVariants as why
 use Rattle.net_text.specs.Lines.{◌>>=◌, most, or_why, wants, elements_from, has_some, sort_of, relation_from, cells_of, tuple_of, flow_of, packet_of}
 
 -- ---- the parts of a chain that gives something
 
-pub bound : {A B : Type 0} (r : Result A Why) (f : A → Result B Why) (y : B) → (r >>= f) ≡ Ok y → (x : A) × (r ≡ Ok x) × (f x ≡ Ok y)
+pub bound : {A B : Type 0} (r : Result A NetWhy) (f : A → Result B NetWhy) (y : B) → (r >>= f) ≡ Ok y → (x : A) × (r ≡ Ok x) × (f x ≡ Ok y)
 bound (Ok x) f y is = (x, refl, is)
 bound (Err e) f y is = absurd cc
 
-pub wanted : (b : Bool) (e : Why) (u : Unit {0}) → wants b e ≡ Ok u → b ≡ true
+pub wanted : (b : Bool) (e : NetWhy) (u : Unit {0}) → wants b e ≡ Ok u → b ≡ true
 wanted true e u is = refl
 wanted false e u is = absurd cc
 
-pub found : {A : Type 0} (o : Option A) (e : Why) (x : A) → or_why o e ≡ Ok x → o ≡ Some x
+pub found : {A : Type 0} (o : Option A) (e : NetWhy) (x : A) → or_why o e ≡ Ok x → o ≡ Some x
 found (Some y) e x is = let same : y ≡ x = ok_is y x is in ap Some same
   where
-    ok_is : {A : Type 0} (y x : A) → ◌≡◌ {A = Result A Why} (Ok y) (Ok x) → y ≡ x
+    ok_is : {A : Type 0} (y x : A) → ◌≡◌ {A = Result A NetWhy} (Ok y) (Ok x) → y ≡ x
     ok_is y x is = cc
 found None e x is = absurd cc
 
-pub given : {A : Type 0} (x y : A) → ◌≡◌ {A = Result A Why} (Ok x) (Ok y) → x ≡ y
+pub given : {A : Type 0} (x y : A) → ◌≡◌ {A = Result A NetWhy} (Ok x) (Ok y) → x ≡ y
 given x y is = cc
 
 -- ---- elements

@@ -26,7 +26,7 @@ use Rattle.net_structs.specs.Networks.{has, in_order, bare_network, static_cmp, 
 use Rattle.net_structs.specs.Refusals.{missing_port}
 use Rattle.net_text.specs.declared.place.Open.{Open}
 use Rattle.net_text.specs.declared.place.Place.TheVariants as place
-use Rattle.net_text.specs.declared.refusal.Why.TheVariants as why
+use Rattle.net_text.specs.declared.refusal.NetWhy.TheVariants as why
 use Rattle.net_text.specs.Lines.{◌>>=◌, most, wants, header_of, behind, has_some, sort_of, no_values, ports_of, constant_from, is_given, constant_of, relation_from, cells_of, tuple_of, flow_of, packet_of}
 use Rattle.net_text.specs.NetText.{end_of, static_of_line, with_fact, stored_of_line, flow_of_line, item_by, fact_by, item_line, fact_line, step, name_of, tuple_words, header_words, end_words}
 use Rattle.net_facts.proofs.Rising.{insert_next, in_order_rising, distinct_rising}

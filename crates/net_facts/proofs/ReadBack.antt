@@ -34,7 +34,7 @@ use Rattle.net_structs.specs.Networks.{as_stored, static_cmp}
 use Rattle.net_text.specs.declared.place.Place.{Place}
 use Rattle.net_text.specs.declared.place.Place.TheVariants as place
 use Rattle.net_text.specs.declared.refusal.NetTextRefusal.{NetTextRefusal}
-use Rattle.net_text.specs.declared.refusal.Why.{Why}
+use Rattle.net_text.specs.declared.refusal.NetWhy.{NetWhy}
 use Rattle.net_text.specs.declared.refusal.NetTextRefusal.TheVariants as refusal
 use Rattle.net_text.specs.Gives.{Gives}
 use Rattle.net_text.specs.Lines.{◌>>=◌, has_some, sort_of, no_values, ports_of, relation_from}
@@ -279,10 +279,10 @@ read_back P case well is order =
 pub answered_back : (P : Parts) (case : Case) → IsWellSorted P → IsCase P case → IsInOrder case → (answer : Result Case NetTextRefusal) → Gives answer (reading (net_format P) (net_text P case)) → MatchResult answer (λ again. again ≡ case) (λ why. why ≡ refusal.Memory)
 answered_back P case well is order (Ok v) gives = let same : Ok v ≡ Ok case = sym gives ∙ read_back P case well is order in one v case same
   where
-    one : (v w : Case) → ◌≡◌ {A = Result Case (Refused Why)} (Ok v) (Ok w) → v ≡ w
+    one : (v w : Case) → ◌≡◌ {A = Result Case (Refused NetWhy)} (Ok v) (Ok w) → v ≡ w
     one v w is = cc
 answered_back P case well is order (Err (refusal.Line n e)) gives = none (record { number = n; reason = e }) (sym gives ∙ read_back P case well is order)
   where
-    none : {A : Type 0} (e : Refused Why) → ◌≡◌ {A = Result Case (Refused Why)} (Err e) (Ok case) → A
+    none : {A : Type 0} (e : Refused NetWhy) → ◌≡◌ {A = Result Case (Refused NetWhy)} (Err e) (Ok case) → A
     none e is = absurd cc
 answered_back P case well is order (Err refusal.Memory) gives = refl

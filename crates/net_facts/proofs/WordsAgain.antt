@@ -19,7 +19,7 @@ use Rattle.csdn_core.specs.Names.{IsName, is_word_byte, is_word as is_name_word}
 use Rattle.csdn_core.specs.Network.{Network, elements, HaveElements}
 use Rattle.net_structs.specs.Networks.{has}
 use Rattle.net_structs.specs.Refusals.{missing_port, have_elements}
-use Rattle.net_text.specs.declared.refusal.Why.TheVariants as why
+use Rattle.net_text.specs.declared.refusal.NetWhy.TheVariants as why
 use Rattle.net_text.specs.Lines.{◌>>=◌, most, or_why, elements_from, constant_from, relation_from, values_from}
 
 pub bytes_itself : (w : List ℕ) → bytes_eq w w ≡ true

@@ -12,8 +12,8 @@ use Rattle.csdn_core.specs.Run.{empty_state, no_values}
 use Rattle.net_structs.specs.declared.row.Row.{Row}
 use Rattle.net_structs.specs.declared.case.Case.{Case}
 use Rattle.net_structs.specs.Rows.{held}
-use Rattle.net_text.specs.declared.refusal.Why.{Why}
-use Rattle.net_text.specs.declared.refusal.Why.TheVariants.{Header, Shape, Number, Name, Arity, Empty, Repeated, NoPort, Stranger, Missing}
+use Rattle.net_text.specs.declared.refusal.NetWhy.{NetWhy}
+use Rattle.net_text.specs.declared.refusal.NetWhy.TheVariants.{Header, Shape, Number, Name, Arity, Empty, Repeated, NoPort, Stranger, Missing}
 
 abbrev pub truth_word : Bool → List ℕ
 truth_word true = codes "true"
@@ -44,7 +44,7 @@ listing_lines P c = truth_lines (codes "topology") (structure P c.network empty_
 abbrev pub listing : Parts → Case → List ℕ
 listing P c = flat_map line_text (listing_lines P c)
 
-abbrev pub word_of : Why → List ℕ
+abbrev pub word_of : NetWhy → List ℕ
 word_of Header = codes "Header"
 word_of Shape = codes "Shape"
 word_of Number = codes "Number"
@@ -57,5 +57,5 @@ word_of Stranger = codes "Stranger"
 word_of Missing = codes "Missing"
 
 -- `FILE refused line N: WHY`
-abbrev pub refused_text : List ℕ → ℕ → Why → List ℕ
-refused_text file n why = file ++ codes " refused line " ++ decimal n ++ codes ": " ++ word_of why ++ codes "\n"
+abbrev pub network_refusal_text : List ℕ → ℕ → NetWhy → List ℕ
+network_refusal_text file n why = file ++ codes " refused line " ++ decimal n ++ codes ": " ++ word_of why ++ codes "\n"

@@ -8,5 +8,5 @@ mod listing;
 mod refusal_line;
 
 pub use falses::{first_false, first_false_topology};
-pub use listing::{list, safety_of, trans_of};
-pub use refusal_line::refused;
+pub use listing::{list_invariants, safety_of, trans_of};
+pub use refusal_line::network_refusal_line;

@@ -21,7 +21,7 @@ use text_lines::{put_line_end, put_next_word, put_word};
 
 /// A line for each topology invariant; where there is a state one for each safety invariant; and where there is a
 /// packet one for each transition invariant (docs/COMMANDS.md, "eval").
-pub fn list(alloc: Global, program: &Program, case: &Case) -> Result<Vec<u8>, AllocError>
+pub fn list_invariants(alloc: Global, program: &Program, case: &Case) -> Result<Vec<u8>, AllocError>
     ensures { IfOk result (λ text. text.items ≡ listing program.now case.now) }
 {
     let mut out = Vec::new(alloc);

@@ -16,20 +16,20 @@ use Rattle.csdn_core.specs.Sorted.{flow_sorts, packet_sorts}
 use Rattle.net_structs.specs.Networks.{has, bare_network}
 use Rattle.net_structs.specs.Refusals.{have_elements, missing_port}
 use Rattle.net_text.specs.declared.place.Open.{Open}
-use Rattle.net_text.specs.declared.refusal.Why.{Why}
-use Rattle.net_text.specs.declared.refusal.Why.TheVariants as why
+use Rattle.net_text.specs.declared.refusal.NetWhy.{NetWhy}
+use Rattle.net_text.specs.declared.refusal.NetWhy.TheVariants as why
 
 infixl 10 ◌>>=◌
-abbrev pub ◌>>=◌ : {A B : Type 0} → Result A Why → (A → Result B Why) → Result B Why
+abbrev pub ◌>>=◌ : {A B : Type 0} → Result A NetWhy → (A → Result B NetWhy) → Result B NetWhy
 (Ok x) >>= f = f x
 (Err e) >>= f = Err e
 
 -- refused for this reason, unless the test holds
-abbrev pub wants : Bool → Why → Result (Unit {0}) Why
+abbrev pub wants : Bool → NetWhy → Result (Unit {0}) NetWhy
 wants true e = Ok tt
 wants false e = Err e
 
-abbrev pub or_why : {A : Type 0} → Option A → Why → Result A Why
+abbrev pub or_why : {A : Type 0} → Option A → NetWhy → Result A NetWhy
 or_why (Some x) e = Ok x
 or_why None e = Err e
 
@@ -38,12 +38,12 @@ abbrev pub most : ℕ
 most = 18446744073709551615
 
 -- behind those read before, the elements that the words are
-abbrev pub elements_from : List ℕ → List (List ℕ) → Result (List ℕ) Why
+abbrev pub elements_from : List ℕ → List (List ℕ) → Result (List ℕ) NetWhy
 elements_from found [] = Ok found
 elements_from found (w ∷ ws) = or_why (number_of most w) why.Number >>= (λ n. elements_from (found ++ n ∷ []) ws)
 
 -- the words `vericon-net 1`
-unfoldable pub header_of : List (List ℕ) → Result (Unit {0}) Why
+unfoldable pub header_of : List (List ℕ) → Result (Unit {0}) NetWhy
 header_of ws = do
   name ← or_why (next ws) why.Header
   version ← or_why (next name.1) why.Header
@@ -51,7 +51,7 @@ header_of ws = do
   or_why (ended version.1) why.Header
 
 -- the words behind a first word
-unfoldable pub behind : List ℕ → List (List ℕ) → Result (List (List ℕ)) Why
+unfoldable pub behind : List ℕ → List (List ℕ) → Result (List (List ℕ)) NetWhy
 behind key ws = do
   word ← or_why (next ws) why.Shape
   is ← wants (bytes_eq word.0 key) why.Shape
@@ -63,7 +63,7 @@ abbrev pub has_some : List ℕ → Bool
 has_some [] = false
 has_some (e ∷ es) = true
 
-unfoldable pub sort_of : List (List ℕ) → Result (List ℕ) Why
+unfoldable pub sort_of : List (List ℕ) → Result (List ℕ) NetWhy
 sort_of ws = do
   es ← elements_from [] ws
   some ← wants (has_some es) why.Empty
@@ -74,7 +74,7 @@ abbrev pub no_values : List Constant → List (Option ℕ)
 no_values ds = map (λ d. None) ds
 
 -- the network of the three sorts, which has the ports that the program names
-unfoldable pub ports_of : Parts → List ℕ → List ℕ → List (List ℕ) → Result Open Why
+unfoldable pub ports_of : Parts → List ℕ → List ℕ → List (List ℕ) → Result Open NetWhy
 ports_of P sw ho ws = do
   es ← sort_of ws
   ports ← wants (is_none (missing_port (bare_network sw ho es).ports P.numerals)) why.NoPort
@@ -97,7 +97,7 @@ has_value values None = false
 has_value values (Some c) = is_given (slice_get values c.0)
 
 -- `c NAME E` behind its first word
-unfoldable pub constant_of : Parts → Open → List (List ℕ) → Result Open Why
+unfoldable pub constant_of : Parts → Open → List (List ℕ) → Result Open NetWhy
 constant_of P draft ws = do
   name ← or_why (next ws) why.Shape
   word ← or_why (next name.1) why.Shape
@@ -121,14 +121,14 @@ relation_from at [] name = None
 relation_from at (r ∷ rs) name = if bytes_eq r.name name then Some (at, r) else relation_from (at + 1) rs name
 
 -- a tuple's cells: as many as the relation has, each of its sort
-unfoldable pub cells_of : Network → List Sort → List ℕ → Result (List ℕ) Why
+unfoldable pub cells_of : Network → List Sort → List ℕ → Result (List ℕ) NetWhy
 cells_of N sorts es = do
   arity ← wants (length es == length sorts) why.Arity
   known ← wants (have_elements N sorts es) why.Stranger
   Ok es
 
 -- the relation's number and the tuple of `t NAME E ..` behind its first word; the relation is static, or it isn't
-unfoldable pub tuple_of : Parts → Bool → Network → List (List ℕ) → Result (ℕ × List ℕ) Why
+unfoldable pub tuple_of : Parts → Bool → Network → List (List ℕ) → Result (ℕ × List ℕ) NetWhy
 tuple_of P static N ws = do
   name ← or_why (next ws) why.Shape
   es ← elements_from [] name.1
@@ -138,13 +138,13 @@ tuple_of P static N ws = do
   Ok (r.0, cells)
 
 -- the tuple of `ft E E E E E` and `sent E E E E E` behind their first words
-unfoldable pub flow_of : Network → List (List ℕ) → Result (List ℕ) Why
+unfoldable pub flow_of : Network → List (List ℕ) → Result (List ℕ) NetWhy
 flow_of N ws = do
   es ← elements_from [] ws
   cells_of N flow_sorts es
 
 -- `packet E E E E` behind its first word
-unfoldable pub packet_of : Network → List (List ℕ) → Result Packet Why
+unfoldable pub packet_of : Network → List (List ℕ) → Result Packet NetWhy
 packet_of N ws = do
   s ← or_why (next ws) why.Shape
   a ← or_why (next s.1) why.Shape

@@ -2,15 +2,15 @@
 ghost use Rattle.std.specs.Prelude.{◌≡◌, ◌≤◌, ◌+◌, [], IfOk, IfSome, OnOk, length, option_map, slice_set, Some};
 ghost use Rattle.text_lines.specs.Text.{next, ended};
 ghost use Rattle.text_lines.specs.Numbers.{number_of};
-ghost use Rattle.net_text.specs.declared.refusal.Why.TheVariants.{Number};
+ghost use Rattle.net_text.specs.declared.refusal.NetWhy.TheVariants.{Number};
 ghost use Rattle.net_text.specs.Lines.{most, or_why, wants as wanted, behind as behind_of, cells_of, constant_from, constant_of, elements_from, flow_of, has_value as has_value_in, header_of, no_values as no_values_of, packet_of, ports_of, relation_from, sort_of, tuple_of, values_from};
 ghost use Rattle.net_text.specs.Gives.{Finds};
 
 use crate::place::{Open, Values};
-use crate::refusal::{Stop, Why};
+use crate::refusal::{NetWhy, Stop};
 use csdn_core::event::Packet;
 use csdn_core::program::{Constant, Program, Relation};
-use csdn_core::terms::{RelId, Sort};
+use csdn_core::terms::{FLOW_SORTS, RelId, Sort};
 use net_structs::cells::Cells;
 use net_structs::network::{Elements, Network};
 use net_structs::read::{are_elements, missing_port};
@@ -20,11 +20,9 @@ use text_lines::{Words, are_distinct, read_number};
 
 const MOST: u64 = 0xffff_ffff_ffff_ffff;
 
-const FLOW_SORTS: [Sort; 5] = [Sort::Sw, Sort::Ho, Sort::Ho, Sort::Pr, Sort::Pr];
-
 const PACKET_SORTS: [Sort; 4] = [Sort::Sw, Sort::Ho, Sort::Ho, Sort::Pr];
 
-fn wants(holds: bool, why: Why) -> Result<(), Stop>
+fn wants(holds: bool, why: NetWhy) -> Result<(), Stop>
     ensures { Finds result (wanted holds why) (λ u. u) }
 {
     if holds {
@@ -35,7 +33,7 @@ fn wants(holds: bool, why: Why) -> Result<(), Stop>
 }
 
 // The next word, and the words behind it.
-fn word_or<'a>(words: Words<'a>, why: Why) -> Result<(&'a [u8], Words<'a>), Stop>
+fn word_or<'a>(words: Words<'a>, why: NetWhy) -> Result<(&'a [u8], Words<'a>), Stop>
     ensures { Finds result (or_why (next words.entry) why) (λ w. (w.0.now, w.1)) }
 {
     match words.next() {
@@ -44,7 +42,7 @@ fn word_or<'a>(words: Words<'a>, why: Why) -> Result<(&'a [u8], Words<'a>), Stop
     }
 }
 
-fn end_or(words: Words, why: Why) -> Result<(), Stop>
+fn end_or(words: Words, why: NetWhy) -> Result<(), Stop>
     ensures { Finds result (or_why (ended words.entry) why) (λ u. u) }
 {
     match words.end() {
@@ -58,7 +56,7 @@ fn number_or(word: &[u8]) -> Result<u64, Stop>
 {
     match read_number(word, MOST) {
         Some(n) => Ok(n),
-        None => Err(Stop::Refused(Why::Number)),
+        None => Err(Stop::Refused(NetWhy::Number)),
     }
 }
 
@@ -67,13 +65,13 @@ fn number_or(word: &[u8]) -> Result<u64, Stop>
 pub fn header(words: Words) -> Result<(), Stop>
     ensures { Finds result (header_of words.entry) (λ u. u) }
 {
-    let (name, words) = word_or(words, Why::Header)?;
-    let (version, words) = word_or(words, Why::Header)?;
+    let (name, words) = word_or(words, NetWhy::Header)?;
+    let (version, words) = word_or(words, NetWhy::Header)?;
     wants(
         name == b"vericon-net".as_slice() && version == b"1".as_slice(),
-        Why::Header,
+        NetWhy::Header,
     )?;
-    end_or(words, Why::Header)
+    end_or(words, NetWhy::Header)
 }
 
 /// The words behind the first, which has to be `key`; else the line is refused for `Shape`.
@@ -81,8 +79,8 @@ pub fn header(words: Words) -> Result<(), Stop>
 pub fn behind<'a>(key: &[u8], words: Words<'a>) -> Result<Words<'a>, Stop>
     ensures { Finds result (behind_of key.now words.entry) (λ rest. rest) }
 {
-    let (word, rest) = word_or(words, Why::Shape)?;
-    wants(word == key, Why::Shape)?;
+    let (word, rest) = word_or(words, NetWhy::Shape)?;
+    wants(word == key, NetWhy::Shape)?;
     Ok(rest)
 }
 
@@ -96,7 +94,7 @@ fn elements(words: Words, found: &mut Elements) -> Result<(), Stop>
             return Ok(());
         };
         let Some(n) = read_number(word, MOST) else {
-            return Err(Stop::Refused(Why::Number));
+            return Err(Stop::Refused(NetWhy::Number));
         };
         if found.push(n).is_err() {
             return Err(Stop::Memory);
@@ -114,11 +112,11 @@ pub fn sort(alloc: Global, words: Words) -> Result<Elements, Stop>
     let mut found = Items::new(alloc);
     elements(words, &mut found)?;
     if found.len() == 0 {
-        return Err(Stop::Refused(Why::Empty));
+        return Err(Stop::Refused(NetWhy::Empty));
     }
     match are_distinct(alloc, found.as_slice()) {
         Ok(true) => Ok(found),
-        Ok(false) => Err(Stop::Refused(Why::Repeated)),
+        Ok(false) => Err(Stop::Refused(NetWhy::Repeated)),
         Err(_) => Err(Stop::Memory),
     }
 }
@@ -152,7 +150,7 @@ pub fn ports(
         return Err(Stop::Memory);
     };
     if missing_port(&network, program.numerals()).is_some() {
-        return Err(Stop::Refused(Why::NoPort));
+        return Err(Stop::Refused(NetWhy::NoPort));
     }
     match no_values(alloc, program.parts().constants.as_slice()) {
         Ok(values) => Ok(Open { network, values }),
@@ -194,16 +192,16 @@ fn has_value(values: &Values, constant: Option<(usize, Sort)>) -> bool
 pub fn constant(program: &Program, draft: Open, words: Words) -> Result<Open, Stop>
     ensures { Finds result (constant_of program.now draft words.entry) (λ new. new) }
 {
-    let (name, words) = word_or(words, Why::Shape)?;
-    let (word, words) = word_or(words, Why::Shape)?;
-    end_or(words, Why::Shape)?;
+    let (name, words) = word_or(words, NetWhy::Shape)?;
+    let (word, words) = word_or(words, NetWhy::Shape)?;
+    end_or(words, NetWhy::Shape)?;
     let found = constant_at(program.parts().constants.as_slice(), name);
-    wants(!has_value(&draft.values, found), Why::Shape)?;
+    wants(!has_value(&draft.values, found), NetWhy::Shape)?;
     let e = number_or(word)?;
     let Some((at, sort)) = found else {
-        return Err(Stop::Refused(Why::Name));
+        return Err(Stop::Refused(NetWhy::Name));
     };
-    wants(draft.network.has(sort, e), Why::Stranger)?;
+    wants(draft.network.has(sort, e), NetWhy::Stranger)?;
     let Open { network, values } = draft;
     Ok(Open {
         network,
@@ -259,9 +257,9 @@ fn cells(network: &Network, sorts: &[Sort], elements: &[u64]) -> Result<Cells, S
     ensures { Finds result (cells_of network.now sorts.now elements.now) (λ cells. cells) }
 {
     if elements.len() != sorts.len() {
-        return Err(Stop::Refused(Why::Arity));
+        return Err(Stop::Refused(NetWhy::Arity));
     }
-    wants(are_elements(network, sorts, elements), Why::Stranger)?;
+    wants(are_elements(network, sorts, elements), NetWhy::Stranger)?;
     Ok(Cells::of(elements))
 }
 
@@ -278,13 +276,13 @@ pub fn tuple(
 ) -> Result<(RelId, Cells), Stop>
     ensures { Finds result (tuple_of program.now is_static network.now words.entry) (λ t. (t.0.0, t.1)) }
 {
-    let (name, words) = word_or(words, Why::Shape)?;
+    let (name, words) = word_or(words, NetWhy::Shape)?;
     let mut found = Items::new(alloc);
     elements(words, &mut found)?;
     let Some((rel, relation)) = relation_at(program, name) else {
-        return Err(Stop::Refused(Why::Name));
+        return Err(Stop::Refused(NetWhy::Name));
     };
-    wants(relation.fixed == is_static, Why::Name)?;
+    wants(relation.fixed == is_static, NetWhy::Name)?;
     let cells = cells(network, relation.sorts.as_slice(), found.as_slice())?;
     Ok((rel, cells))
 }
@@ -308,18 +306,18 @@ pub fn flow(alloc: Global, network: &Network, words: Words) -> Result<Cells, Sto
 pub fn packet(network: &Network, words: Words) -> Result<Packet, Stop>
     ensures { Finds result (packet_of network.now words.entry) (λ packet. packet) }
 {
-    let (s, words) = word_or(words, Why::Shape)?;
-    let (a, words) = word_or(words, Why::Shape)?;
-    let (b, words) = word_or(words, Why::Shape)?;
-    let (i, words) = word_or(words, Why::Shape)?;
-    end_or(words, Why::Shape)?;
+    let (s, words) = word_or(words, NetWhy::Shape)?;
+    let (a, words) = word_or(words, NetWhy::Shape)?;
+    let (b, words) = word_or(words, NetWhy::Shape)?;
+    let (i, words) = word_or(words, NetWhy::Shape)?;
+    end_or(words, NetWhy::Shape)?;
     let s = number_or(s)?;
     let a = number_or(a)?;
     let b = number_or(b)?;
     let i = number_or(i)?;
     wants(
         are_elements(network, &PACKET_SORTS, &[s, a, b, i]),
-        Why::Stranger,
+        NetWhy::Stranger,
     )?;
     Ok(Packet::At { s, a, b, i })
 }

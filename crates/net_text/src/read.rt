@@ -6,7 +6,7 @@ ghost use Rattle.net_text.specs.Gives.{Finds, Gives};
 
 use crate::line::{all_values, behind, constant, flow, header, packet, ports, sort, tuple};
 use crate::place::{Open, Place};
-use crate::refusal::{NetTextRefusal, Stop, Why};
+use crate::refusal::{NetTextRefusal, NetWhy, Stop};
 use csdn_core::event::Packet;
 use csdn_core::program::Program;
 use csdn_core::terms::Pred;
@@ -20,7 +20,7 @@ use text_lines::{Lines, Next, Words};
 ///
 /// # Errors
 ///
-/// `Line` with the first line that is refused, counted from 1, and the first reason in the order of `Why`; or with the
+/// `Line` with the first line that is refused, counted from 1, and the first reason in the order of `NetWhy`; or with the
 /// line one past the last, where the text ends too early. `Memory` where memory ran out.
 ///
 /// # Example
@@ -34,7 +34,7 @@ use text_lines::{Lines, Next, Words};
 /// let printed = print_net(alloc, &program, &case)?;
 /// assert!(rt; printed.as_slice() == b"vericon-net 1\nsw 1\nho 1\npr 2\nc h 1\nc g 2\nstate\nend\n".as_slice());
 /// match read_net(alloc, &program, b"vericon-net 1\nsw 1 x\n") {
-///     Err(NetTextRefusal::Line { number, why }) => assert!(rt; number == 2 && why == Why::Number),
+///     Err(NetTextRefusal::Line { number, why }) => assert!(rt; number == 2 && why == NetWhy::Number),
 ///     _ => assert!(rt; false),
 /// }
 /// ```
@@ -61,12 +61,12 @@ fn finish(place: Place, number: u64) -> Result<Case, NetTextRefusal>
     match place {
         Place::Header => Err(NetTextRefusal::Line {
             number,
-            why: Why::Header,
+            why: NetWhy::Header,
         }),
         Place::Ended(case) => Ok(case),
         _ => Err(NetTextRefusal::Line {
             number,
-            why: Why::Missing,
+            why: NetWhy::Missing,
         }),
     }
 }
@@ -101,7 +101,7 @@ fn take(alloc: Global, program: &Program, place: Place, words: Words) -> Result<
             let words = behind(b"end", words)?;
             close(alloc, draft, Some(state), packet, words)
         }
-        Place::Ended(_) => Err(Stop::Refused(Why::Shape)),
+        Place::Ended(_) => Err(Stop::Refused(NetWhy::Shape)),
     }
 }
 
@@ -111,7 +111,7 @@ fn take_item(alloc: Global, program: &Program, draft: Open, words: Words) -> Res
     ensures { Finds result (item_line program.now draft words.entry) (λ next. next) }
 {
     let Some((key, words)) = words.next() else {
-        return Err(Stop::Refused(Why::Shape));
+        return Err(Stop::Refused(NetWhy::Shape));
     };
     if key == b"c".as_slice() {
         let draft = constant(program, draft, words)?;
@@ -121,7 +121,7 @@ fn take_item(alloc: Global, program: &Program, draft: Open, words: Words) -> Res
         Ok(Place::Items(draft))
     } else if key == b"state".as_slice() {
         if words.end().is_none() {
-            return Err(Stop::Refused(Why::Shape));
+            return Err(Stop::Refused(NetWhy::Shape));
         }
         match State::try_empty(alloc, program) {
             Ok(state) => Ok(Place::Facts(draft, state)),
@@ -130,7 +130,7 @@ fn take_item(alloc: Global, program: &Program, draft: Open, words: Words) -> Res
     } else if key == b"end".as_slice() {
         close(alloc, draft, None, Packet::Nothing, words)
     } else {
-        Err(Stop::Refused(Why::Shape))
+        Err(Stop::Refused(NetWhy::Shape))
     }
 }
 
@@ -146,7 +146,7 @@ fn take_fact(
     ensures { Finds result (fact_line program.now draft state words.entry) (λ next. next) }
 {
     let Some((key, words)) = words.next() else {
-        return Err(Stop::Refused(Why::Shape));
+        return Err(Stop::Refused(NetWhy::Shape));
     };
     if key == b"t".as_slice() {
         let state = with_stored(alloc, program, &draft, state, words)?;
@@ -163,7 +163,7 @@ fn take_fact(
     } else if key == b"end".as_slice() {
         close(alloc, draft, Some(state), Packet::Nothing, words)
     } else {
-        Err(Stop::Refused(Why::Shape))
+        Err(Stop::Refused(NetWhy::Shape))
     }
 }
 
@@ -228,7 +228,7 @@ fn close(
     ensures { Finds result (end_of draft state packet words.entry) (λ next. next) }
 {
     if words.end().is_none() {
-        return Err(Stop::Refused(Why::Shape));
+        return Err(Stop::Refused(NetWhy::Shape));
     }
     let Open { network, values } = draft;
     match all_values(alloc, &values) {
@@ -237,7 +237,7 @@ fn close(
             state,
             packet,
         })),
-        Ok(None) => Err(Stop::Refused(Why::Missing)),
+        Ok(None) => Err(Stop::Refused(NetWhy::Missing)),
         Err(_) => Err(Stop::Memory),
     }
 }

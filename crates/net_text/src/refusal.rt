@@ -3,7 +3,7 @@ use thiserror::Error;
 
 /// Why a line is refused. Of several reasons in one line the first in this order counts.
 #[derive(Clone, Copy, Debug, PartialEq, Eq)]
-pub enum Why {
+pub enum NetWhy {
     /// The first line isn't `vericon-net 1`.
     Header,
     /// Another first word, a wrong order, a wrong number of words on a line that names no relation, a constant twice.
@@ -31,7 +31,7 @@ pub enum Why {
 pub enum NetTextRefusal {
     /// The first line that is refused; or one past the last line, where the text ends too early.
     #[error("line {number} is refused: {why:?}")]
-    Line { number: u64, why: Why },
+    Line { number: u64, why: NetWhy },
     #[error("out of memory")]
     Memory,
 }
@@ -39,6 +39,6 @@ pub enum NetTextRefusal {
 /// Why a line isn't taken.
 #[derive(Clone, Copy, Debug)]
 pub enum Stop {
-    Refused(Why),
+    Refused(NetWhy),
     Memory,
 }

@@ -1,5 +1,6 @@
 -- The line of each frame, and of what is left behind the last.
 use Rattle.std.specs.Prelude.{ℕ, zero, suc, ◌+◌, ◌<◌, ◌^◌, ◌==◌, if◌then◌else◌, List, [], ◌++◌, codes, decimal}
+use Rattle.of10_wire.specs.MessageTypes as types
 use Rattle.of10_wire.specs.declared.refusal.WireWhy.{WireWhy}
 use Rattle.of10_wire.specs.declared.refusal.WireWhy.TheVariants.{Memory, BadVersion, BadType, BadLength, BadAction, BadStat, BadProperty}
 use Rattle.of10_msgs.specs.declared.message.Message.{Message}
@@ -11,28 +12,28 @@ use Rattle.of10_stream.specs.Streams.{frame_width}
 -- the name of a message type (OpenFlow Switch Specification 1.0.0, section 5.1)
 unfoldable pub type_name : ℕ → List ℕ
 type_name kind =
-    if kind == 0 then codes "HELLO"
-    else if kind == 1 then codes "ERROR"
-    else if kind == 2 then codes "ECHO_REQUEST"
-    else if kind == 3 then codes "ECHO_REPLY"
-    else if kind == 4 then codes "VENDOR"
-    else if kind == 5 then codes "FEATURES_REQUEST"
-    else if kind == 6 then codes "FEATURES_REPLY"
-    else if kind == 7 then codes "GET_CONFIG_REQUEST"
-    else if kind == 8 then codes "GET_CONFIG_REPLY"
-    else if kind == 9 then codes "SET_CONFIG"
-    else if kind == 10 then codes "PACKET_IN"
-    else if kind == 11 then codes "FLOW_REMOVED"
-    else if kind == 12 then codes "PORT_STATUS"
-    else if kind == 13 then codes "PACKET_OUT"
-    else if kind == 14 then codes "FLOW_MOD"
-    else if kind == 15 then codes "PORT_MOD"
-    else if kind == 16 then codes "STATS_REQUEST"
-    else if kind == 17 then codes "STATS_REPLY"
-    else if kind == 18 then codes "BARRIER_REQUEST"
-    else if kind == 19 then codes "BARRIER_REPLY"
-    else if kind == 20 then codes "QUEUE_GET_CONFIG_REQUEST"
-    else if kind == 21 then codes "QUEUE_GET_CONFIG_REPLY"
+    if kind == types.hello then codes "HELLO"
+    else if kind == types.error then codes "ERROR"
+    else if kind == types.echo_request then codes "ECHO_REQUEST"
+    else if kind == types.echo_reply then codes "ECHO_REPLY"
+    else if kind == types.vendor then codes "VENDOR"
+    else if kind == types.features_request then codes "FEATURES_REQUEST"
+    else if kind == types.features_reply then codes "FEATURES_REPLY"
+    else if kind == types.get_config_request then codes "GET_CONFIG_REQUEST"
+    else if kind == types.get_config_reply then codes "GET_CONFIG_REPLY"
+    else if kind == types.set_config then codes "SET_CONFIG"
+    else if kind == types.packet_in then codes "PACKET_IN"
+    else if kind == types.flow_removed then codes "FLOW_REMOVED"
+    else if kind == types.port_status then codes "PORT_STATUS"
+    else if kind == types.packet_out then codes "PACKET_OUT"
+    else if kind == types.flow_mod then codes "FLOW_MOD"
+    else if kind == types.port_mod then codes "PORT_MOD"
+    else if kind == types.stats_request then codes "STATS_REQUEST"
+    else if kind == types.stats_reply then codes "STATS_REPLY"
+    else if kind == types.barrier_request then codes "BARRIER_REQUEST"
+    else if kind == types.barrier_reply then codes "BARRIER_REPLY"
+    else if kind == types.queue_get_config_request then codes "QUEUE_GET_CONFIG_REQUEST"
+    else if kind == types.queue_get_config_reply then codes "QUEUE_GET_CONFIG_REPLY"
     else []
 
 unfoldable pub why_name : WireWhy → List ℕ

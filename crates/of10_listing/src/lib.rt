@@ -5,7 +5,7 @@ mod lines;
 mod listing;
 
 pub use lines::why_name;
-pub use listing::{Listing, list, listings_have_one_text};
+pub use listing::{Listing, list_frames, listings_have_one_text};
 
 #[cfg(test)]
 mod tests;

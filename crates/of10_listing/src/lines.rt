@@ -4,7 +4,7 @@ ghost use Rattle.std.specs.Prelude.{◌≡◌, ◌++◌, OnOk};
 ghost use Rattle.of10_listing.specs.Lines.{type_name, why_name, frame_line, cut_line, refused_line, tail_line, IsNear};
 
 use of10_stream::Tail;
-use of10_wire::WireWhy;
+use of10_wire::{WireWhy, message_type};
 use std::alloc::AllocError;
 use text_lines::{put_line_end, put_number, put_word};
 
@@ -14,28 +14,28 @@ fn type_name(kind: u8) -> &'static [u8]
     ensures { result.now ≡ type_name kind }
 {
     match kind {
-        0 => b"HELLO",
-        1 => b"ERROR",
-        2 => b"ECHO_REQUEST",
-        3 => b"ECHO_REPLY",
-        4 => b"VENDOR",
-        5 => b"FEATURES_REQUEST",
-        6 => b"FEATURES_REPLY",
-        7 => b"GET_CONFIG_REQUEST",
-        8 => b"GET_CONFIG_REPLY",
-        9 => b"SET_CONFIG",
-        10 => b"PACKET_IN",
-        11 => b"FLOW_REMOVED",
-        12 => b"PORT_STATUS",
-        13 => b"PACKET_OUT",
-        14 => b"FLOW_MOD",
-        15 => b"PORT_MOD",
-        16 => b"STATS_REQUEST",
-        17 => b"STATS_REPLY",
-        18 => b"BARRIER_REQUEST",
-        19 => b"BARRIER_REPLY",
-        20 => b"QUEUE_GET_CONFIG_REQUEST",
-        21 => b"QUEUE_GET_CONFIG_REPLY",
+        message_type::HELLO => b"HELLO",
+        message_type::ERROR => b"ERROR",
+        message_type::ECHO_REQUEST => b"ECHO_REQUEST",
+        message_type::ECHO_REPLY => b"ECHO_REPLY",
+        message_type::VENDOR => b"VENDOR",
+        message_type::FEATURES_REQUEST => b"FEATURES_REQUEST",
+        message_type::FEATURES_REPLY => b"FEATURES_REPLY",
+        message_type::GET_CONFIG_REQUEST => b"GET_CONFIG_REQUEST",
+        message_type::GET_CONFIG_REPLY => b"GET_CONFIG_REPLY",
+        message_type::SET_CONFIG => b"SET_CONFIG",
+        message_type::PACKET_IN => b"PACKET_IN",
+        message_type::FLOW_REMOVED => b"FLOW_REMOVED",
+        message_type::PORT_STATUS => b"PORT_STATUS",
+        message_type::PACKET_OUT => b"PACKET_OUT",
+        message_type::FLOW_MOD => b"FLOW_MOD",
+        message_type::PORT_MOD => b"PORT_MOD",
+        message_type::STATS_REQUEST => b"STATS_REQUEST",
+        message_type::STATS_REPLY => b"STATS_REPLY",
+        message_type::BARRIER_REQUEST => b"BARRIER_REQUEST",
+        message_type::BARRIER_REPLY => b"BARRIER_REPLY",
+        message_type::QUEUE_GET_CONFIG_REQUEST => b"QUEUE_GET_CONFIG_REQUEST",
+        message_type::QUEUE_GET_CONFIG_REPLY => b"QUEUE_GET_CONFIG_REPLY",
         _ => b"",
     }
 }

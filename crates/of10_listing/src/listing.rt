@@ -51,7 +51,7 @@ fn is_whole(tail: Tail) -> bool
 
 /// Lists the stream that these bytes are: a line for each message, and one for what is left (docs/COMMANDS.md,
 /// "frames").
-pub fn list(alloc: Global, bytes: &[u8]) -> Result<Listing, AllocError>
+pub fn list_frames(alloc: Global, bytes: &[u8]) -> Result<Listing, AllocError>
     ensures { IfOk result (λ listed. IsListing bytes.now listed.text.items listed.is_whole) }
 {
     let mut text = Vec::new(alloc);

@@ -38,7 +38,7 @@ fn each_frame_and_what_is_left_has_its_line(rt: HostRuntime) -> Result<(), Fail>
         ),
     ];
     for (bytes, text, is_whole) in cases {
-        let listed = list(rt.alloc(), bytes)?;
+        let listed = list_frames(rt.alloc(), bytes)?;
         assert_eq!(rt; listed.text.as_slice(), text);
         assert_eq!(rt; listed.is_whole, is_whole);
     }

@@ -2,6 +2,7 @@
 use Rattle.std.specs.Prelude.{ℕ, ◌≡◌, List, [], ◌∷◌, ◌++◌, length}
 use Rattle.std.specs.List.{flat_map}
 use Rattle.of10_wire.specs.Headers.{frame}
+use Rattle.of10_wire.specs.MessageTypes as types
 use Rattle.of10_wire.specs.Layout.{Slot, Number, Raw, Pad, Spells, appended, width, number}
 use Rattle.of10_wire.specs.Parts.{match_slots, port_slots}
 use Rattle.of10_wire.specs.Actions.{action_slots}
@@ -22,28 +23,28 @@ version_of message = 1
 
 -- the number of the message's type
 abbrev pub kind_of : Message → ℕ
-kind_of (Hello xid version body) = 0
-kind_of (Error xid kind code body) = 1
-kind_of (EchoRequest xid body) = 2
-kind_of (EchoReply xid body) = 3
-kind_of (Vendor xid vendor body) = 4
-kind_of (FeaturesRequest xid) = 5
-kind_of (FeaturesReply xid datapath_id n_buffers n_tables capabilities actions ports) = 6
-kind_of (GetConfigRequest xid) = 7
-kind_of (GetConfigReply xid flags miss_send_len) = 8
-kind_of (SetConfig xid flags miss_send_len) = 9
-kind_of (PacketIn xid buffer_id total_len in_port reason body) = 10
-kind_of (FlowRemoved xid flow cookie priority reason duration_sec duration_nsec idle_timeout packet_count byte_count) = 11
-kind_of (PortStatus xid reason desc) = 12
-kind_of (PacketOut xid buffer_id in_port actions body) = 13
-kind_of (FlowMod xid flow cookie command idle_timeout hard_timeout priority buffer_id out_port flags actions) = 14
-kind_of (PortMod xid port_no hw_addr config mask advertise) = 15
-kind_of (StatsRequest xid flags body) = 16
-kind_of (StatsReply xid flags body) = 17
-kind_of (BarrierRequest xid) = 18
-kind_of (BarrierReply xid) = 19
-kind_of (QueueGetConfigRequest xid port) = 20
-kind_of (QueueGetConfigReply xid port queues) = 21
+kind_of (Hello xid version body) = types.hello
+kind_of (Error xid kind code body) = types.error
+kind_of (EchoRequest xid body) = types.echo_request
+kind_of (EchoReply xid body) = types.echo_reply
+kind_of (Vendor xid vendor body) = types.vendor
+kind_of (FeaturesRequest xid) = types.features_request
+kind_of (FeaturesReply xid datapath_id n_buffers n_tables capabilities actions ports) = types.features_reply
+kind_of (GetConfigRequest xid) = types.get_config_request
+kind_of (GetConfigReply xid flags miss_send_len) = types.get_config_reply
+kind_of (SetConfig xid flags miss_send_len) = types.set_config
+kind_of (PacketIn xid buffer_id total_len in_port reason body) = types.packet_in
+kind_of (FlowRemoved xid flow cookie priority reason duration_sec duration_nsec idle_timeout packet_count byte_count) = types.flow_removed
+kind_of (PortStatus xid reason desc) = types.port_status
+kind_of (PacketOut xid buffer_id in_port actions body) = types.packet_out
+kind_of (FlowMod xid flow cookie command idle_timeout hard_timeout priority buffer_id out_port flags actions) = types.flow_mod
+kind_of (PortMod xid port_no hw_addr config mask advertise) = types.port_mod
+kind_of (StatsRequest xid flags body) = types.stats_request
+kind_of (StatsReply xid flags body) = types.stats_reply
+kind_of (BarrierRequest xid) = types.barrier_request
+kind_of (BarrierReply xid) = types.barrier_reply
+kind_of (QueueGetConfigRequest xid port) = types.queue_get_config_request
+kind_of (QueueGetConfigReply xid port queues) = types.queue_get_config_reply
 
 abbrev pub xid_of : Message → ℕ
 xid_of (Hello xid version body) = xid

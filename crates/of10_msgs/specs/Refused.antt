@@ -3,6 +3,7 @@ use Rattle.std.specs.Prelude.{ℕ, ◌≡◌, ◌+◌, ◌-◌, ◌<◌, ◌≤�
 use Rattle.of10_wire.specs.declared.refusal.WireRefusal.{WireRefusal}
 use Rattle.of10_wire.specs.declared.refusal.WireWhy.TheVariants.{BadLength}
 use Rattle.of10_wire.specs.Refusals.{refusal}
+use Rattle.of10_wire.specs.MessageTypes as types
 use Rattle.of10_wire.specs.Layout.{number, part}
 use Rattle.of10_wire.specs.Lists.{IsRefusedIn}
 use Rattle.of10_wire.specs.Actions.{IsRefusedAction}
@@ -28,7 +29,7 @@ early bytes = early_by (opening_of bytes) bytes
 -- A whole frame of a type of OpenFlow 1.0, of a length that its layout allows: only a HELLO may have another version than 1.
 pub record IsTypedFrame (bytes : List ℕ) : Type 0 where
   pub long : 8 ≤ length bytes
-  pub version : (not (number 1 0 bytes == 1) && not (number 1 1 bytes == 0)) ≡ false
+  pub version : (not (number 1 0 bytes == 1) && not (number 1 1 bytes == types.hello)) ≡ false
   pub known : is_kind (number 1 1 bytes) ≡ true
   pub len : number 2 2 bytes ≡ length bytes
   pub allowed : allows_length (number 1 1 bytes) (length bytes) ≡ true
@@ -54,10 +55,10 @@ LateQueueReply bytes e = IsRefusedIn queue_slots RefusesQueue 16 (part (length b
 -- what the body shows, from left to right
 abbrev pub Late : List ℕ → WireRefusal → Type 0
 Late bytes e =
-    ((number 1 1 bytes ≡ 13) × LatePacketOut bytes e)
-    ⊎ (((number 1 1 bytes ≡ 14) × LateFlowMod bytes e)
-    ⊎ (((number 1 1 bytes ≡ 16) × (request_refusal bytes ≡ Some e))
-    ⊎ (((number 1 1 bytes ≡ 17) × RefusesReply bytes e) ⊎ ((number 1 1 bytes ≡ 21) × LateQueueReply bytes e))))
+    ((number 1 1 bytes ≡ types.packet_out) × LatePacketOut bytes e)
+    ⊎ (((number 1 1 bytes ≡ types.flow_mod) × LateFlowMod bytes e)
+    ⊎ (((number 1 1 bytes ≡ types.stats_request) × (request_refusal bytes ≡ Some e))
+    ⊎ (((number 1 1 bytes ≡ types.stats_reply) × RefusesReply bytes e) ⊎ ((number 1 1 bytes ≡ types.queue_get_config_reply) × LateQueueReply bytes e))))
 
 -- The first reason why the bytes are no message.
 abbrev pub Refuses : List ℕ → WireRefusal → Type 0

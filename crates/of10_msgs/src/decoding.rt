@@ -15,7 +15,7 @@ use crate::reading::{
     packet_in, packet_out, port_mod, port_status, queue_get_config_reply, queue_get_config_request,
     set_config, stats_reply, stats_request, vendor,
 };
-use of10_wire::{Opening, WireRefusal, WireWhy, opening_of, u8_at};
+use of10_wire::{Opening, WireRefusal, WireWhy, message_type, opening_of, u8_at};
 use std::alloc::Global;
 
 fn refusal(at: usize, why: WireWhy) -> Option<WireRefusal>
@@ -51,27 +51,27 @@ fn read_frame(alloc: Global, bytes: &[u8]) -> Result<Message, WireRefusal>
     ensures { Answers result (λ m. spells m bytes.now) (Late bytes.now) }
 {
     match u8_at(bytes, 1) {
-        0 => Ok(hello(alloc, bytes)?),
-        1 => Ok(error(alloc, bytes)?),
-        2 => Ok(echo_request(alloc, bytes)?),
-        3 => Ok(echo_reply(alloc, bytes)?),
-        4 => Ok(vendor(alloc, bytes)?),
-        5 => Ok(features_request(bytes)),
-        6 => Ok(features_reply(alloc, bytes)?),
-        7 => Ok(get_config_request(bytes)),
-        8 => Ok(get_config_reply(bytes)),
-        9 => Ok(set_config(bytes)),
-        10 => Ok(packet_in(alloc, bytes)?),
-        11 => Ok(flow_removed(bytes)),
-        12 => Ok(port_status(bytes)),
-        13 => packet_out(alloc, bytes),
-        14 => flow_mod(alloc, bytes),
-        15 => Ok(port_mod(bytes)),
-        16 => stats_request(alloc, bytes),
-        17 => stats_reply(alloc, bytes),
-        18 => Ok(barrier_request(bytes)),
-        19 => Ok(barrier_reply(bytes)),
-        20 => Ok(queue_get_config_request(bytes)),
+        message_type::HELLO => Ok(hello(alloc, bytes)?),
+        message_type::ERROR => Ok(error(alloc, bytes)?),
+        message_type::ECHO_REQUEST => Ok(echo_request(alloc, bytes)?),
+        message_type::ECHO_REPLY => Ok(echo_reply(alloc, bytes)?),
+        message_type::VENDOR => Ok(vendor(alloc, bytes)?),
+        message_type::FEATURES_REQUEST => Ok(features_request(bytes)),
+        message_type::FEATURES_REPLY => Ok(features_reply(alloc, bytes)?),
+        message_type::GET_CONFIG_REQUEST => Ok(get_config_request(bytes)),
+        message_type::GET_CONFIG_REPLY => Ok(get_config_reply(bytes)),
+        message_type::SET_CONFIG => Ok(set_config(bytes)),
+        message_type::PACKET_IN => Ok(packet_in(alloc, bytes)?),
+        message_type::FLOW_REMOVED => Ok(flow_removed(bytes)),
+        message_type::PORT_STATUS => Ok(port_status(bytes)),
+        message_type::PACKET_OUT => packet_out(alloc, bytes),
+        message_type::FLOW_MOD => flow_mod(alloc, bytes),
+        message_type::PORT_MOD => Ok(port_mod(bytes)),
+        message_type::STATS_REQUEST => stats_request(alloc, bytes),
+        message_type::STATS_REPLY => stats_reply(alloc, bytes),
+        message_type::BARRIER_REQUEST => Ok(barrier_request(bytes)),
+        message_type::BARRIER_REPLY => Ok(barrier_reply(bytes)),
+        message_type::QUEUE_GET_CONFIG_REQUEST => Ok(queue_get_config_request(bytes)),
         _ => queue_get_config_reply(alloc, bytes),
     }
 }

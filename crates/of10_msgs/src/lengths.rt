@@ -3,6 +3,8 @@
 ghost use Rattle.std.specs.Prelude.{◌≡◌, ◌≤◌};
 ghost use Rattle.of10_msgs.specs.Lengths.{lengths_of, least, allows};
 
+use of10_wire::message_type;
+
 /// How long the frames of one type are.
 #[derive(Clone, Copy)]
 pub enum Lengths {
@@ -20,16 +22,24 @@ pub fn lengths_of(kind: u8) -> Lengths
     ensures small { least result ≤ 88 }
 {
     match kind {
-        5 | 7 | 18 | 19 => Lengths::Exactly(8),
-        8 | 9 | 20 => Lengths::Exactly(12),
-        11 => Lengths::Exactly(88),
-        12 => Lengths::Exactly(64),
-        15 => Lengths::Exactly(32),
-        1 | 4 | 16 | 17 => Lengths::AtLeast(12),
-        6 => Lengths::Ports(32),
-        10 => Lengths::AtLeast(18),
-        13 | 21 => Lengths::AtLeast(16),
-        14 => Lengths::AtLeast(72),
+        message_type::FEATURES_REQUEST
+        | message_type::GET_CONFIG_REQUEST
+        | message_type::BARRIER_REQUEST
+        | message_type::BARRIER_REPLY => Lengths::Exactly(8),
+        message_type::GET_CONFIG_REPLY
+        | message_type::SET_CONFIG
+        | message_type::QUEUE_GET_CONFIG_REQUEST => Lengths::Exactly(12),
+        message_type::FLOW_REMOVED => Lengths::Exactly(88),
+        message_type::PORT_STATUS => Lengths::Exactly(64),
+        message_type::PORT_MOD => Lengths::Exactly(32),
+        message_type::ERROR
+        | message_type::VENDOR
+        | message_type::STATS_REQUEST
+        | message_type::STATS_REPLY => Lengths::AtLeast(12),
+        message_type::FEATURES_REPLY => Lengths::Ports(32),
+        message_type::PACKET_IN => Lengths::AtLeast(18),
+        message_type::PACKET_OUT | message_type::QUEUE_GET_CONFIG_REPLY => Lengths::AtLeast(16),
+        message_type::FLOW_MOD => Lengths::AtLeast(72),
         _ => Lengths::AtLeast(8),
     }
 }

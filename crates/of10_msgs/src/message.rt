@@ -4,7 +4,7 @@ ghost use Rattle.std.specs.Prelude.{◌≡◌};
 ghost use Rattle.of10_msgs.specs.Messages.{version_of, kind_of, xid_of, echoed};
 
 use of10_stats::{Queues, StatsReply, StatsRequest};
-use of10_wire::{Actions, Body, FlowMatch, PhyPort, Ports};
+use of10_wire::{Actions, Body, FlowMatch, PhyPort, Ports, message_type};
 
 /// A message of OpenFlow 1.0 (OpenFlow Switch Specification 1.0.0, section 5). Pads, lengths and the numbers that
 /// choose a variant are no fields. Every value of each field is kept.
@@ -176,28 +176,28 @@ impl Message {
         ensures { result ≡ kind_of self.now }
     {
         match self {
-            Message::Hello { .. } => 0,
-            Message::Error { .. } => 1,
-            Message::EchoRequest { .. } => 2,
-            Message::EchoReply { .. } => 3,
-            Message::Vendor { .. } => 4,
-            Message::FeaturesRequest { .. } => 5,
-            Message::FeaturesReply { .. } => 6,
-            Message::GetConfigRequest { .. } => 7,
-            Message::GetConfigReply { .. } => 8,
-            Message::SetConfig { .. } => 9,
-            Message::PacketIn { .. } => 10,
-            Message::FlowRemoved { .. } => 11,
-            Message::PortStatus { .. } => 12,
-            Message::PacketOut { .. } => 13,
-            Message::FlowMod { .. } => 14,
-            Message::PortMod { .. } => 15,
-            Message::StatsRequest { .. } => 16,
-            Message::StatsReply { .. } => 17,
-            Message::BarrierRequest { .. } => 18,
-            Message::BarrierReply { .. } => 19,
-            Message::QueueGetConfigRequest { .. } => 20,
-            Message::QueueGetConfigReply { .. } => 21,
+            Message::Hello { .. } => message_type::HELLO,
+            Message::Error { .. } => message_type::ERROR,
+            Message::EchoRequest { .. } => message_type::ECHO_REQUEST,
+            Message::EchoReply { .. } => message_type::ECHO_REPLY,
+            Message::Vendor { .. } => message_type::VENDOR,
+            Message::FeaturesRequest { .. } => message_type::FEATURES_REQUEST,
+            Message::FeaturesReply { .. } => message_type::FEATURES_REPLY,
+            Message::GetConfigRequest { .. } => message_type::GET_CONFIG_REQUEST,
+            Message::GetConfigReply { .. } => message_type::GET_CONFIG_REPLY,
+            Message::SetConfig { .. } => message_type::SET_CONFIG,
+            Message::PacketIn { .. } => message_type::PACKET_IN,
+            Message::FlowRemoved { .. } => message_type::FLOW_REMOVED,
+            Message::PortStatus { .. } => message_type::PORT_STATUS,
+            Message::PacketOut { .. } => message_type::PACKET_OUT,
+            Message::FlowMod { .. } => message_type::FLOW_MOD,
+            Message::PortMod { .. } => message_type::PORT_MOD,
+            Message::StatsRequest { .. } => message_type::STATS_REQUEST,
+            Message::StatsReply { .. } => message_type::STATS_REPLY,
+            Message::BarrierRequest { .. } => message_type::BARRIER_REQUEST,
+            Message::BarrierReply { .. } => message_type::BARRIER_REPLY,
+            Message::QueueGetConfigRequest { .. } => message_type::QUEUE_GET_CONFIG_REQUEST,
+            Message::QueueGetConfigReply { .. } => message_type::QUEUE_GET_CONFIG_REPLY,
         }
     }
 

@@ -2,6 +2,7 @@
 
 ghost use Rattle.std.specs.Prelude.{◌≡◌, ◌+◌, ◌-◌, ◌≤◌, ◌<◌, ◌^◌, ◌%◌, length, Some, IfOk};
 ghost use Rattle.of10_wire.specs.Layout.{number};
+ghost use Rattle.of10_wire.specs.MessageTypes as types;
 ghost use Rattle.of10_wire.specs.Refusals.{Answers};
 ghost use Rattle.of10_stats.specs.Requests.{request_refusal};
 ghost use Rattle.of10_stats.specs.Replies.{RefusesReply};
@@ -19,7 +20,7 @@ use std::alloc::{AllocError, Global};
 /// Reads a whole HELLO frame (OpenFlow Switch Specification 1.0.0, section 5.5.1): 8 bytes or more, of any version.
 #[tactic(auto, unfolding(of10_wire::specs::Layout::Stand, crate::specs::Messages::message_slots))]
 pub fn hello(alloc: Global, bytes: &[u8]) -> Result<Message, AllocError>
-    requires kind { number 1 1 bytes.now ≡ 0 }
+    requires kind { number 1 1 bytes.now ≡ types.hello }
     requires len { number 2 2 bytes.now ≡ length bytes.now }
     requires least { 8 ≤ length bytes.now }
     ensures { IfOk result (λ m. spells m bytes.now) }
@@ -35,7 +36,7 @@ pub fn hello(alloc: Global, bytes: &[u8]) -> Result<Message, AllocError>
 /// Reads a whole ERROR frame (OpenFlow Switch Specification 1.0.0, section 5.4.4): 12 bytes or more.
 #[tactic(auto, unfolding(of10_wire::specs::Layout::Stand, crate::specs::Messages::message_slots))]
 pub fn error(alloc: Global, bytes: &[u8]) -> Result<Message, AllocError>
-    requires opens { Opens 1 bytes.now }
+    requires opens { Opens types.error bytes.now }
     requires least { 12 ≤ length bytes.now }
     ensures { IfOk result (λ m. spells m bytes.now) }
 {
@@ -51,7 +52,7 @@ pub fn error(alloc: Global, bytes: &[u8]) -> Result<Message, AllocError>
 /// Reads a whole ECHO_REQUEST frame (OpenFlow Switch Specification 1.0.0, section 5.5.2): 8 bytes or more.
 #[tactic(auto, unfolding(of10_wire::specs::Layout::Stand, crate::specs::Messages::message_slots))]
 pub fn echo_request(alloc: Global, bytes: &[u8]) -> Result<Message, AllocError>
-    requires opens { Opens 2 bytes.now }
+    requires opens { Opens types.echo_request bytes.now }
     requires least { 8 ≤ length bytes.now }
     ensures { IfOk result (λ m. spells m bytes.now) }
 {
@@ -65,7 +66,7 @@ pub fn echo_request(alloc: Global, bytes: &[u8]) -> Result<Message, AllocError>
 /// Reads a whole ECHO_REPLY frame (OpenFlow Switch Specification 1.0.0, section 5.5.3): 8 bytes or more.
 #[tactic(auto, unfolding(of10_wire::specs::Layout::Stand, crate::specs::Messages::message_slots))]
 pub fn echo_reply(alloc: Global, bytes: &[u8]) -> Result<Message, AllocError>
-    requires opens { Opens 3 bytes.now }
+    requires opens { Opens types.echo_reply bytes.now }
     requires least { 8 ≤ length bytes.now }
     ensures { IfOk result (λ m. spells m bytes.now) }
 {
@@ -79,7 +80,7 @@ pub fn echo_reply(alloc: Global, bytes: &[u8]) -> Result<Message, AllocError>
 /// Reads a whole VENDOR frame (OpenFlow Switch Specification 1.0.0, section 5.5.4): 12 bytes or more.
 #[tactic(auto, unfolding(of10_wire::specs::Layout::Stand, crate::specs::Messages::message_slots))]
 pub fn vendor(alloc: Global, bytes: &[u8]) -> Result<Message, AllocError>
-    requires opens { Opens 4 bytes.now }
+    requires opens { Opens types.vendor bytes.now }
     requires least { 12 ≤ length bytes.now }
     ensures { IfOk result (λ m. spells m bytes.now) }
 {
@@ -94,7 +95,7 @@ pub fn vendor(alloc: Global, bytes: &[u8]) -> Result<Message, AllocError>
 /// Reads a whole FEATURES_REQUEST frame (OpenFlow Switch Specification 1.0.0, section 5.3.1): 8 bytes.
 #[tactic(auto, unfolding(of10_wire::specs::Layout::Stand, crate::specs::Messages::message_slots))]
 pub fn features_request(bytes: &[u8]) -> Message
-    requires opens { Opens 5 bytes.now }
+    requires opens { Opens types.features_request bytes.now }
     requires len { length bytes.now ≡ 8 }
     ensures { spells result bytes.now }
 {
@@ -107,7 +108,7 @@ pub fn features_request(bytes: &[u8]) -> Message
 /// port.
 #[tactic(auto, unfolding(of10_wire::specs::Layout::Stand, crate::specs::Messages::message_slots))]
 pub fn features_reply(alloc: Global, bytes: &[u8]) -> Result<Message, AllocError>
-    requires opens { Opens 6 bytes.now }
+    requires opens { Opens types.features_reply bytes.now }
     requires least { 32 ≤ length bytes.now }
     requires whole { (length bytes.now - 32) % 48 ≡ 0 }
     ensures { IfOk result (λ m. spells m bytes.now) }
@@ -127,7 +128,7 @@ pub fn features_reply(alloc: Global, bytes: &[u8]) -> Result<Message, AllocError
 /// Reads a whole GET_CONFIG_REQUEST frame (OpenFlow Switch Specification 1.0.0, section 5.3.2): 8 bytes.
 #[tactic(auto, unfolding(of10_wire::specs::Layout::Stand, crate::specs::Messages::message_slots))]
 pub fn get_config_request(bytes: &[u8]) -> Message
-    requires opens { Opens 7 bytes.now }
+    requires opens { Opens types.get_config_request bytes.now }
     requires len { length bytes.now ≡ 8 }
     ensures { spells result bytes.now }
 {
@@ -139,7 +140,7 @@ pub fn get_config_request(bytes: &[u8]) -> Message
 /// Reads a whole GET_CONFIG_REPLY frame (OpenFlow Switch Specification 1.0.0, section 5.3.2): 12 bytes.
 #[tactic(auto, unfolding(of10_wire::specs::Layout::Stand, crate::specs::Messages::message_slots))]
 pub fn get_config_reply(bytes: &[u8]) -> Message
-    requires opens { Opens 8 bytes.now }
+    requires opens { Opens types.get_config_reply bytes.now }
     requires len { length bytes.now ≡ 12 }
     ensures { spells result bytes.now }
 {
@@ -153,7 +154,7 @@ pub fn get_config_reply(bytes: &[u8]) -> Message
 /// Reads a whole SET_CONFIG frame (OpenFlow Switch Specification 1.0.0, section 5.3.2): 12 bytes.
 #[tactic(auto, unfolding(of10_wire::specs::Layout::Stand, crate::specs::Messages::message_slots))]
 pub fn set_config(bytes: &[u8]) -> Message
-    requires opens { Opens 9 bytes.now }
+    requires opens { Opens types.set_config bytes.now }
     requires len { length bytes.now ≡ 12 }
     ensures { spells result bytes.now }
 {
@@ -167,7 +168,7 @@ pub fn set_config(bytes: &[u8]) -> Message
 /// Reads a whole PACKET_IN frame (OpenFlow Switch Specification 1.0.0, section 5.4.1): 18 bytes or more.
 #[tactic(auto, unfolding(of10_wire::specs::Layout::Stand, crate::specs::Messages::message_slots))]
 pub fn packet_in(alloc: Global, bytes: &[u8]) -> Result<Message, AllocError>
-    requires opens { Opens 10 bytes.now }
+    requires opens { Opens types.packet_in bytes.now }
     requires least { 18 ≤ length bytes.now }
     ensures { IfOk result (λ m. spells m bytes.now) }
 {
@@ -185,7 +186,7 @@ pub fn packet_in(alloc: Global, bytes: &[u8]) -> Result<Message, AllocError>
 /// Reads a whole FLOW_REMOVED frame (OpenFlow Switch Specification 1.0.0, section 5.4.2): 88 bytes.
 #[tactic(auto, unfolding(of10_wire::specs::Layout::Stand, of10_wire::specs::Parts::match_slots, crate::specs::Messages::message_slots))]
 pub fn flow_removed(bytes: &[u8]) -> Message
-    requires opens { Opens 11 bytes.now }
+    requires opens { Opens types.flow_removed bytes.now }
     requires len { length bytes.now ≡ 88 }
     ensures { spells result bytes.now }
 {
@@ -206,7 +207,7 @@ pub fn flow_removed(bytes: &[u8]) -> Message
 /// Reads a whole PORT_STATUS frame (OpenFlow Switch Specification 1.0.0, section 5.4.3): 64 bytes.
 #[tactic(auto, unfolding(of10_wire::specs::Layout::Stand, of10_wire::specs::Parts::port_slots, crate::specs::Messages::message_slots))]
 pub fn port_status(bytes: &[u8]) -> Message
-    requires opens { Opens 12 bytes.now }
+    requires opens { Opens types.port_status bytes.now }
     requires len { length bytes.now ≡ 64 }
     ensures { spells result bytes.now }
 {
@@ -221,7 +222,7 @@ pub fn port_status(bytes: &[u8]) -> Message
 /// in order, more bytes of actions than are there (`BadLength` at 14), and the first action that is none.
 #[tactic(auto, unfolding(of10_wire::specs::Layout::Stand, crate::specs::Messages::message_slots))]
 pub fn packet_out(alloc: Global, bytes: &[u8]) -> Result<Message, WireRefusal>
-    requires opens { Opens 13 bytes.now }
+    requires opens { Opens types.packet_out bytes.now }
     requires least { 16 ≤ length bytes.now }
     ensures { Answers result (λ m. spells m bytes.now) (LatePacketOut bytes.now) }
 {
@@ -247,7 +248,7 @@ pub fn packet_out(alloc: Global, bytes: &[u8]) -> Result<Message, WireRefusal>
 /// first action that is none.
 #[tactic(auto, unfolding(of10_wire::specs::Layout::Stand, of10_wire::specs::Parts::match_slots, crate::specs::Messages::message_slots))]
 pub fn flow_mod(alloc: Global, bytes: &[u8]) -> Result<Message, WireRefusal>
-    requires opens { Opens 14 bytes.now }
+    requires opens { Opens types.flow_mod bytes.now }
     requires least { 72 ≤ length bytes.now }
     ensures { Answers result (λ m. spells m bytes.now) (LateFlowMod bytes.now) }
 {
@@ -270,7 +271,7 @@ pub fn flow_mod(alloc: Global, bytes: &[u8]) -> Result<Message, WireRefusal>
 /// Reads a whole PORT_MOD frame (OpenFlow Switch Specification 1.0.0, section 5.3.3): 32 bytes.
 #[tactic(auto, unfolding(of10_wire::specs::Layout::Stand, crate::specs::Messages::message_slots))]
 pub fn port_mod(bytes: &[u8]) -> Message
-    requires opens { Opens 15 bytes.now }
+    requires opens { Opens types.port_mod bytes.now }
     requires len { length bytes.now ≡ 32 }
     ensures { spells result bytes.now }
 {
@@ -288,7 +289,7 @@ pub fn port_mod(bytes: &[u8]) -> Message
 /// by `read_request`.
 #[tactic(auto, unfolding(of10_wire::specs::Layout::Stand, crate::specs::Messages::message_slots))]
 pub fn stats_request(alloc: Global, bytes: &[u8]) -> Result<Message, WireRefusal>
-    requires opens { Opens 16 bytes.now }
+    requires opens { Opens types.stats_request bytes.now }
     requires least { 12 ≤ length bytes.now }
     ensures { Answers result (λ m. spells m bytes.now) (λ e. request_refusal bytes.now ≡ Some e) }
 {
@@ -304,7 +305,7 @@ pub fn stats_request(alloc: Global, bytes: &[u8]) -> Result<Message, WireRefusal
 /// by `read_reply`.
 #[tactic(auto, unfolding(of10_wire::specs::Layout::Stand, crate::specs::Messages::message_slots))]
 pub fn stats_reply(alloc: Global, bytes: &[u8]) -> Result<Message, WireRefusal>
-    requires opens { Opens 17 bytes.now }
+    requires opens { Opens types.stats_reply bytes.now }
     requires least { 12 ≤ length bytes.now }
     ensures { Answers result (λ m. spells m bytes.now) (RefusesReply bytes.now) }
 {
@@ -319,7 +320,7 @@ pub fn stats_reply(alloc: Global, bytes: &[u8]) -> Result<Message, WireRefusal>
 /// Reads a whole BARRIER_REQUEST frame (OpenFlow Switch Specification 1.0.0, section 5.3.7): 8 bytes.
 #[tactic(auto, unfolding(of10_wire::specs::Layout::Stand, crate::specs::Messages::message_slots))]
 pub fn barrier_request(bytes: &[u8]) -> Message
-    requires opens { Opens 18 bytes.now }
+    requires opens { Opens types.barrier_request bytes.now }
     requires len { length bytes.now ≡ 8 }
     ensures { spells result bytes.now }
 {
@@ -331,7 +332,7 @@ pub fn barrier_request(bytes: &[u8]) -> Message
 /// Reads a whole BARRIER_REPLY frame (OpenFlow Switch Specification 1.0.0, section 5.3.7): 8 bytes.
 #[tactic(auto, unfolding(of10_wire::specs::Layout::Stand, crate::specs::Messages::message_slots))]
 pub fn barrier_reply(bytes: &[u8]) -> Message
-    requires opens { Opens 19 bytes.now }
+    requires opens { Opens types.barrier_reply bytes.now }
     requires len { length bytes.now ≡ 8 }
     ensures { spells result bytes.now }
 {
@@ -343,7 +344,7 @@ pub fn barrier_reply(bytes: &[u8]) -> Message
 /// Reads a whole QUEUE_GET_CONFIG_REQUEST frame (OpenFlow Switch Specification 1.0.0, section 5.3.4): 12 bytes.
 #[tactic(auto, unfolding(of10_wire::specs::Layout::Stand, crate::specs::Messages::message_slots))]
 pub fn queue_get_config_request(bytes: &[u8]) -> Message
-    requires opens { Opens 20 bytes.now }
+    requires opens { Opens types.queue_get_config_request bytes.now }
     requires len { length bytes.now ≡ 12 }
     ensures { spells result bytes.now }
 {
@@ -357,7 +358,7 @@ pub fn queue_get_config_request(bytes: &[u8]) -> Message
 /// Refused is the first queue or property that is none.
 #[tactic(auto, unfolding(of10_wire::specs::Layout::Stand, crate::specs::Messages::message_slots))]
 pub fn queue_get_config_reply(alloc: Global, bytes: &[u8]) -> Result<Message, WireRefusal>
-    requires opens { Opens 21 bytes.now }
+    requires opens { Opens types.queue_get_config_reply bytes.now }
     requires least { 16 ≤ length bytes.now }
     ensures { Answers result (λ m. spells m bytes.now) (LateQueueReply bytes.now) }
 {

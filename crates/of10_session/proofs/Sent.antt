@@ -16,7 +16,7 @@ use Rattle.of10_session.specs.declared.session.Pending.{Pending}
 use Rattle.of10_session.specs.declared.session.Pending.TheVariants.{Nothing, Joining, Arriving, Expiring}
 use Rattle.of10_session.specs.Progresses.{Progress, next_xid}
 use Rattle.of10_session.specs.Sessions.{turn, ignores, asks, refuses_version, on_hello, on_features, arrives, on_packet, is_expiry, rule_ended, on_removed, on_news}
-use Rattle.of10_session.specs.Replies.{Draft, numbered, adding, removing, changing, sending_on, going_on, drafts, answered, output_to, no_buffer, IsServableRule, IsServable}
+use Rattle.of10_session.specs.Replies.{MessageDraft, numbered, adding, removing, changing, sending_on, going_on, drafts, answered, output_to, no_buffer, IsServableRule, IsServable}
 use Rattle.of10_session.proofs.Sendable.{sendable_error, sendable_request, sendable_echo, sendable_config, sendable_rule, sendable_deletion, sendable_out}
 
 abbrev AreSendable : List Message → Type 0
@@ -73,14 +73,14 @@ turn_sends s m h = tt
 -- ---- to an answer
 
 -- a draft can be sent with any xid
-abbrev IsReady : Draft → Type 0
+abbrev IsReady : MessageDraft → Type 0
 IsReady d = (x : ℕ) → IsSendable (d x)
 
-numbered_ready : (x : ℕ) (ds : List Draft) → AllByRecursion IsReady ds → AreSendable (numbered x ds)
+numbered_ready : (x : ℕ) (ds : List MessageDraft) → AllByRecursion IsReady ds → AreSendable (numbered x ds)
 numbered_ready x [] h = tt
 numbered_ready x (d ∷ ds) h = (h.0 x, numbered_ready (next_xid x) ds h.1)
 
-both_ready : (ds es : List Draft) → AllByRecursion IsReady ds → AllByRecursion IsReady es → AllByRecursion IsReady (ds ++ es)
+both_ready : (ds es : List MessageDraft) → AllByRecursion IsReady ds → AllByRecursion IsReady es → AllByRecursion IsReady (ds ++ es)
 both_ready [] es h k = k
 both_ready (d ∷ ds) es h k = (h.0, both_ready ds es h.1 k)
 

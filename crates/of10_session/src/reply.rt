@@ -11,7 +11,7 @@ use byteorder::{BigEndian, ByteOrder};
 use csdn_core::event::{Match, Out};
 use csdn_history::reply::{Reply, Rule};
 use of10_msgs::{Message, encode};
-use of10_wire::{Action, Actions, Body, FlowMatch};
+use of10_wire::{Action, Actions, Body, FlowMatch, reserved_port};
 use std::alloc::{AllocError, Global};
 
 /// The port, the source and the destination are looked at.
@@ -29,12 +29,6 @@ const DELETE_THAT_ONE: u16 = 4;
 const PRIORITY: u16 = 32768;
 
 const NO_BUFFER: u32 = 0xffff_ffff;
-
-const NO_PORT: u16 = 0xffff;
-
-const INGRESS: u16 = 0xfff8;
-
-const FLOOD: u16 = 0xfffc;
 
 /// The xid behind this one.
 pub fn next(xid: u32) -> u32
@@ -90,7 +84,7 @@ fn output(ingress: u64, port: u64) -> Action
 {
     if port == ingress {
         return Action::Output {
-            port: INGRESS,
+            port: reserved_port::IN_PORT,
             max_len: 0,
         };
     }
@@ -118,7 +112,7 @@ fn out_action(ingress: u64, out: Out) -> Action
     match out {
         Out::Port(port) => output(ingress, port),
         Out::Flood => Action::Output {
-            port: FLOOD,
+            port: reserved_port::ALL,
             max_len: 0,
         },
     }
@@ -157,7 +151,7 @@ fn add_rule(alloc: Global, xid: u32, rule: &Rule, out: &mut Vec<u8>) -> Result<(
         hard_timeout: 0,
         priority: PRIORITY,
         buffer_id: NO_BUFFER,
-        out_port: NO_PORT,
+        out_port: reserved_port::NONE,
         flags: flags_for(rule.idle),
         actions: outputs(alloc, rule.key.i, rule.ports.as_slice())?,
     };
@@ -180,7 +174,7 @@ fn remove_rule(alloc: Global, xid: u32, rule: &Rule, out: &mut Vec<u8>) -> Resul
         hard_timeout: 0,
         priority: PRIORITY,
         buffer_id: NO_BUFFER,
-        out_port: NO_PORT,
+        out_port: reserved_port::NONE,
         flags: 0,
         actions: Actions::from_vec(Vec::new(alloc)),
     };
@@ -312,7 +306,7 @@ fn clear(alloc: Global, xid: u32, out: &mut Vec<u8>) -> Result<(), AllocError>
         hard_timeout: 0,
         priority: 0,
         buffer_id: NO_BUFFER,
-        out_port: NO_PORT,
+        out_port: reserved_port::NONE,
         flags: 0,
         actions: Actions::from_vec(Vec::new(alloc)),
     };

@@ -4,7 +4,7 @@ use Rattle.std.proofs.lemmas.List.{drop_at}
 use Rattle.of10_stream.specs.Framings.{Framing}
 use Rattle.of10_session.specs.Progresses.{Progress}
 use Rattle.of10_speech.specs.declared.hearing.Hearing.{Hearing}
-use Rattle.of10_speech.specs.declared.stops.Stop.TheVariants.{Goes, Ends}
+use Rattle.of10_speech.specs.declared.stops.SpeechStop.TheVariants.{Goes, Ends}
 use Rattle.of10_speech.specs.declared.stops.SpokenEnd.TheVariants.{Wire}
 use Rattle.of10_speech.specs.Speeches.{Told, Further}
 use Rattle.of10_speech.specs.Hearings.{Following, Hears}

@@ -6,7 +6,7 @@ ghost use Rattle.of10_session.specs.Sessions.{spelled};
 ghost use Rattle.of10_speech.specs.Speeches.{opening};
 
 use of10_session::Session;
-use of10_speech::{Answers, Broken, Spoken, Stop, hear_next};
+use of10_speech::{Answers, Broken, SpeechStop, Spoken, hear_next};
 use of10_stream::Framer;
 use std::alloc::{AllocError, Global};
 
@@ -43,7 +43,7 @@ pub fn speak_bytewise<P: Answers>(
         };
         let heard = hear_next(alloc, &mut framer, &mut session, &[*byte], program, out)?;
         match heard.stop {
-            Stop::Goes => {}
+            SpeechStop::Goes => {}
             stop => {
                 return Ok(Spoken {
                     stop,
@@ -53,7 +53,7 @@ pub fn speak_bytewise<P: Answers>(
         }
     }
     Ok(Spoken {
-        stop: Stop::Goes,
+        stop: SpeechStop::Goes,
         ignored: session.ignored(),
     })
 }

@@ -2,7 +2,7 @@
 
 use crate::hex::{put_texts, said};
 use crate::streams::{FEATURES, HELLO, JOINED};
-use of10_speech::{SpokenEnd, Stop};
+use of10_speech::{SpeechStop, SpokenEnd};
 use std::alloc::{AllocError, Global};
 use std::process::Abort;
 use std::test::Fail;
@@ -69,12 +69,12 @@ fn put_frame(out: &mut Vec<u8>, kind: u8, len: u8) -> Result<(), AllocError> {
 }
 
 /// How the session stands behind a message at this place.
-fn stop_of(outcome: Outcome, at: u64) -> Stop {
+fn stop_of(outcome: Outcome, at: u64) -> SpeechStop {
     match outcome {
-        OutOfTurn => Stop::Ends(SpokenEnd::OutOfTurn { at }),
-        Unknown => Stop::Ends(SpokenEnd::UnknownSwitch { s: 0 }),
-        Asks => Stop::Waits,
-        Ignored | Requests | Echoes => Stop::Goes,
+        OutOfTurn => SpeechStop::Ends(SpokenEnd::OutOfTurn { at }),
+        Unknown => SpeechStop::Ends(SpokenEnd::UnknownSwitch { s: 0 }),
+        Asks => SpeechStop::Waits,
+        Ignored | Requests | Echoes => SpeechStop::Goes,
     }
 }
 

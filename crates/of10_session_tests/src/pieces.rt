@@ -2,7 +2,7 @@
 
 use crate::hex::{put_texts, said};
 use crate::streams::HELLO;
-use of10_speech::{SpokenEnd, Stop};
+use of10_speech::{SpeechStop, SpokenEnd};
 use of10_stream::Framer;
 use of10_wire::WireWhy;
 use std::alloc::{AllocError, Global};
@@ -36,7 +36,7 @@ fn is_refused(
     put_texts(&mut bytes, &[HELLO, text])?;
     let mut out = Vec::new(alloc);
     let found = said(alloc, &bytes, &[], false, &mut out)?;
-    assert_eq!(rt; found.stop, Stop::Ends(SpokenEnd::Wire { at, why }));
+    assert_eq!(rt; found.stop, SpeechStop::Ends(SpokenEnd::Wire { at, why }));
     assert_eq!(rt; out.len(), 16);
     Ok(())
 }
@@ -61,7 +61,10 @@ fn echoed(alloc: Global, len: u16, come: usize) -> Result<(usize, bool), Fail> {
     bytes.truncate(come);
     let mut out = Vec::new(alloc);
     let found = said(alloc, &bytes, &[], false, &mut out)?;
-    Ok((out.len(), found.stop == Stop::Goes && found.ignored == 0))
+    Ok((
+        out.len(),
+        found.stop == SpeechStop::Goes && found.ignored == 0,
+    ))
 }
 
 #[test]

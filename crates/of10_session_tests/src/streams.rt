@@ -2,7 +2,7 @@
 
 use crate::hex::{put_texts, said, said_bytewise};
 use crate::{Change, Sending, Step};
-use of10_speech::{Spoken, SpokenEnd, Stop};
+use of10_speech::{SpeechStop, Spoken, SpokenEnd};
 use std::alloc::Global;
 use std::process::Abort;
 use std::test::Fail;
@@ -151,32 +151,32 @@ const FLOODED: Step = Step {
 };
 
 const GOES: Spoken = Spoken {
-    stop: Stop::Goes,
+    stop: SpeechStop::Goes,
     ignored: 0,
 };
 
 const ONE_IGNORED: Spoken = Spoken {
-    stop: Stop::Goes,
+    stop: SpeechStop::Goes,
     ignored: 1,
 };
 
 const TWO_IGNORED: Spoken = Spoken {
-    stop: Stop::Goes,
+    stop: SpeechStop::Goes,
     ignored: 2,
 };
 
 const INCOMPATIBLE: Spoken = Spoken {
-    stop: Stop::Ends(SpokenEnd::Incompatible),
+    stop: SpeechStop::Ends(SpokenEnd::Incompatible),
     ignored: 0,
 };
 
 const UNKNOWN: Spoken = Spoken {
-    stop: Stop::Ends(SpokenEnd::UnknownSwitch { s: 9 }),
+    stop: SpeechStop::Ends(SpokenEnd::UnknownSwitch { s: 9 }),
     ignored: 0,
 };
 
 const WAITS: Spoken = Spoken {
-    stop: Stop::Waits,
+    stop: SpeechStop::Waits,
     ignored: 0,
 };
 

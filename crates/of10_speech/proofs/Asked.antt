@@ -13,14 +13,14 @@ use Rattle.of10_session.specs.Progresses.{Progress, IsListening}
 use Rattle.of10_session.specs.Sessions.{turn, spelled}
 use Rattle.of10_session.specs.Replies.{passed}
 use Rattle.of10_session.proofs.Turns.{turn_orderly}
-use Rattle.of10_speech.specs.declared.stops.Stop.{Stop}
-use Rattle.of10_speech.specs.declared.stops.Stop.TheVariants.{Goes}
+use Rattle.of10_speech.specs.declared.stops.SpeechStop.{SpeechStop}
+use Rattle.of10_speech.specs.declared.stops.SpeechStop.TheVariants.{Goes}
 use Rattle.of10_speech.specs.Speeches.{Told, Said, saying, on_ask, on_entry, on_stranger, on_turn, said_to}
 use Rattle.of10_speech.specs.declared.stops.Broken.{Broken as Break}
 use Rattle.of10_speech.specs.declared.stops.Broken.TheVariants.{Full, Memory}
 use Rattle.of10_speech.specs.Hearings.{Says, BreaksOff}
 
-pub says_at : (y z : Said) (stop : Stop) (s : Progress) (before after : List ℕ) → y ≡ z → Says z stop s before after → Says y stop s before after
+pub says_at : (y z : Said) (stop : SpeechStop) (s : Progress) (before after : List ℕ) → y ≡ z → Says z stop s before after → Says y stop s before after
 says_at y z stop s before after e h = subst (λ (w : Said). Says w stop s before after) (sym e) h
 
 pub on_ask_reply : (t : Told) (gs : List Reply) (reply : Reply) (s : Progress) (ask : Ask) → t.declares ask ≡ true → t.replies ≡ gs ++ reply ∷ [] → on_ask t (length gs) s ask ≡ on_entry (Some reply) s ask
@@ -44,7 +44,7 @@ pub let_go : (s : Progress) (ask : Ask) → ((x a b i : ℕ) × (ask ≡ Packet 
 let_go s ask (inl (x, a, b, i, is)) = ap (λ (r : Ask). on_stranger r s) is
 let_go s ask (inr (x, a, b, i, cookie, is)) = ap (λ (r : Ask). on_stranger r s) is
 
-pub hear_says : (t : Told) (place k : ℕ) (s : Progress) (m : Message) (ask : Ask) (mid new : Progress) (stop : Stop) (out mid_out new_out : List ℕ) → IsListening s → (turn s m).turn ≡ AskFor ask → mid ≡ (turn s m).session → mid_out ≡ out ++ spelled (turn s m).sent
+pub hear_says : (t : Told) (place k : ℕ) (s : Progress) (m : Message) (ask : Ask) (mid new : Progress) (stop : SpeechStop) (out mid_out new_out : List ℕ) → IsListening s → (turn s m).turn ≡ AskFor ask → mid ≡ (turn s m).session → mid_out ≡ out ++ spelled (turn s m).sent
     → Says (on_ask t k mid ask) stop new mid_out new_out → Says (said_to t place k s m) stop new out new_out
 hear_says t place k s m ask mid new stop out mid_out new_out listens asks mid_is out_is h =
     let same : said_to t place k s m ≡ on_ask t k mid ask = ap (on_turn t place k (turn s m).session (turn s m).sent) asks ∙ ap (λ (x : Progress). on_ask t k x ask) (sym mid_is) in

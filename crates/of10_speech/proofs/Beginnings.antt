@@ -19,8 +19,8 @@ use Rattle.of10_session.specs.Progresses.{Progress, IsListening}
 use Rattle.of10_session.specs.Sessions.{turn}
 use Rattle.of10_session.specs.Replies.{answered}
 use Rattle.of10_speech.specs.declared.hearing.Hearing.{Hearing}
-use Rattle.of10_speech.specs.declared.stops.Stop.{Stop}
-use Rattle.of10_speech.specs.declared.stops.Stop.TheVariants.{Goes, Waits, Ends}
+use Rattle.of10_speech.specs.declared.stops.SpeechStop.{SpeechStop}
+use Rattle.of10_speech.specs.declared.stops.SpeechStop.TheVariants.{Goes, Waits, Ends}
 use Rattle.of10_speech.specs.Speeches.{Told, Further, Said, Speech, on_ask, on_entry, on_stranger, on_turn, said_to, with_said, hear, hear_all, speech, opening, ended_by, IsSpoken, IsBeginning}
 use Rattle.of10_speech.specs.Hearings.{Hears, Follows, Following}
 use Rattle.of10_speech.proofs.ReadOn.{stream_behind}
@@ -44,10 +44,10 @@ later x y z a b = record {
   ignored = omega (arith, a.ignored, b.ignored);
 }
 
-stopped_says : (t : Told) (x : Speech) (m : Message) (stop : Stop) → x.stop ≡ stop → stop ≢ Goes → Listens x → IsBeginning x (hear t x m) × Listens (hear t x m)
+stopped_says : (t : Told) (x : Speech) (m : Message) (stop : SpeechStop) → x.stop ≡ stop → stop ≢ Goes → Listens x → IsBeginning x (hear t x m) × Listens (hear t x m)
 stopped_says t x m stop is off h = subst (λ (z : Speech). IsBeginning x z × Listens z) (sym (stays t x m stop is off)) (all_said x, h)
 
-one_more : (t : Told) (x : Speech) (m : Message) (stop : Stop) → x.stop ≡ stop → Listens x → IsBeginning x (hear t x m) × Listens (hear t x m)
+one_more : (t : Told) (x : Speech) (m : Message) (stop : SpeechStop) → x.stop ≡ stop → Listens x → IsBeginning x (hear t x m) × Listens (hear t x m)
 one_more t x m Goes on h =
     let ready = said_ready t x.place (length x.asks) x.session m (h on) in
     let y : Speech = with_said x (frame_width m) (said_to t x.place (length x.asks) x.session m) in
@@ -64,7 +64,7 @@ many_more t x (m ∷ ms) h =
     later x (hear t x m) (hear_all t (hear t x m) ms) first.0 (many_more t (hear t x m) ms first.1)
 
 -- the tail adds nothing
-pub to_the_tail : (x y : Speech) (stop : Stop) (tail : Tail) → IsBeginning x y → IsBeginning x (ended_by stop tail y)
+pub to_the_tail : (x y : Speech) (stop : SpeechStop) (tail : Tail) → IsBeginning x y → IsBeginning x (ended_by stop tail y)
 to_the_tail x y Goes (Cut n) h = h
 to_the_tail x y Goes (Broken e) h = record { sent_behind = h.sent_behind; sent = h.sent; asks_behind = h.asks_behind; asks = h.asks; ignored = h.ignored }
 to_the_tail x y Waits tail h = h
@@ -157,11 +157,11 @@ short_said x n y z h = record {
   ignored = h.ignored;
 }
 
-both_stay : (t u : Told) (x : Speech) (m : Message) (stop : Stop) → x.stop ≡ stop → stop ≢ Goes → IsBeginning (hear t x m) (hear u x m)
+both_stay : (t u : Told) (x : Speech) (m : Message) (stop : SpeechStop) → x.stop ≡ stop → stop ≢ Goes → IsBeginning (hear t x m) (hear u x m)
 both_stay t u x m stop is off =
     subst (λ (y : Speech). IsBeginning y (hear u x m)) (sym (stays t x m stop is off)) (subst (λ (y : Speech). IsBeginning x y) (sym (stays u x m stop is off)) (all_said x))
 
-hear_short : (t u : Told) → Further t u → (x : Speech) (m : Message) (stop : Stop) → x.stop ≡ stop → IsBeginning (hear t x m) (hear u x m)
+hear_short : (t u : Told) → Further t u → (x : Speech) (m : Message) (stop : SpeechStop) → x.stop ≡ stop → IsBeginning (hear t x m) (hear u x m)
 hear_short t u further x m Goes on =
     rw on (short_said x (frame_width m) (said_to t x.place (length x.asks) x.session m) (said_to u x.place (length x.asks) x.session m)
     (turn_short t u x.place (length x.asks) further (turn x.session m).session (turn x.session m).sent (turn x.session m).turn))
@@ -175,7 +175,7 @@ hear_all_short t u further x (m ∷ ms) h = by (hear t x m).stop refl (hear_all_
     same : (hear t x m).stop ≢ Waits → IsBeginning (hear_all t (hear t x m) ms) (hear_all u (hear t x m) ms) → IsBeginning (hear_all t (hear t x m) ms) (hear_all u (hear u x m) ms)
     same off later_on = subst (λ (y : Speech). IsBeginning (hear_all t (hear t x m) ms) (hear_all u y ms)) (sym (hear-further t u further x m x.stop refl off)) later_on
 
-    by : (stop : Stop) → (hear t x m).stop ≡ stop → IsBeginning (hear_all t (hear t x m) ms) (hear_all u (hear t x m) ms) → IsBeginning (hear_all t (hear t x m) ms) (hear_all u (hear u x m) ms)
+    by : (stop : SpeechStop) → (hear t x m).stop ≡ stop → IsBeginning (hear_all t (hear t x m) ms) (hear_all u (hear t x m) ms) → IsBeginning (hear_all t (hear t x m) ms) (hear_all u (hear u x m) ms)
     by Goes is later_on = same (λ w. goes_wait (sym is ∙ w)) later_on
       where
         goes_wait : Goes ≡ Waits → ⊥
@@ -191,7 +191,7 @@ hear_all_short t u further x (m ∷ ms) h = by (hear t x m).stop refl (hear_all_
         waits_go : Waits ≡ Goes → ⊥
         waits_go e = cc
 
-from_the_tail : (x : Speech) (stop : Stop) (tail : Tail) → IsBeginning (ended_by stop tail x) x
+from_the_tail : (x : Speech) (stop : SpeechStop) (tail : Tail) → IsBeginning (ended_by stop tail x) x
 from_the_tail x Goes (Cut n) = all_said x
 from_the_tail x Goes (Broken e) = record { sent_behind = []; sent = sym (append-nil x.sent); asks_behind = []; asks = sym (append-nil x.asks); ignored = omega arith }
 from_the_tail x Waits tail = all_said x

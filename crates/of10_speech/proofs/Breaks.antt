@@ -11,7 +11,7 @@ use Rattle.of10_session.specs.Progresses.{Progress, IsListening}
 use Rattle.of10_session.specs.Sessions.{spelled}
 use Rattle.of10_speech.specs.declared.stops.Broken.{Broken as Break}
 use Rattle.of10_speech.specs.declared.stops.Broken.TheVariants.{Full, Memory}
-use Rattle.of10_speech.specs.declared.stops.Stop.TheVariants.{Goes, Waits}
+use Rattle.of10_speech.specs.declared.stops.SpeechStop.TheVariants.{Goes, Waits}
 use Rattle.of10_speech.specs.Speeches.{Told, Further, Speech, said_to, with_said, hear_all, speech, opening, IsSpoken, IsBeginning}
 use Rattle.of10_speech.specs.Hearings.{Follows, Following, BreaksMessage, Breaks, HasAsked, Awaits}
 use Rattle.of10_speech.proofs.ReadOn.{stream_behind}

@@ -3,6 +3,7 @@ use Rattle.std.proofs.Common.{◌≡◌, ℕ, ◌+◌, ◌*◌, ◌/◌, ◌%◌
 use Rattle.std.proofs.lemmas.Bool.{le-leb}
 use Rattle.std.proofs.lemmas.List.{append-nil}
 use Rattle.std.proofs.Math.Seq.{take-length}
+use Rattle.of10_wire.specs.MessageTypes as types
 use Rattle.of10_wire.specs.Layout.{number, part, Stand, bytes_of}
 use Rattle.of10_wire.proofs.Openings.{framed}
 use Rattle.of10_msgs.specs.declared.message.Message.TheVariants.{EchoReply}
@@ -12,20 +13,20 @@ use Rattle.of10_msgs.proofs.Frames.{frame_shown, opens}
 use Rattle.of10_stream.specs.Framings.{framing, IsFrame}
 use Rattle.of10_session.specs.Progresses.{Progress}
 use Rattle.of10_session.specs.Sessions.{spelled, turn}
-use Rattle.of10_speech.specs.declared.stops.Stop.TheVariants.{Goes}
+use Rattle.of10_speech.specs.declared.stops.SpeechStop.TheVariants.{Goes}
 use Rattle.of10_speech.specs.Echoes.{request_in}
 use Rattle.of10_speech.specs.Speeches.{Told}
 use Rattle.of10_speech.specs.Hearings.{HearsFrame}
 
--- a whole frame of type 2 is a request for an echo
-pub asks : (frame : List ℕ) → IsFrame frame → number 1 1 frame ≡ 2 → Opens 2 frame
+-- a whole frame of that type is a request for an echo
+pub asks : (frame : List ℕ) → IsFrame frame → number 1 1 frame ≡ types.echo_request → Opens types.echo_request frame
 asks frame whole kind =
     let f = framed frame (length frame) whole in
     let allowed : allows_length (number 1 1 frame) (length frame) ≡ true = rw kind (le-leb 8 (length frame) f.long) in
-    opens 2 frame (frame_shown frame (length frame) whole refl allowed) kind refl
+    opens types.echo_request frame (frame_shown frame (length frame) whole refl allowed) kind refl
 
 -- what it spells
-pub request_spelled : (frame : List ℕ) → Opens 2 frame → 8 ≤ length frame → spells (request_in frame) frame
+pub request_spelled : (frame : List ℕ) → Opens types.echo_request frame → 8 ≤ length frame → spells (request_in frame) frame
 unfolding Stand message_slots part
 request_spelled frame o long = record {
   stand = (o.version, (o.kind, (omega (arith, o.len, length-drop 8 frame, long), (refl, (take-length (drop 8 frame), tt)))));
@@ -56,7 +57,7 @@ abbrev AreBytes : List ℕ → Type 0
 AreBytes xs = (k : ℕ) → get_or xs k 0 < 256
 
 -- the reply has the frame's bytes, with type 3
-pub reply_again : (frame : List ℕ) → Opens 2 frame → 8 ≤ length frame → AreBytes frame → spelled (EchoReply (number 4 4 frame) (drop 8 frame) ∷ []) ≡ set frame 1 3
+pub reply_again : (frame : List ℕ) → Opens types.echo_request frame → 8 ≤ length frame → AreBytes frame → spelled (EchoReply (number 4 4 frame) (drop 8 frame) ∷ []) ≡ set frame 1 3
 unfolding message_slots number bytes_of
 reply_again (a ∷ b ∷ c ∷ d ∷ e ∷ f ∷ g ∷ h ∷ body) o long fit =
     let version : 1 ≡ a = omega (arith, o.version) in

@@ -4,23 +4,23 @@ use Rattle.of10_wire.specs.declared.refusal.WireRefusal.{WireRefusal}
 use Rattle.of10_stream.specs.declared.tail.Tail.{Tail}
 use Rattle.of10_stream.specs.declared.tail.Tail.TheVariants.{Cut, Broken}
 use Rattle.of10_stream.proofs.Once.{one}
-use Rattle.of10_speech.specs.declared.stops.Stop.{Stop}
-use Rattle.of10_speech.specs.declared.stops.Stop.TheVariants.{Goes, Waits, Ends}
+use Rattle.of10_speech.specs.declared.stops.SpeechStop.{SpeechStop}
+use Rattle.of10_speech.specs.declared.stops.SpeechStop.TheVariants.{Goes, Waits, Ends}
 use Rattle.of10_speech.specs.Speeches.{Told, Further, Speech, opening, speech, refused_speech, ended_by, IsSpoken, HasOneAnswer}
 use Rattle.of10_speech.proofs.HeardLater.{said-further}
 
 -- a session that has stopped doesn't come to the tail
-pub ended_stopped : (stop : Stop) (tail : Tail) (x : Speech) → stop ≢ Goes → ended_by stop tail x ≡ x
+pub ended_stopped : (stop : SpeechStop) (tail : Tail) (x : Speech) → stop ≢ Goes → ended_by stop tail x ≡ x
 ended_stopped Goes tail x off = absurd (off refl)
 ended_stopped Waits tail x off = refl
 ended_stopped (Ends e) tail x off = refl
 
-pub ended_cut : (stop : Stop) (n : ℕ) (x : Speech) → ended_by stop (Cut n) x ≡ x
+pub ended_cut : (stop : SpeechStop) (n : ℕ) (x : Speech) → ended_by stop (Cut n) x ≡ x
 ended_cut Goes n x = refl
 ended_cut Waits n x = refl
 ended_cut (Ends e) n x = refl
 
-pub ended_broken : (stop : Stop) (e : WireRefusal) (x : Speech) → stop ≡ Goes → ended_by stop (Broken e) x ≡ refused_speech x e
+pub ended_broken : (stop : SpeechStop) (e : WireRefusal) (x : Speech) → stop ≡ Goes → ended_by stop (Broken e) x ≡ refused_speech x e
 ended_broken Goes e x on = refl
 ended_broken Waits e x on = absurd cc
 ended_broken (Ends end) e x on = absurd cc

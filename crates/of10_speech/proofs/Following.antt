@@ -16,7 +16,7 @@ use Rattle.of10_stream.proofs.Once.{one}
 use Rattle.of10_session.specs.Progresses.{Progress, IsListening}
 use Rattle.of10_session.specs.Sessions.{spelled}
 use Rattle.of10_session.specs.declared.turn.Ask.{Ask}
-use Rattle.of10_speech.specs.declared.stops.Stop.TheVariants.{Goes, Waits, Ends}
+use Rattle.of10_speech.specs.declared.stops.SpeechStop.TheVariants.{Goes, Waits, Ends}
 use Rattle.of10_speech.specs.declared.stops.SpokenEnd.TheVariants.{Wire}
 use Rattle.of10_speech.specs.declared.hearing.Hearing.{Hearing}
 use Rattle.of10_speech.specs.Speeches.{Told, Further, Said, Speech, said_to, with_said, hear, hear_all, speech, opening, refused_speech, ended_by, IsSpoken}

@@ -12,7 +12,7 @@ use Rattle.of10_msgs.proofs.Readings.{refused-place}
 use Rattle.of10_stream.specs.declared.framer.Fed.{Fed}
 use Rattle.of10_stream.specs.Framings.{Framing, framing, IsFrame, IsOpen, Takes}
 use Rattle.of10_session.specs.Progresses.{Progress}
-use Rattle.of10_speech.specs.declared.stops.Stop.{Stop}
+use Rattle.of10_speech.specs.declared.stops.SpeechStop.{SpeechStop}
 use Rattle.of10_speech.specs.Speeches.{Told, said_to}
 use Rattle.of10_speech.specs.declared.stops.Broken.{Broken as Break}
 use Rattle.of10_speech.specs.declared.hearing.Hearing.{Hearing}
@@ -30,7 +30,7 @@ some_taken f piece zero is_open frame =
     let no : Wants is_open.wanting.0 ≡ Frame (length (f.held ++ [])) = sym is_open.wanting.1 ∙ (ap opening_of (sym (append-nil f.held)) ∙ frame) in absurd cc
 some_taken f piece (suc used) is_open frame = omega arith
 
-frame_heard : (o t : Told) (f : Framing) (s : Progress) (piece : List ℕ) (used : ℕ) (g : Framing) (s' : Progress) (stop : Stop) (before after : List ℕ) → IsOpen f → used ≤ length piece → IsFrame (f.held ++ take used piece)
+frame_heard : (o t : Told) (f : Framing) (s : Progress) (piece : List ℕ) (used : ℕ) (g : Framing) (s' : Progress) (stop : SpeechStop) (before after : List ℕ) → IsOpen f → used ≤ length piece → IsFrame (f.held ++ take used piece)
     → HearsFrame o t (framing f.start (f.held ++ take used piece)) s g s' stop before after → Hears o t f s piece g s' (record { used = used; stop = stop }) before after
 frame_heard o t f s piece used g s' stop before after is_open within frame (inl h) = inr (inl (record {
   used = within;
@@ -57,13 +57,13 @@ frame_heard o t f s piece used g s' stop before after is_open within frame (inr 
       asked = h.asked;
     }))
 
-pub fed_frame : (o t : Told) (f : Framing) (s : Progress) (piece : List ℕ) (mid : Framing) (fed : Fed) (g : Framing) (s' : Progress) (stop : Stop) (before after : List ℕ) → IsOpen f → Takes f piece mid fed → fed.ready ≡ true
+pub fed_frame : (o t : Told) (f : Framing) (s : Progress) (piece : List ℕ) (mid : Framing) (fed : Fed) (g : Framing) (s' : Progress) (stop : SpeechStop) (before after : List ℕ) → IsOpen f → Takes f piece mid fed → fed.ready ≡ true
     → HearsFrame o t mid s g s' stop before after → Hears o t f s piece g s' (record { used = fed.used; stop = stop }) before after
 fed_frame o t f s piece mid fed g s' stop before after is_open takes ready h =
     frame_heard o t f s piece fed.used g s' stop before after is_open takes.used (subst (λ (m : Framing). IsFrame m.held) takes.came (takes.ready ready)) (subst (λ (m : Framing). HearsFrame o t m s g s' stop before after) takes.came h)
 
 -- a frame that was ready was heard from its bytes
-pub ready_heard : (o t : Told) (f : Framing) (start : ℕ) (frame : List ℕ) (s : Progress) (g : Framing) (s' : Progress) (stop : Stop) (before after : List ℕ) → f.ended ≡ false → start ≡ f.start → frame ≡ f.held → g ≡ framing (f.start + length f.held) []
+pub ready_heard : (o t : Told) (f : Framing) (start : ℕ) (frame : List ℕ) (s : Progress) (g : Framing) (s' : Progress) (stop : SpeechStop) (before after : List ℕ) → f.ended ≡ false → start ≡ f.start → frame ≡ f.held → g ≡ framing (f.start + length f.held) []
     → HearsFrame o t (framing start frame) s (framing (start + length frame) []) s' stop before after → HearsFrame o t f s g s' stop before after
 ready_heard o t f start frame s g s' stop before after on start_is frame_is gone h =
     let is : framing start frame ≡ f = λ i. record { start = start_is i; held = frame_is i; ended = sym on i } in
@@ -74,7 +74,7 @@ pub whole_alone : (piece : List ℕ) (len : ℕ) → opening_of piece ≡ Frame 
 whole_alone piece len whole = frame-alone piece len whole ∙ ap (λ (n : ℕ). Frame n) (sym (length-take-le len piece (framed piece len whole).within))
 
 -- a frame that was whole in the piece was heard where it stands
-pub whole_heard : (o t : Told) (f : Framing) (s : Progress) (piece : List ℕ) (len start : ℕ) (frame : List ℕ) (g : Framing) (s' : Progress) (stop : Stop) (before after : List ℕ) → IsOpen f → f.held ≡ [] → opening_of piece ≡ Frame len → start ≡ f.start → frame ≡ take len piece
+pub whole_heard : (o t : Told) (f : Framing) (s : Progress) (piece : List ℕ) (len start : ℕ) (frame : List ℕ) (g : Framing) (s' : Progress) (stop : SpeechStop) (before after : List ℕ) → IsOpen f → f.held ≡ [] → opening_of piece ≡ Frame len → start ≡ f.start → frame ≡ take len piece
     → g ≡ framing (f.start + len) [] → HearsFrame o t (framing start frame) s (framing (start + length frame) []) s' stop before after → Hears o t f s piece g s' (record { used = len; stop = stop }) before after
 whole_heard o t f s piece len start frame g s' stop before after is_open none whole start_is frame_is gone h =
     let within = (framed piece len whole).within in

@@ -10,8 +10,8 @@ use Rattle.of10_session.specs.declared.turn.Ask.{Ask}
 use Rattle.of10_session.specs.declared.turn.Turn.{Turn}
 use Rattle.of10_session.specs.declared.turn.Turn.TheVariants.{Go, Ask as AskFor, End}
 use Rattle.of10_session.specs.declared.turn.TurnEnd.TheVariants.{Incompatible, OutOfTurn}
-use Rattle.of10_speech.specs.declared.stops.Stop.{Stop}
-use Rattle.of10_speech.specs.declared.stops.Stop.TheVariants.{Goes, Waits, Ends}
+use Rattle.of10_speech.specs.declared.stops.SpeechStop.{SpeechStop}
+use Rattle.of10_speech.specs.declared.stops.SpeechStop.TheVariants.{Goes, Waits, Ends}
 use Rattle.of10_session.specs.Progresses.{Progress}
 use Rattle.of10_session.specs.Sessions.{turn}
 use Rattle.of10_speech.specs.Speeches.{Told, Further, Said, Speech, on_ask, on_entry, on_stranger, on_turn, said_to, with_said, hear, hear_all}
@@ -25,7 +25,7 @@ hear_all-append t x [] ns = refl
 hear_all-append t x (m ∷ ms) ns = hear_all-append t (hear t x m) ms ns
 
 -- a session that has stopped says nothing more
-pub stays : (t : Told) (x : Speech) (m : Message) (stop : Stop) → x.stop ≡ stop → stop ≢ Goes → hear t x m ≡ x
+pub stays : (t : Told) (x : Speech) (m : Message) (stop : SpeechStop) → x.stop ≡ stop → stop ≢ Goes → hear t x m ≡ x
 stays t x m Goes e stopped = absurd (stopped refl)
 stays t x m Waits e stopped = rw e refl
 stays t x m (Ends end) e stopped = rw e refl
@@ -67,7 +67,7 @@ turn-further t u place k f s sent (AskFor ask) h = ask-further t u k f s ask h
 turn-further t u place k f s sent (End Incompatible) h = refl
 turn-further t u place k f s sent (End OutOfTurn) h = refl
 
-pub hear-further : (t u : Told) → Further t u → (x : Speech) (m : Message) (stop : Stop) → x.stop ≡ stop → (hear t x m).stop ≢ Waits → hear u x m ≡ hear t x m
+pub hear-further : (t u : Told) → Further t u → (x : Speech) (m : Message) (stop : SpeechStop) → x.stop ≡ stop → (hear t x m).stop ≢ Waits → hear u x m ≡ hear t x m
 hear-further t u f x m Goes e h =
     let h' : (said_to t x.place (length x.asks) x.session m).stop ≢ Waits = rw e at h in
     rw e (ap (λ (y : Said). with_said x (frame_width m) y) (turn-further t u x.place (length x.asks) f (turn x.session m).session (turn x.session m).sent (turn x.session m).turn h'))

@@ -12,7 +12,7 @@ use Rattle.of10_session.specs.Progresses.{Progress, IsListening, IsTalking}
 use Rattle.of10_session.specs.Sessions.{turn}
 use Rattle.of10_session.specs.Replies.{answered}
 use Rattle.of10_session.proofs.Turns.{turn_orderly, answered_listens, passed_listens}
-use Rattle.of10_speech.specs.declared.stops.Stop.TheVariants.{Goes}
+use Rattle.of10_speech.specs.declared.stops.SpeechStop.TheVariants.{Goes}
 use Rattle.of10_speech.specs.Speeches.{Told, Said, on_ask, on_entry, on_stranger, on_turn, said_to}
 
 pub record IsReady (k : ℕ) (y : Said) : Type 0 where

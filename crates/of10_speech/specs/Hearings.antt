@@ -14,17 +14,17 @@ use Rattle.of10_speech.specs.declared.hearing.Hearing.{Hearing}
 use Rattle.of10_speech.specs.declared.speaking.Spoken.{Spoken}
 use Rattle.of10_speech.specs.declared.stops.Broken.{Broken as Break}
 use Rattle.of10_speech.specs.declared.stops.Broken.TheVariants.{Full, Memory}
-use Rattle.of10_speech.specs.declared.stops.Stop.{Stop}
-use Rattle.of10_speech.specs.declared.stops.Stop.TheVariants.{Goes, Waits, Ends}
+use Rattle.of10_speech.specs.declared.stops.SpeechStop.{SpeechStop}
+use Rattle.of10_speech.specs.declared.stops.SpeechStop.TheVariants.{Goes, Waits, Ends}
 use Rattle.of10_speech.specs.declared.stops.SpokenEnd.TheVariants.{Wire}
 use Rattle.of10_speech.specs.Speeches.{Told, Said, said_to, Speech, speech, IsSpoken}
 
 -- the end by bytes that are no message, which begin at this place
-abbrev pub is_ended : ℕ → WireRefusal → Stop
+abbrev pub is_ended : ℕ → WireRefusal → SpeechStop
 is_ended start e = Ends (Wire (start + e.at) e.why)
 
 -- a call said this, and appended what is sent
-pub record Says (y : Said) (stop : Stop) (session : Progress) (before after : List ℕ) : Type 0 where
+pub record Says (y : Said) (stop : SpeechStop) (session : Progress) (before after : List ℕ) : Type 0 where
   pub stops : stop ≡ y.stop
   pub goes_on : session ≡ y.session
   pub bytes : after ≡ before ++ spelled y.sent
@@ -32,7 +32,7 @@ pub record Says (y : Said) (stop : Stop) (session : Progress) (before after : Li
 -- ---- one step, from what was told before it to what is told then
 
 -- the frame that was ready is a message, and was heard
-pub record HeardFrame (o t : Told) (f : Framing) (s : Progress) (g : Framing) (s' : Progress) (stop : Stop) (before after : List ℕ) : Type 0 where
+pub record HeardFrame (o t : Told) (f : Framing) (s : Progress) (g : Framing) (s' : Progress) (stop : SpeechStop) (before after : List ℕ) : Type 0 where
   pub message : Message
   pub spelled_as : spells message f.held
   pub says : Says (said_to t f.start (length o.replies) s message) stop s' before after
@@ -41,7 +41,7 @@ pub record HeardFrame (o t : Told) (f : Framing) (s : Progress) (g : Framing) (s
   pub asked : t.asks ≡ o.asks ++ (said_to t f.start (length o.replies) s message).asks
 
 -- .. or it is none
-pub record RefusedFrame (o t : Told) (f : Framing) (s s' : Progress) (stop : Stop) (before after : List ℕ) : Type 0 where
+pub record RefusedFrame (o t : Told) (f : Framing) (s s' : Progress) (stop : SpeechStop) (before after : List ℕ) : Type 0 where
   pub refusal : WireRefusal
   pub refused : Refuses f.held refusal
   pub stops : stop ≡ is_ended f.start refusal
@@ -49,7 +49,7 @@ pub record RefusedFrame (o t : Told) (f : Framing) (s s' : Progress) (stop : Sto
   pub bytes : after ≡ before
   pub asked : t.asks ≡ o.asks
 
-abbrev pub HearsFrame : (o t : Told) → Framing → Progress → Framing → Progress → Stop → (before after : List ℕ) → Type 0
+abbrev pub HearsFrame : (o t : Told) → Framing → Progress → Framing → Progress → SpeechStop → (before after : List ℕ) → Type 0
 HearsFrame o t f s g s' stop before after = HeardFrame o t f s g s' stop before after ⊎ RefusedFrame o t f s s' stop before after
 
 -- all of the piece was taken, and no frame is whole

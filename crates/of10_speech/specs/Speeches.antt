@@ -16,8 +16,8 @@ use Rattle.of10_session.specs.declared.turn.TurnEnd.TheVariants as end
 use Rattle.of10_session.specs.Progresses.{Progress, fresh, in_phase, drawn}
 use Rattle.of10_session.specs.Sessions.{turn}
 use Rattle.of10_session.specs.Replies.{answered, passed}
-use Rattle.of10_speech.specs.declared.stops.Stop.{Stop}
-use Rattle.of10_speech.specs.declared.stops.Stop.TheVariants.{Goes, Waits, Ends}
+use Rattle.of10_speech.specs.declared.stops.SpeechStop.{SpeechStop}
+use Rattle.of10_speech.specs.declared.stops.SpeechStop.TheVariants.{Goes, Waits, Ends}
 use Rattle.of10_speech.specs.declared.stops.SpokenEnd.TheVariants.{Incompatible, OutOfTurn, UnknownSwitch, Wire}
 
 -- ---- what answers the asks
@@ -44,9 +44,9 @@ pub record Said : Type 0 where
   pub sent : List Message
   -- the asks that are declared
   pub asks : List Ask
-  pub stop : Stop
+  pub stop : SpeechStop
 
-abbrev pub saying : Progress → List Message → List Ask → Stop → Said
+abbrev pub saying : Progress → List Message → List Ask → SpeechStop → Said
 saying s sent asks stop = record { session = s; sent = sent; asks = asks; stop = stop }
 
 -- a declared ask has its entry, or none yet
@@ -83,7 +83,7 @@ pub record Speech : Type 0 where
   pub place : ℕ
   pub sent : List Message
   pub asks : List Ask
-  pub stop : Stop
+  pub stop : SpeechStop
 
 -- HELLO comes first
 abbrev pub opening : ℕ → Speech
@@ -92,7 +92,7 @@ opening number = record { session = in_phase (drawn (fresh number)) Greet; place
 abbrev pub with_said : Speech → ℕ → Said → Speech
 with_said x wide y = record { session = y.session; place = x.place + wide; sent = x.sent ++ y.sent; asks = x.asks ++ y.asks; stop = y.stop }
 
-abbrev pub heard : Stop → Told → Speech → Message → Speech
+abbrev pub heard : SpeechStop → Told → Speech → Message → Speech
 heard Goes t x m = with_said x (frame_width m) (said_to t x.place (length x.asks) x.session m)
 heard Waits t x m = x
 heard (Ends e) t x m = x
@@ -114,7 +114,7 @@ abbrev pub refused_speech : Speech → WireRefusal → Speech
 refused_speech x e = record { session = x.session; place = x.place; sent = x.sent; asks = x.asks; stop = Ends (Wire (x.place + e.at) e.why) }
 
 -- a session that goes on to a tail that is refused ends there
-abbrev pub ended_by : Stop → Tail → Speech → Speech
+abbrev pub ended_by : SpeechStop → Tail → Speech → Speech
 ended_by Goes (Broken e) x = refused_speech x e
 ended_by stop tail x = x
 

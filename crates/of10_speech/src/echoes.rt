@@ -1,25 +1,21 @@
 //! Frames that ask for an echo, answered from their bytes: no message is made of them.
 
 ghost use Rattle.std.specs.Prelude.{◌≡◌, ◌↔◌, ◌<◌, ◌^◌, [], ◌∷◌, ◌++◌, length, IsTrue, OnOk, OnErr};
+ghost use Rattle.of10_wire.specs.MessageTypes as types;
 ghost use Rattle.of10_msgs.specs.Messages.{Opens, echoed, spells};
 ghost use Rattle.of10_stream.specs.Framings.{IsFrame};
 ghost use Rattle.of10_session.specs.Sessions.{spelled};
 ghost use Rattle.of10_speech.specs.Echoes.{request_in};
 
-use of10_wire::u8_at;
+use of10_wire::{message_type, u8_at};
 use std::alloc::AllocError;
-
-/// The types of the request and of the reply.
-const ECHO_REQUEST: u8 = 2;
-
-const ECHO_REPLY: u8 = 3;
 
 /// Whether a whole frame asks for an echo.
 pub(crate) fn asks_for_echo(frame: &[u8]) -> bool
     requires { IsFrame frame.now }
-    ensures { IsTrue result ↔ Opens 2 frame.now }
+    ensures { IsTrue result ↔ Opens types.echo_request frame.now }
 {
-    u8_at(frame, 1) == ECHO_REQUEST
+    u8_at(frame, 1) == message_type::ECHO_REQUEST
 }
 
 /// Appends the reply to a frame that asks for an echo: its bytes again, with the reply's type.
@@ -28,7 +24,7 @@ pub(crate) fn asks_for_echo(frame: &[u8]) -> bool
 ///
 /// Where memory ran out nothing is appended.
 pub(crate) fn echo(frame: &[u8], out: &mut Vec<u8>) -> Result<(), AllocError>
-    requires opens { Opens 2 frame.now }
+    requires opens { Opens types.echo_request frame.now }
     requires whole { IsFrame frame.now }
     ensures request { spells (request_in frame.now) frame.now }
     ensures bytes { OnOk result (out.new.items ≡ out.old.items ++ spelled (echoed (request_in frame.now) ∷ [])) }
@@ -36,6 +32,6 @@ pub(crate) fn echo(frame: &[u8], out: &mut Vec<u8>) -> Result<(), AllocError>
 {
     let kind = out.len() + 1;
     out.extend_from_slice(frame)?;
-    out[kind] = ECHO_REPLY;
+    out[kind] = message_type::ECHO_REPLY;
     Ok(())
 }

@@ -10,7 +10,7 @@ ghost use Rattle.of10_speech.specs.Hearings.{Breaks, BreaksAtFrame, BreaksOff, S
 
 use crate::answers::{Answers, Unanswered};
 use crate::echoes::{asks_for_echo, echo};
-use crate::stops::{Broken, SpokenEnd, Stop};
+use crate::stops::{Broken, SpeechStop, SpokenEnd};
 use of10_msgs::Message;
 use of10_session::{Ask, Pending, Session, Turn, TurnEnd};
 use of10_stream::{Framer, read_frame};
@@ -24,34 +24,34 @@ fn settle<P: Answers>(
     program: &mut P,
     ask: Ask,
     out: &mut Vec<u8>,
-) -> Result<Stop, Broken>
+) -> Result<SpeechStop, Broken>
     requires pending { session.old.pending ≢ Pending.Nothing }
     requires room { session.old.ignored + 1 < 2 ^ 64 }
     requires left { 0 < P.left program.old }
     ensures said { IfOk result (λ stop. Says (on_ask (told P.declares P.given P.asked program.new) (length (P.given program.old)) session.old ask) stop session.new out.old.items out.new.items) }
     ensures err { OnErr result ((session.new ≡ session.old) × (out.new.items ≡ out.old.items)) }
     ensures broken { IfErr result (λ why. BreaksOff (on_ask (told P.declares P.given P.asked program.new) (length (P.given program.old)) session.old ask) (told P.declares P.given P.asked program.old) (told P.declares P.given P.asked program.new) session.old why) }
-    ensures waits { IfOk result (λ stop. stop ≡ Stop.Waits → P.is_full program.new ≡ true) }
+    ensures waits { IfOk result (λ stop. stop ≡ SpeechStop.Waits → P.is_full program.new ≡ true) }
     ensures full { IfErr result (λ why. why ≡ Broken.Full → P.is_full program.new ≡ true) }
     ensures left { P.left program.old ≤ P.left program.new + 1 }
     ensures further { Further (told P.declares P.given P.asked program.old) (told P.declares P.given P.asked program.new) }
     ensures source { P.source program.new ≡ P.source program.old }
-    ensures counts { IfOk result (λ stop. stop ≡ Stop.Goes → length (P.given program.new) ≡ length (P.given program.old) + length (on_ask (told P.declares P.given P.asked program.new) (length (P.given program.old)) session.old ask).asks) }
+    ensures counts { IfOk result (λ stop. stop ≡ SpeechStop.Goes → length (P.given program.new) ≡ length (P.given program.old) + length (on_ask (told P.declares P.given P.asked program.new) (length (P.given program.old)) session.old ask).asks) }
     ensures asked { IfOk result (λ stop. P.asked program.new ≡ P.asked program.old ++ (on_ask (told P.declares P.given P.asked program.new) (length (P.given program.old)) session.old ask).asks) }
 {
     match program.ask(ask) {
         Ok(reply) => match session.answer(alloc, &reply, out) {
-            Ok(()) => Ok(Stop::Goes),
+            Ok(()) => Ok(SpeechStop::Goes),
             Err(_) => Err(Broken::Memory),
         },
         Err(Unanswered::Stranger) => match ask {
-            Ask::Join { s } => Ok(Stop::Ends(SpokenEnd::UnknownSwitch { s })),
+            Ask::Join { s } => Ok(SpeechStop::Ends(SpokenEnd::UnknownSwitch { s })),
             Ask::Packet { .. } | Ask::Expire { .. } => {
                 session.pass();
-                Ok(Stop::Goes)
+                Ok(SpeechStop::Goes)
             }
         },
-        Err(Unanswered::NoEntry) => Ok(Stop::Waits),
+        Err(Unanswered::NoEntry) => Ok(SpeechStop::Waits),
         Err(Unanswered::Full) => Err(Broken::Full),
         Err(Unanswered::Memory) => Err(Broken::Memory),
     }
@@ -70,7 +70,7 @@ pub fn hear<P: Answers>(
     message: Message,
     program: &mut P,
     out: &mut Vec<u8>,
-) -> Result<Stop, Broken>
+) -> Result<SpeechStop, Broken>
     requires listening { IsListening session.old }
     requires room { session.old.ignored + 1 < 2 ^ 64 }
     requires sendable { IsSendable message }
@@ -78,19 +78,21 @@ pub fn hear<P: Answers>(
     ensures said { IfOk result (λ stop. Says (said_to (told P.declares P.given P.asked program.new) place (length (P.given program.old)) session.old message) stop session.new out.old.items out.new.items) }
     ensures err { OnErr result ((session.new.ignored ≡ session.old.ignored) × (out.new.items ≡ out.old.items)) }
     ensures broken { IfErr result (λ why. BreaksOff (said_to (told P.declares P.given P.asked program.new) place (length (P.given program.old)) session.old message) (told P.declares P.given P.asked program.old) (told P.declares P.given P.asked program.new) session.old why) }
-    ensures waits { IfOk result (λ stop. stop ≡ Stop.Waits → P.is_full program.new ≡ true) }
+    ensures waits { IfOk result (λ stop. stop ≡ SpeechStop.Waits → P.is_full program.new ≡ true) }
     ensures full { IfErr result (λ why. why ≡ Broken.Full → P.is_full program.new ≡ true) }
     ensures left { TookFew (P.left program.old) (P.left program.new) (frame_width message) }
     ensures further { Further (told P.declares P.given P.asked program.old) (told P.declares P.given P.asked program.new) }
     ensures source { P.source program.new ≡ P.source program.old }
-    ensures counts { IfOk result (λ stop. stop ≡ Stop.Goes → length (P.given program.new) ≡ length (P.given program.old) + length (said_to (told P.declares P.given P.asked program.new) place (length (P.given program.old)) session.old message).asks) }
+    ensures counts { IfOk result (λ stop. stop ≡ SpeechStop.Goes → length (P.given program.new) ≡ length (P.given program.old) + length (said_to (told P.declares P.given P.asked program.new) place (length (P.given program.old)) session.old message).asks) }
     ensures asked { IfOk result (λ stop. P.asked program.new ≡ P.asked program.old ++ (said_to (told P.declares P.given P.asked program.new) place (length (P.given program.old)) session.old message).asks) }
 {
     match session.step(alloc, message, out) {
         Err(_) => Err(Broken::Memory),
-        Ok(Turn::Go) => Ok(Stop::Goes),
-        Ok(Turn::End(TurnEnd::Incompatible)) => Ok(Stop::Ends(SpokenEnd::Incompatible)),
-        Ok(Turn::End(TurnEnd::OutOfTurn)) => Ok(Stop::Ends(SpokenEnd::OutOfTurn { at: place })),
+        Ok(Turn::Go) => Ok(SpeechStop::Goes),
+        Ok(Turn::End(TurnEnd::Incompatible)) => Ok(SpeechStop::Ends(SpokenEnd::Incompatible)),
+        Ok(Turn::End(TurnEnd::OutOfTurn)) => Ok(SpeechStop::Ends(SpokenEnd::OutOfTurn {
+            at: place,
+        })),
         Ok(Turn::Ask(ask)) => settle(alloc, session, program, ask, out),
     }
 }
@@ -99,15 +101,15 @@ pub fn hear<P: Answers>(
 #[derive(Clone, Copy, Debug, PartialEq, Eq)]
 pub struct Hearing {
     pub used: usize,
-    pub stop: Stop,
+    pub stop: SpeechStop,
 }
 
 /// The end of a stream by bytes that are no message.
-fn ended(start: u64, refusal: WireRefusal) -> Stop
+fn ended(start: u64, refusal: WireRefusal) -> SpeechStop
     requires { start + refusal.at < 2 ^ 64 }
     ensures { result ≡ is_ended start refusal }
 {
-    Stop::Ends(SpokenEnd::Wire {
+    SpeechStop::Ends(SpokenEnd::Wire {
         at: start + refusal.at as u64,
         why: refusal.why,
     })
@@ -123,7 +125,7 @@ fn hear_decoded<P: Answers>(
     frame: &[u8],
     program: &mut P,
     out: &mut Vec<u8>,
-) -> Result<Stop, Broken>
+) -> Result<SpeechStop, Broken>
     requires frame { IsFrame frame.now }
     requires short { length frame.now ≤ 65535 }
     requires room { place + length frame.now < 2 ^ 64 }
@@ -133,7 +135,7 @@ fn hear_decoded<P: Answers>(
     ensures hears { IfOk result (λ stop. HearsFrame (told P.declares P.given P.asked program.old) (told P.declares P.given P.asked program.new) (framing place frame.now) session.old (framing (place + length frame.now) []) session.new stop out.old.items out.new.items) }
     ensures err { OnErr result ((session.new.ignored ≡ session.old.ignored) × (out.new.items ≡ out.old.items)) }
     ensures broken { IfErr result (λ why. BreaksAtFrame (told P.declares P.given P.asked program.old) (told P.declares P.given P.asked program.new) (framing place frame.now) session.old why) }
-    ensures waits { IfOk result (λ stop. stop ≡ Stop.Waits → P.is_full program.new ≡ true) }
+    ensures waits { IfOk result (λ stop. stop ≡ SpeechStop.Waits → P.is_full program.new ≡ true) }
     ensures full { IfErr result (λ why. why ≡ Broken.Full → P.is_full program.new ≡ true) }
     ensures left { TookFew (P.left program.old) (P.left program.new) (length frame.now) }
     ensures further { Further (told P.declares P.given P.asked program.old) (told P.declares P.given P.asked program.new) }
@@ -155,7 +157,7 @@ fn hear_bytes<P: Answers>(
     frame: &[u8],
     program: &mut P,
     out: &mut Vec<u8>,
-) -> Result<Stop, Broken>
+) -> Result<SpeechStop, Broken>
     requires frame { IsFrame frame.now }
     requires short { length frame.now ≤ 65535 }
     requires room { place + length frame.now < 2 ^ 64 }
@@ -165,7 +167,7 @@ fn hear_bytes<P: Answers>(
     ensures hears { IfOk result (λ stop. HearsFrame (told P.declares P.given P.asked program.old) (told P.declares P.given P.asked program.new) (framing place frame.now) session.old (framing (place + length frame.now) []) session.new stop out.old.items out.new.items) }
     ensures err { OnErr result ((session.new.ignored ≡ session.old.ignored) × (out.new.items ≡ out.old.items)) }
     ensures broken { IfErr result (λ why. BreaksAtFrame (told P.declares P.given P.asked program.old) (told P.declares P.given P.asked program.new) (framing place frame.now) session.old why) }
-    ensures waits { IfOk result (λ stop. stop ≡ Stop.Waits → P.is_full program.new ≡ true) }
+    ensures waits { IfOk result (λ stop. stop ≡ SpeechStop.Waits → P.is_full program.new ≡ true) }
     ensures full { IfErr result (λ why. why ≡ Broken.Full → P.is_full program.new ≡ true) }
     ensures left { TookFew (P.left program.old) (P.left program.new) (length frame.now) }
     ensures further { Further (told P.declares P.given P.asked program.old) (told P.declares P.given P.asked program.new) }
@@ -173,7 +175,7 @@ fn hear_bytes<P: Answers>(
 {
     if asks_for_echo(frame) {
         return match echo(frame, out) {
-            Ok(()) => Ok(Stop::Goes),
+            Ok(()) => Ok(SpeechStop::Goes),
             Err(_) => Err(Broken::Memory),
         };
     }
@@ -203,10 +205,10 @@ pub fn hear_next<P: Answers>(
     ensures hears { IfOk result (λ r. Hears (told P.declares P.given P.asked program.old) (told P.declares P.given P.asked program.new) framer.old session.old piece.now framer.new session.new r out.old.items out.new.items) }
     ensures err { OnErr result ((session.new.ignored ≡ session.old.ignored) × (out.new.items ≡ out.old.items)) }
     ensures broken { IfErr result (λ why. Breaks (told P.declares P.given P.asked program.old) (told P.declares P.given P.asked program.new) framer.old session.old piece.now why) }
-    ensures waits { IfOk result (λ r. r.stop ≡ Stop.Waits → P.is_full program.new ≡ true) }
+    ensures waits { IfOk result (λ r. r.stop ≡ SpeechStop.Waits → P.is_full program.new ≡ true) }
     ensures full { IfErr result (λ why. why ≡ Broken.Full → P.is_full program.new ≡ true) }
     ensures left { TookFew (P.left program.old) (P.left program.new) (length framer.old.held + length piece.now) }
-    ensures going { IfOk result (λ r. r.stop ≡ Stop.Goes → 16 * P.left program.old + framer.old.start ≤ 16 * P.left program.new + framer.new.start) }
+    ensures going { IfOk result (λ r. r.stop ≡ SpeechStop.Goes → 16 * P.left program.old + framer.old.start ≤ 16 * P.left program.new + framer.new.start) }
     ensures further { Further (told P.declares P.given P.asked program.old) (told P.declares P.given P.asked program.new) }
     ensures source { P.source program.new ≡ P.source program.old }
 {
@@ -220,7 +222,7 @@ pub fn hear_next<P: Answers>(
     match framer.feed(piece) {
         Err(refusal) => Ok(Hearing {
             used: piece.len(),
-            stop: Stop::Ends(SpokenEnd::Wire {
+            stop: SpeechStop::Ends(SpokenEnd::Wire {
                 at: refusal.at,
                 why: refusal.why,
             }),
@@ -229,7 +231,7 @@ pub fn hear_next<P: Answers>(
             if !fed.ready {
                 return Ok(Hearing {
                     used: fed.used,
-                    stop: Stop::Goes,
+                    stop: SpeechStop::Goes,
                 });
             }
             let stop = hear_frame(alloc, framer, session, program, out)?;
@@ -248,7 +250,7 @@ fn hear_frame<P: Answers>(
     session: &mut Session,
     program: &mut P,
     out: &mut Vec<u8>,
-) -> Result<Stop, Broken>
+) -> Result<SpeechStop, Broken>
     requires framer { IsReady framer.old }
     requires room { framer.old.start + length framer.old.held < 2 ^ 64 }
     requires listening { IsListening session.old }
@@ -257,7 +259,7 @@ fn hear_frame<P: Answers>(
     ensures hears { IfOk result (λ stop. HearsFrame (told P.declares P.given P.asked program.old) (told P.declares P.given P.asked program.new) framer.old session.old framer.new session.new stop out.old.items out.new.items) }
     ensures err { OnErr result ((session.new.ignored ≡ session.old.ignored) × (out.new.items ≡ out.old.items)) }
     ensures broken { IfErr result (λ why. BreaksAtFrame (told P.declares P.given P.asked program.old) (told P.declares P.given P.asked program.new) framer.old session.old why) }
-    ensures waits { IfOk result (λ stop. stop ≡ Stop.Waits → P.is_full program.new ≡ true) }
+    ensures waits { IfOk result (λ stop. stop ≡ SpeechStop.Waits → P.is_full program.new ≡ true) }
     ensures full { IfErr result (λ why. why ≡ Broken.Full → P.is_full program.new ≡ true) }
     ensures left { TookFew (P.left program.old) (P.left program.new) (length framer.old.held) }
     ensures further { Further (told P.declares P.given P.asked program.old) (told P.declares P.given P.asked program.new) }

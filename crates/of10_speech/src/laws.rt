@@ -7,7 +7,7 @@ ghost use Rattle.of10_session.specs.Sessions.{spelled};
 ghost use Rattle.of10_speech.specs.declared.hearing.Hearing.{Hearing as AnyHearing};
 ghost use Rattle.of10_speech.specs.declared.stops.Broken.{Broken as AnyBroken};
 ghost use Rattle.of10_speech.specs.declared.stops.Broken.TheVariants.{Full};
-ghost use Rattle.of10_speech.specs.declared.stops.Stop.TheVariants.{Goes, Waits};
+ghost use Rattle.of10_speech.specs.declared.stops.SpeechStop.TheVariants.{Goes, Waits};
 ghost use Rattle.of10_speech.specs.Speeches.{Told, Further, Speech, opening, IsSpoken, HasOneAnswer, IsBeginning};
 ghost use Rattle.of10_speech.specs.Hearings.{Awaits, Breaks, Following, HasAsked, Hears, IsAnswer};
 

@@ -15,4 +15,4 @@ pub use answers::{Answers, Unanswered};
 pub use hearing::{Hearing, hear, hear_next};
 pub use laws::{answers_grow, any_pieces, longer_histories, one_answer};
 pub use speaking::{Spoken, speak};
-pub use stops::{Broken, SpokenEnd, Stop};
+pub use stops::{Broken, SpeechStop, SpokenEnd};

@@ -6,7 +6,7 @@ ghost use Rattle.of10_speech.specs.Hearings.{IsAnswer};
 
 use crate::answers::Answers;
 use crate::hearing::hear_next;
-use crate::stops::{Broken, Stop};
+use crate::stops::{Broken, SpeechStop};
 use of10_session::Session;
 use of10_stream::Framer;
 use of10_wire::rest_from;
@@ -15,7 +15,7 @@ use std::alloc::Global;
 /// How a session stood when its bytes were over, or when it stopped.
 #[derive(Clone, Copy, Debug, PartialEq, Eq)]
 pub struct Spoken {
-    pub stop: Stop,
+    pub stop: SpeechStop,
     pub ignored: u64,
 }
 
@@ -57,7 +57,7 @@ pub fn speak<P: Answers>(
         )?;
         at += heard.used;
         match heard.stop {
-            Stop::Goes => {}
+            SpeechStop::Goes => {}
             stop => {
                 return Ok(Spoken {
                     stop,
@@ -67,7 +67,7 @@ pub fn speak<P: Answers>(
         }
     }
     Ok(Spoken {
-        stop: Stop::Goes,
+        stop: SpeechStop::Goes,
         ignored: session.ignored(),
     })
 }

@@ -17,7 +17,7 @@ pub enum SpokenEnd {
 
 /// Whether a session goes on, waits for an entry, or has ended.
 #[derive(Clone, Copy, Debug, PartialEq, Eq)]
-pub enum Stop {
+pub enum SpeechStop {
     Goes,
     Waits,
     Ends(SpokenEnd),

@@ -5,6 +5,7 @@ use Rattle.of10_wire.specs.declared.refusal.WireRefusal.{WireRefusal}
 use Rattle.of10_wire.specs.declared.refusal.WireWhy.TheVariants.{BadVersion, BadType, BadLength}
 use Rattle.of10_wire.specs.declared.rules.Opening.{Opening}
 use Rattle.of10_wire.specs.declared.rules.Opening.TheVariants.{Wants, Frame, Refused}
+use Rattle.of10_wire.specs.MessageTypes as types
 use Rattle.of10_wire.specs.Refusals.{refusal}
 use Rattle.of10_wire.specs.Layout.{Slot, Number, width, number}
 
@@ -17,13 +18,13 @@ frame version kind xid fields = header_slots (record { version = version; kind =
 
 -- the types of OpenFlow 1.0
 abbrev pub is_kind : ℕ → Bool
-is_kind kind = nat_le kind 21
+is_kind kind = nat_le kind types.queue_get_config_reply
 
 -- Why the header in the first 8 bytes is refused before its frame is whole: another version than 1, except in
--- a HELLO, which is type 0; no type of OpenFlow 1.0; a length that doesn't count the header.
+-- a HELLO; no type of OpenFlow 1.0; a length that doesn't count the header.
 unfoldable pub header_refusal : List ℕ → Option WireRefusal
 header_refusal bytes =
-    if not (number 1 0 bytes == 1) && not (number 1 1 bytes == 0) then Some (refusal 0 BadVersion)
+    if not (number 1 0 bytes == 1) && not (number 1 1 bytes == types.hello) then Some (refusal 0 BadVersion)
     else if not (is_kind (number 1 1 bytes)) then Some (refusal 1 BadType)
     else if nat_lt (number 2 2 bytes) 8 then Some (refusal 2 BadLength)
     else None

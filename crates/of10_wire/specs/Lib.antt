@@ -1,5 +1,7 @@
 pub mod Layout
 pub mod Refusals
+pub mod MessageTypes
+pub mod ReservedPorts
 pub mod Headers
 pub mod Writing
 pub mod Parts

@@ -4,6 +4,7 @@ ghost use Rattle.std.specs.Prelude.{ℕ, ◌≡◌, ◌<◌, ◌≤◌, ◌^◌,
 ghost use Rattle.of10_wire.specs.declared.rules.Opening.TheVariants.{Wants, Frame};
 ghost use Rattle.of10_wire.specs.Headers.{header_refusal, opening_of};
 
+use crate::message_type;
 use crate::parts::FixedPart;
 use crate::refusal::{WireRefusal, WireWhy};
 use crate::types::Header;
@@ -16,9 +17,9 @@ pub fn header_refusal(bytes: &[u8]) -> Option<WireRefusal>
     ensures { result ≡ header_refusal bytes.now }
 {
     let header = Header::read(bytes);
-    let (at, why) = if header.version != 1 && header.kind != 0 {
+    let (at, why) = if header.version != 1 && header.kind != message_type::HELLO {
         (0, WireWhy::BadVersion)
-    } else if header.kind > 21 {
+    } else if header.kind > message_type::QUEUE_GET_CONFIG_REPLY {
         (1, WireWhy::BadType)
     } else if header.length < 8 {
         (2, WireWhy::BadLength)

@@ -10,8 +10,8 @@ use Rattle.csdn_run.specs.Standings.{after}
 use Rattle.csdn_run.proofs.SessionReplies.{replies-append}
 use Rattle.of10_session.specs.declared.turn.Ask.{Ask}
 use Rattle.of10_speech.specs.declared.speaking.Spoken.{Spoken}
-use Rattle.of10_speech.specs.declared.stops.Stop.{Stop}
-use Rattle.of10_speech.specs.declared.stops.Stop.TheVariants.{Waits}
+use Rattle.of10_speech.specs.declared.stops.SpeechStop.{SpeechStop}
+use Rattle.of10_speech.specs.declared.stops.SpeechStop.TheVariants.{Waits}
 use Rattle.of10_speech.specs.Speeches.{Told, Further, Speech, IsSpoken, IsBeginning, HasOneAnswer}
 use Rattle.of10_speech.specs.Hearings.{IsAnswer}
 use Rattle.of10_speech.proofs.Beginnings.{spoken_begins}
@@ -33,11 +33,11 @@ IsReplayOf s bytes text ending = IsReplay s.program s.network s.entries s.sessio
 abbrev pub told_of : Journal → Told
 told_of j = record { declares = declares j.runtime.program j.runtime.network; replies = given_by j; asks = asked_of j }
 
-other_here : (n : ℕ) (ask : Ask) (more left : List Ask) (stop : Stop) → IsOther (Some ask) (first_of left) stop → first_difference n (ask ∷ more) left ≡ Some n
+other_here : (n : ℕ) (ask : Ask) (more left : List Ask) (stop : SpeechStop) → IsOther (Some ask) (first_of left) stop → first_difference n (ask ∷ more) left ≡ Some n
 other_here n ask more [] stop h = refl
 other_here n ask more (next ∷ left) stop h = ap (λ (b : Bool). if b then first_difference (n + 1) more left else Some n) h
 
-left_here : (n : ℕ) (left : List Ask) (stop : Stop) → IsOther None (first_of left) stop → (first_difference n [] left ≡ Some n) × (stop ≢ Waits)
+left_here : (n : ℕ) (left : List Ask) (stop : SpeechStop) → IsOther None (first_of left) stop → (first_difference n [] left ≡ Some n) × (stop ≢ Waits)
 left_here n [] stop h = absurd h
 left_here n (next ∷ left) stop h = (refl, h)
 
@@ -104,7 +104,7 @@ module _ (j : Journal) (bytes said text : List ℕ) (spoken : Spoken) (ending : 
   is_told lines = record {
     outs = lines.outs;
     sent = subst (λ (l : List ℕ). AreOutLines l lines.outs) a.written lines.sent;
-    text_is = lines.text_is ∙ ap₂ (λ (stop : Stop) (n : ℕ). lines.outs ++ end_line stop n) a.stop a.ignored;
+    text_is = lines.text_is ∙ ap₂ (λ (stop : SpeechStop) (n : ℕ). lines.outs ++ end_line stop n) a.stop a.ignored;
     ends = lines.ends ∙ ap ending_of a.stop;
   }
 

@@ -7,8 +7,8 @@ use Rattle.csdn_history.specs.declared.entry.Entry.{Entry}
 use Rattle.of10_listing.specs.Lines.{why_name}
 use Rattle.of10_session.specs.declared.turn.Ask.{Ask}
 use Rattle.of10_session.specs.Sessions.{spelled}
-use Rattle.of10_speech.specs.declared.stops.Stop.{Stop}
-use Rattle.of10_speech.specs.declared.stops.Stop.TheVariants.{Goes, Waits, Ends}
+use Rattle.of10_speech.specs.declared.stops.SpeechStop.{SpeechStop}
+use Rattle.of10_speech.specs.declared.stops.SpeechStop.TheVariants.{Goes, Waits, Ends}
 use Rattle.of10_speech.specs.declared.stops.SpokenEnd.{SpokenEnd}
 use Rattle.of10_speech.specs.declared.stops.SpokenEnd.TheVariants.{Incompatible, OutOfTurn, UnknownSwitch, Wire}
 use Rattle.of10_speech.specs.Speeches.{Speech}
@@ -53,16 +53,16 @@ end_words (UnknownSwitch s) = codes "unknown switch " ++ decimal s
 end_words (Wire at why) = codes "wire " ++ decimal at ++ codes " " ++ why_name why
 
 -- a session that waits has an ask more than it has entries, so that no end of it is printed
-abbrev pub stop_words : Stop → List ℕ
+abbrev pub stop_words : SpeechStop → List ℕ
 stop_words Goes = codes "closed"
 stop_words (Ends end) = end_words end
 stop_words Waits = []
 
 -- `end END ignored M`
-abbrev pub end_line : Stop → ℕ → List ℕ
+abbrev pub end_line : SpeechStop → ℕ → List ℕ
 end_line stop ignored = codes "end " ++ stop_words stop ++ codes " ignored " ++ decimal ignored ++ codes "\n"
 
-abbrev pub ending_of : Stop → Ending
+abbrev pub ending_of : SpeechStop → Ending
 ending_of Goes = Closed
 ending_of (Ends end) = Ended
 ending_of Waits = Differs

@@ -2,8 +2,8 @@
 use Rattle.std.specs.Prelude.{◌≡◌, ◌≢◌, ℕ, ◌+◌, Bool, true, false, List, [], ◌∷◌, ◌++◌, length, Option, Some, None}
 use Rattle.of10_session.specs.declared.turn.Ask.{Ask}
 use Rattle.of10_speech.specs.declared.speaking.Spoken.{Spoken}
-use Rattle.of10_speech.specs.declared.stops.Stop.{Stop}
-use Rattle.of10_speech.specs.declared.stops.Stop.TheVariants.{Waits}
+use Rattle.of10_speech.specs.declared.stops.SpeechStop.{SpeechStop}
+use Rattle.of10_speech.specs.declared.stops.SpeechStop.TheVariants.{Waits}
 use Rattle.replay_listing.specs.declared.journal.Journal.{Journal}
 use Rattle.replay_listing.specs.declared.listing.Ending.{Ending}
 use Rattle.replay_listing.specs.declared.listing.Ending.TheVariants.{Differs}
@@ -16,14 +16,14 @@ first_of [] = None
 first_of (ask ∷ asks) = Some ask
 
 -- behind those that were answered, an ask isn't the next entry, or an entry is left
-abbrev pub IsOther : Option Ask → Option Ask → Stop → Type 0
+abbrev pub IsOther : Option Ask → Option Ask → SpeechStop → Type 0
 IsOther (Some ask) None stop = Unit {0}
 IsOther (Some ask) (Some next) stop = same_ask ask next ≡ false
 IsOther None (Some next) stop = stop ≢ Waits
 IsOther None None stop = ⊥
 
 -- there is neither
-pub record AreOver (missing next : Option Ask) (stop : Stop) : Type 0 where
+pub record AreOver (missing next : Option Ask) (stop : SpeechStop) : Type 0 where
   pub answered : missing ≡ None
   pub last : next ≡ None
   pub goes : stop ≢ Waits
@@ -36,7 +36,7 @@ Tells false A B = B
 abbrev pub next_of : Journal → Option Ask
 next_of j = first_of (asks_of j.session (noted j.rest.now))
 
-abbrev pub IsDifference : Journal → Stop → Option ℕ → Type 0
+abbrev pub IsDifference : Journal → SpeechStop → Option ℕ → Type 0
 IsDifference j stop (Some k) = (k ≡ length (asks_of j.session j.runtime.history) + 1) × IsOther j.missing (next_of j) stop
 IsDifference j stop None = AreOver j.missing (next_of j) stop
 

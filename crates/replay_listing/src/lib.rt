@@ -9,5 +9,5 @@ mod lines;
 mod listing;
 mod refusals;
 
-pub use listing::{Ending, Replay, list, replays_have_one_text};
+pub use listing::{Ending, Replay, list_replay, replays_have_one_text};
 pub use refusals::{Refusal, Refused, first_refused, list_refused};

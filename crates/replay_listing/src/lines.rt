@@ -4,7 +4,7 @@ ghost use Rattle.replay_listing.specs.Replays.{AreOutLines, IsBehind, differs_te
 
 use crate::hex::put_hex;
 use of10_listing::why_name;
-use of10_speech::{SpokenEnd, Stop};
+use of10_speech::{SpeechStop, SpokenEnd};
 use of10_wire::{Opening, WireWhy, opening_of, rest_from};
 use std::alloc::AllocError;
 use text_lines::{put_line_end, put_number, put_word};
@@ -66,18 +66,18 @@ fn put_spoken_end(out: &mut Vec<u8>, end: SpokenEnd) -> Result<(), AllocError>
     }
 }
 
-fn put_stop(out: &mut Vec<u8>, stop: Stop) -> Result<(), AllocError>
+fn put_stop(out: &mut Vec<u8>, stop: SpeechStop) -> Result<(), AllocError>
     ensures { OnOk result (out.new.items ≡ out.old.items ++ stop_words_of stop) }
 {
     match stop {
-        Stop::Goes => put_word(out, b"closed"),
-        Stop::Ends(end) => put_spoken_end(out, end),
-        Stop::Waits => Ok(()),
+        SpeechStop::Goes => put_word(out, b"closed"),
+        SpeechStop::Ends(end) => put_spoken_end(out, end),
+        SpeechStop::Waits => Ok(()),
     }
 }
 
 /// Appends the line that says how the session ended, and how many messages it ignored (docs/COMMANDS.md, "replay").
-pub fn put_end(out: &mut Vec<u8>, stop: Stop, ignored: u64) -> Result<(), AllocError>
+pub fn put_end(out: &mut Vec<u8>, stop: SpeechStop, ignored: u64) -> Result<(), AllocError>
     ensures { OnOk result (out.new.items ≡ out.old.items ++ end_line stop ignored) }
 {
     put_word(out, b"end ")?;

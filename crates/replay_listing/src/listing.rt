@@ -20,7 +20,7 @@ use csdn_run::Runtime;
 use journal_text::Note;
 use net_structs::network::Network;
 use of10_session::Ask;
-use of10_speech::{Spoken, Stop, speak};
+use of10_speech::{SpeechStop, Spoken, speak};
 use session_asks::{ask_of, is_same, session_of};
 use std::alloc::{AllocError, Global};
 
@@ -95,7 +95,7 @@ fn counted(entry: &Entry, session: u32) -> u64
 
 // Whether the asks and the entries differ at the place behind those that were answered: an ask was no entry, or an entry is
 // left.
-fn is_other(missing: Option<Ask>, next: Option<Ask>, stop: Stop) -> Result<bool, AllocError>
+fn is_other(missing: Option<Ask>, next: Option<Ask>, stop: SpeechStop) -> Result<bool, AllocError>
     ensures { IfOk result (λ other. Tells other (IsOther missing next stop) (AreOver missing next stop)) }
 {
     match missing {
@@ -106,7 +106,7 @@ fn is_other(missing: Option<Ask>, next: Option<Ask>, stop: Stop) -> Result<bool,
         },
         None => match stop {
             // a session waits where an ask is missing
-            Stop::Waits => Err(AllocError),
+            SpeechStop::Waits => Err(AllocError),
             _ => Ok(next.is_some()),
         },
     }
@@ -123,7 +123,7 @@ fn other_or_none(ask: Ask, entered: Ask) -> Result<bool, AllocError>
 }
 
 // Where the asks of the session and its entries differ, if they do.
-fn difference(journal: &Journal, stop: Stop) -> Result<Option<u64>, AllocError>
+fn difference(journal: &Journal, stop: SpeechStop) -> Result<Option<u64>, AllocError>
     ensures { IfOk result (IsDifference journal.now stop) }
 {
     let next = next_ask(journal.rest, journal.session);
@@ -147,13 +147,13 @@ fn told(alloc: Global, spoken: Spoken, said: &[u8]) -> Result<Replay, AllocError
     })
 }
 
-fn ending_of(stop: Stop) -> Ending
+fn ending_of(stop: SpeechStop) -> Ending
     ensures { result ≡ ending_in stop }
 {
     match stop {
-        Stop::Goes => Ending::Closed,
-        Stop::Ends(_) => Ending::Ended,
-        Stop::Waits => Ending::Differs,
+        SpeechStop::Goes => Ending::Closed,
+        SpeechStop::Ends(_) => Ending::Ended,
+        SpeechStop::Waits => Ending::Differs,
     }
 }
 
@@ -180,7 +180,7 @@ fn tell(alloc: Global, journal: &Journal, spoken: Spoken, said: &[u8]) -> Result
 
 /// What is said of a session of a journal, over the bytes that its switch sent. It goes over the notes and the bytes once, and
 /// keeps one state.
-pub fn list(
+pub fn list_replay(
     alloc: Global,
     program: Program,
     network: Network,

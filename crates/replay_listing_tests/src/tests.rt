@@ -7,7 +7,7 @@ use csdn_read::read_program;
 use journal_text::{Note, read_journal};
 use net_structs::network::Network;
 use net_structs::read::NetParts;
-use replay_listing::{Ending, Refusal, Refused, Replay, first_refused, list, list_refused};
+use replay_listing::{Ending, Refusal, Refused, Replay, first_refused, list_refused, list_replay};
 use sqlite_items::Items;
 use std::alloc::{AllocError, Global};
 use std::process::Abort;
@@ -87,7 +87,7 @@ fn outcome_in(
         let text = list_refused(alloc, refused)?;
         return Ok(Some(Outcome::Refused(text)));
     }
-    let replay = list(alloc, program, network, notes, session, stream)?;
+    let replay = list_replay(alloc, program, network, notes, session, stream)?;
     Ok(Some(Outcome::Said(replay)))
 }
 

@@ -6,4 +6,4 @@
 mod lines;
 mod listing;
 
-pub use listing::list;
+pub use listing::list_run;

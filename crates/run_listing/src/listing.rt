@@ -83,7 +83,7 @@ fn notes(alloc: Global, history: &[Entry]) -> Result<Notes, AllocError>
 
 /// `session N END ignored M` for each session in the order of numbers, the journal, and `listen fault` where the listener failed. Its time
 /// and its memory grow with the sessions and the history.
-pub fn list(
+pub fn list_run(
     alloc: Global,
     rows: &[Row],
     history: &[Entry],

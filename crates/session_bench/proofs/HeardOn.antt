@@ -6,7 +6,7 @@ use Rattle.of10_wire.specs.Headers.{opening_of}
 use Rattle.of10_stream.specs.Framings.{Framing, IsOpen, IsWanting}
 use Rattle.of10_session.specs.Progresses.{Progress}
 use Rattle.of10_speech.specs.declared.hearing.Hearing.{Hearing}
-use Rattle.of10_speech.specs.declared.stops.Stop.TheVariants.{Goes, Ends}
+use Rattle.of10_speech.specs.declared.stops.SpeechStop.TheVariants.{Goes, Ends}
 use Rattle.of10_speech.specs.declared.stops.SpokenEnd.TheVariants.{Wire}
 use Rattle.of10_speech.specs.Speeches.{Told}
 use Rattle.of10_speech.specs.Hearings.{Hears}

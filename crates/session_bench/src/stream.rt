@@ -5,7 +5,7 @@ ghost use Rattle.of10_stream.specs.Framings.{IsOpen};
 use crate::trouble::Trouble;
 use csdn_history::reply::Reply;
 use of10_session::{Ask, Session};
-use of10_speech::{Answers, Stop, Unanswered, hear_next};
+use of10_speech::{Answers, SpeechStop, Unanswered, hear_next};
 use of10_stream::Framer;
 use of10_wire::rest_from;
 use std::alloc::Global;
@@ -59,7 +59,7 @@ fn hear_piece(
             out,
         )?;
         match heard.stop {
-            Stop::Goes => at += heard.used,
+            SpeechStop::Goes => at += heard.used,
             _ => return Err(Trouble::Over),
         }
     }

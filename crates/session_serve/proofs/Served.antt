@@ -2,7 +2,7 @@
 use Rattle.std.proofs.Common.{◌≡◌, ℕ, ◌-◌, ◌^◌, ◌≤◌, ◌<◌, Bool, true, [], length, map, ap, sym, subst, ◌∙◌, arith}
 use Rattle.std.proofs.Math.Seq.{drop-length}
 use Rattle.csdn_run.specs.Histories.{Running}
-use Rattle.of10_speech.specs.declared.stops.Stop.{Stop}
+use Rattle.of10_speech.specs.declared.stops.SpeechStop.{SpeechStop}
 use Rattle.of10_speech.specs.Speeches.{Told}
 use Rattle.session_asks.specs.Told.{ask_of}
 use Rattle.shared_hall.specs.declared.view.Account.{Account}
@@ -38,7 +38,7 @@ pub record IsSame (mid link : LinkView) : Type 0 where
   pub read_faults : link.read_faults ≡ mid.read_faults
   pub write_faults : link.write_faults ≡ mid.write_faults
 
-cause_shut : (stop : Stop) (full : Bool) (most n : ℕ) (before mid link : LinkView) (end : SessionEnd) → IsSame mid link → IsCauseOf stop full most n before mid end → IsCauseOf stop full most n before link end
+cause_shut : (stop : SpeechStop) (full : Bool) (most n : ℕ) (before mid link : LinkView) (end : SessionEnd) → IsSame mid link → IsCauseOf stop full most n before mid end → IsCauseOf stop full most n before link end
 cause_shut stop full most n before mid link Closed same h = h
 cause_shut stop full most n before mid link ReadFault same h = (h.0, h.1, subst (λ (k : ℕ). Rose before.read_faults k) (sym same.read_faults) h.2)
 cause_shut stop full most n before mid link WriteFault same h = subst (λ (k : ℕ). Rose before.write_faults k) (sym same.write_faults) h

@@ -83,6 +83,9 @@ pub const NO_MESSAGE: &[u8] = b"01160008 00000000";
 /// A request of 65,535 bytes, of which 4 come behind the header.
 pub const CUT_ECHO: &[u8] = b"0102ffff 00000007 01020304";
 
+/// .. of which 10 come.
+pub const LONG_CUT_ECHO: &[u8] = b"0102ffff 00000007 01020304050607080910";
+
 /// The session's HELLO, with xid 1.
 pub const GREETING: &[u8] = b"0100000800000001";
 
@@ -106,7 +109,7 @@ pub const PACKET_OUT: &[u8] = b"010d00180000000600000005000100080000000800020000
 /// The first version is refused, with xid 2.
 pub const REFUSAL: &[u8] = b"0101000c0000000200000000";
 
-const CLOSES: Case = Case {
+pub const CLOSES: Case = Case {
     number: 1,
     sent: &[HELLO, FEATURES, PACKET],
     most_read: 65536,
@@ -215,17 +218,25 @@ pub const ENDS: &[Case] = &[
         end: SessionEnd::ReadFault,
         ..CLOSES
     },
-    // a frame that is cut
-    Case {
-        sent: &[HELLO, CUT_ECHO],
-        written: &[GREETING, REQUEST],
-        ..CLOSES
-    },
     // eight bytes may be taken
     Case {
         most: 8,
         written: &[GREETING, REQUEST],
         end: SessionEnd::StreamFull,
+        ..CLOSES
+    },
+];
+
+/// A frame that is cut, behind HELLO, and as the first.
+pub const CUTS: &[Case] = &[
+    Case {
+        sent: &[HELLO, CUT_ECHO],
+        written: &[GREETING, REQUEST],
+        ..CLOSES
+    },
+    Case {
+        sent: &[LONG_CUT_ECHO],
+        written: &[GREETING],
         ..CLOSES
     },
 ];

@@ -6,6 +6,8 @@ mod cases;
 #[cfg(test)]
 mod dialogue;
 #[cfg(test)]
+mod faults;
+#[cfg(test)]
 mod halls;
 #[cfg(test)]
 mod tests;

@@ -1,6 +1,6 @@
 //! What each session comes to.
 
-use crate::cases::{COMES_BACK, Case, ENDS, FULL, bytes_of};
+use crate::cases::{COMES_BACK, CUTS, Case, ENDS, FULL, bytes_of};
 use crate::dialogue::{Dialogue, STEPS};
 use crate::halls::{Scene, firewall, serve_link, serve_on, served};
 use session_serve::SessionEnd;
@@ -30,14 +30,21 @@ fn comes<R: Wait + Abort>(
     Ok(())
 }
 
+/// Each case comes to what it says, in a hall of its own.
+fn come<R: Wait + Abort>(rt: &R, alloc: Global, cases: &[Case]) -> Result<(), AllocError> {
+    for (i, case) in cases.iter().enumerate() {
+        let Some(mut scene) = firewall(alloc, 8) else {
+            return Err(AllocError);
+        };
+        comes(rt, alloc, &mut scene, case, i)?;
+    }
+    Ok(())
+}
+
 #[test]
 fn each_session_ends_by_its_cause(rt: HostRuntime) -> Result<(), Fail> {
-    for (i, case) in ENDS.iter().enumerate() {
-        let Some(mut scene) = firewall(rt.alloc(), 8) else {
-            return Err(AllocError.into());
-        };
-        comes(&rt, rt.alloc(), &mut scene, case, i)?;
-    }
+    come(&rt, rt.alloc(), ENDS)?;
+    come(&rt, rt.alloc(), CUTS)?;
     Ok(())
 }
 

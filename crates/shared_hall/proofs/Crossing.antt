@@ -38,7 +38,6 @@ use Rattle.csdn_history.proofs.entry.Entry.TheSendSync as EntryCrosses
 use Rattle.csdn_run.proofs.standing.Kept.TheSendSync as KeptCrosses
 use Rattle.csdn_run.specs.contracts.runtime.Runtime as Runtime
 use Rattle.csdn_run.specs.contracts.runtime.Runtime.TheInside as RuntimeInside
-use Rattle.shared_hall.proofs.bells.Bells.TheSendSync as BellsCross
 use Rattle.shared_hall.specs.contracts.view.View as View
 use Rattle.shared_hall.specs.contracts.hall.HallSeat as HallSeat
 use Rattle.shared_hall.specs.contracts.hall.HallSeat.TheInside as HallSeatInside
@@ -103,6 +102,6 @@ seat_send = view_send _ _ _ _ _ (declared_send HallSeatInside.the_type (
 ))
 
 pub hall_sync : IsSync Hall.the_row
-hall_sync = view_sync _ _ _ _ _ (declared_sync HallInside.the_type (search (TableCrosses.the_sync, slot_send, GlobalCrosses.the_sync, sendable, crosses) depth 40, (BellsCross.the_sync, tt)))
+hall_sync = view_sync _ _ _ _ _ (declared_sync HallInside.the_type (search (TableCrosses.the_sync, slot_send, GlobalCrosses.the_sync, sendable, crosses) depth 40, (search (sendable, crosses) depth 40, tt)))
 
 pub ruleset crossing = (seat_send, hall_sync, runtime_send, program_send, NetworkCrosses.the_send, sendable, crosses)

@@ -27,10 +27,7 @@ impl Hall {
         requires all { keeper.me.0.parts ≡ self.seats }
         ensures { EndsWith self.opening self.seats keeper.me.0 result }
     {
-        let Hall {
-            table,
-            bells: _bells,
-        } = self;
+        let Hall { table, door: _door } = self;
         let mut closed = table.close_with(keeper);
         let Some(runtime) = closed.take(0) else {
             unreachable!()

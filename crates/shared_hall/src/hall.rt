@@ -1,12 +1,11 @@
 //! Seats take turns at one runtime.
-ghost use Rattle.std.specs.Prelude.{◌≡◌, ◌+◌, ◌^◌, ◌<◌, ◌≤◌, ◌↔◌, [], false, IfOk, IfErr, MatchBool, Err as ErrIs};
+ghost use Rattle.std.specs.Prelude.{◌≡◌, ◌+◌, ◌^◌, ◌<◌, ◌≤◌, ◌↔◌, [], false, IfOk, IfErr, Err as ErrIs};
 ghost use Rattle.csdn_run.specs.Standings.{is_declared};
 ghost use Rattle.shared_hall.specs.Views.{seat_of, passed_with};
 ghost use Rattle.shared_hall.specs.Plays.{Starts};
 ghost use Rattle.shared_hall.specs.Turns.{CanDraw, CanPass, IsWaiting, Took};
 ghost use Rattle.shared_hall.specs.Halls.{CanServe, Enters, IsTurnedAway};
 
-use crate::bells::Bells;
 use crate::rule::{Draw, Look, Pass, Turns};
 use crate::view::{Setting, View};
 use atomic_table::{Seat, Table};
@@ -14,17 +13,15 @@ use csdn_history::entry::Entry;
 use csdn_history::reply::Reply;
 use csdn_run::{RunRefusal, Runtime};
 use std::alloc::Global;
-use std::hint;
 use std::marker::Model;
-use std::sync::Wait;
-
-// How often a seat looks before it sleeps, if it is the next.
-const LOOKS: u32 = 1000;
+use std::sync::{Mutex, Wait};
+use std::thread;
 
 /// Seats that take turns at one runtime. Clauses see it as its name, the runtime at the opening, and its number of seats.
 pub struct Hall {
     pub(crate) table: Table<Option<Runtime>, View, Setting, Turns, Global>,
-    pub(crate) bells: Bells,
+    // Where seats wait. Who is in draws a ticket, which is served at once; no clause speaks of it.
+    pub(crate) door: Mutex<()>,
 }
 
 impl Model for Hall {
@@ -85,28 +82,7 @@ impl HallSeat {
 }
 
 impl Hall {
-    // Looks whether the ticket is served, again and again while it is the next, but not for ever. If it is served, it is the
-    // seat's turn.
-    fn look(&self, seat: &mut Seat<Option<Runtime>, View>, ticket: u64) -> bool
-        requires table { seat.old.table_id ≡ self.now.id }
-        requires waiting { IsWaiting seat.old.me ticket }
-        ensures same { (seat.new.table_id ≡ seat.old.table_id) × (seat.new.id ≡ seat.old.id) }
-        ensures turn { MatchBool result (Starts seat.old.me ticket seat.new.me) (seat.new.me ≡ seat.old.me) }
-    {
-        for _ in 0..LOOKS {
-            let served = self.table.shared.load::<Look>(seat, 1);
-            if served == ticket {
-                return true;
-            }
-            if served.wrapping_add(1) != ticket {
-                return false;
-            }
-            hint::spin_loop();
-        }
-        false
-    }
-
-    // Waits until the ticket is served.
+    // Waits until the ticket is served: not at all, where none but who is in by the door draws one.
     fn wait<R: Wait>(&self, rt: &R, seat: &mut Seat<Option<Runtime>, View>, ticket: u64)
         requires table { seat.old.table_id ≡ self.now.id }
         requires waiting { IsWaiting seat.old.me ticket }
@@ -114,23 +90,12 @@ impl Hall {
         ensures turn { Starts seat.old.me ticket seat.new.me }
     {
         for _ in rt.forever() {
-            if self.look(seat, ticket) {
+            if self.table.shared.load::<Look>(seat, 1) == ticket {
                 return;
             }
-            self.bells.sleep(rt, ticket);
+            thread::yield_now();
         }
         unreachable!()
-    }
-
-    // Wakes the seat whose turn it is, and the next, which then looks until its turn comes.
-    fn call(&self, served: u64) {
-        let waiting = self.table.shared.peek(0).wrapping_sub(served);
-        if waiting > 0 {
-            self.bells.ring(served);
-        }
-        if waiting > 1 {
-            self.bells.ring(served.wrapping_add(1));
-        }
     }
 
     // Draws a ticket, waits for its turn, and takes the runtime out.
@@ -157,8 +122,7 @@ impl Hall {
     {
         let taken = self.table.shared.exchange(seat, 0, Some(runtime));
         let None = taken else { unreachable!() };
-        let served = self.table.shared.fetch_add::<Pass>(seat, 1, 1);
-        self.call(served.wrapping_add(1));
+        self.table.shared.fetch_add::<Pass>(seat, 1, 1);
     }
 
     /// Waits for the seat's turn, and answers as `Runtime::apply` does at this place of the hall's one history. After a refusal
@@ -179,10 +143,12 @@ impl Hall {
         ensures stands { CanServe self.now.opening.program self.now.opening.network }
         ensures stranger { (result ≡ ErrIs RunRefusal.Stranger) ↔ (is_declared self.now.opening.program self.now.opening.network entry.now ≡ false) }
     {
+        let door = self.door.lock(rt);
         let mut runtime = self.take(rt, &mut seat.seat);
         runtime.stands();
         let answer = runtime.apply(entry);
         self.give(&mut seat.seat, runtime);
+        drop(door);
         seat.acts += 1;
         answer
     }

@@ -5,7 +5,6 @@
 //! is answered.
 #![tactic(auto)]
 
-mod bells;
 mod closing;
 mod hall;
 mod laws;

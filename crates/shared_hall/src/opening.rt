@@ -3,7 +3,6 @@ ghost use Rattle.std.specs.Prelude.{◌≡◌, ◌<◌, ◌≤◌, [], ◌∷◌
 ghost use Rattle.shared_hall.specs.Turns.{IsDealing, IsFresh};
 ghost use Rattle.shared_hall.specs.Halls.{fresh, fresh_seats};
 
-use crate::bells::Bells;
 use crate::hall::{Hall, HallSeat};
 use crate::rule::NextSeat;
 use crate::view::{Setting, View};
@@ -11,6 +10,7 @@ use atomic_table::{Seat, Table};
 use csdn_run::Runtime;
 use std::alloc::Global;
 use std::snapshot::Snapshot;
+use std::sync::Mutex;
 
 // The runtime, from the slot that was refused.
 fn back(slots: Vec<Option<Runtime>>, runtime: &Snapshot<Runtime>) -> Runtime
@@ -39,14 +39,14 @@ fn open(
     let Ok(mut slots) = Vec::with_capacity(alloc, 1) else {
         return Err(runtime);
     };
-    let Ok(bells) = Bells::try_new(alloc, seats) else {
-        return Err(runtime);
-    };
     let opening = Snapshot::of(&runtime);
     slots.push_reserved(Some(runtime));
     let setting = Setting { opening, seats };
     match Table::new(alloc, &[0, 0], slots, &setting) {
-        Ok((table, seat)) => Ok((Hall { table, bells }, seat)),
+        Ok((table, seat)) => {
+            let door = Mutex::new(());
+            Ok((Hall { table, door }, seat))
+        }
         Err(refused) => Err(back(refused.slots, &setting.opening)),
     }
 }

@@ -10,4 +10,4 @@ mod progress;
 mod trace;
 
 pub use laws::{traces_are_runs, traces_have_one_text};
-pub use trace::{Ending, Trace, list};
+pub use trace::{Ending, Trace, list_trace};

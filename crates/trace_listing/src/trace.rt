@@ -54,7 +54,7 @@ pub struct Trace {
 /// Lets the notes of a journal happen, from the state of the case, or from the initial one where it has none. For each
 /// there is a line, and at the end the case of the last state; a note that is refused ends it (docs/COMMANDS.md,
 /// "trace").
-pub fn list(
+pub fn list_trace(
     alloc: Global,
     program: &Program,
     case: Case,

@@ -2,7 +2,7 @@
 use Rattle.std.specs.Prelude.{◌≡◌, ℕ, List, Option, Some, None}
 use Rattle.csdn_core.specs.declared.program.Parts.{Parts}
 use Rattle.net_structs.specs.declared.case.Case.{Case}
-use Rattle.vericon_decide.specs.declared.answer.Why.{Why}
+use Rattle.vericon_decide.specs.declared.answer.UnknownWhy.{UnknownWhy}
 use Rattle.vericon_decide.specs.declared.verdict.Proof.{Proof}
 use Rattle.vericon_decide.specs.Levels.{IsUnmet}
 use Rattle.vericon_decide.specs.Answers.{IsYes, IsCounter, IsUnknown}
@@ -29,7 +29,7 @@ pub data YesOutput (log : Option (List ℕ)) (P : Parts) (level : ℕ) (answers 
 -- The text and status for a program that is not proven, by the size. The cases exclude one another.
 pub data IsNotProven (size most : ℕ) (P : Parts) (text : List ℕ) (status : ℕ) : Type 0 where
   is_broken : (level index : ℕ) (case : Case) → IsCounter P size most level index case → IsCounterexampleText P level index case text → status ≡ 1 → IsNotProven size most P text status
-  is_not_decided : (level index : ℕ) (why : Why) → IsUnknown P size most level index why → IsUnprovenLine P level index why text → status ≡ 2 → IsNotProven size most P text status
+  is_not_decided : (level index : ℕ) (why : UnknownWhy) → IsUnknown P size most level index why → IsUnprovenLine P level index why text → status ≡ 2 → IsNotProven size most P text status
   has_no_network : (proof : Proof) → IsUnmet P size proof → text ≡ no_network_text → status ≡ 4 → IsNotProven size most P text status
 
 -- what is found of a program: proofs of a yes; or what is said where it is not proven

@@ -18,7 +18,7 @@ use file_loads::read::Load;
 use file_loads::write::write_before;
 use net_structs::case::Case;
 use std::alloc::{AllocError, Global};
-use vericon_decide::answer::{Answer, Why, decide};
+use vericon_decide::answer::{Answer, UnknownWhy, decide};
 use vericon_decide::verdict::Proof;
 use vericon_edge::files::Files;
 
@@ -62,7 +62,7 @@ fn say_undecided(
     most: u8,
     level: u8,
     index: u32,
-    why: Why,
+    why: UnknownWhy,
 ) -> Result<Outcome, AllocError>
     requires within { most ≤ 9 }
     requires unknown { IsUnknown program.now size most level index why }

@@ -6,7 +6,7 @@ ghost use Rattle.file_loads.specs.Views.{OnlyReads, change_of};
 ghost use Rattle.file_loads.specs.Explained.{IsExplained};
 ghost use Rattle.vericon_app.specs.Clauses.{BlocksOutput, ClausesOutput};
 
-use clause_listing::{Listing, list};
+use clause_listing::{Listing, list_clauses};
 use file_loads::lines::refused_line;
 use file_loads::outcome::{Outcome, Status};
 use file_loads::read::{FileKind, Load, read_file};
@@ -34,7 +34,7 @@ fn listed(listing: Listing) -> Outcome
 fn list_blocks(alloc: Global, name: &str, bytes: &[u8]) -> Result<Outcome, AllocError>
     ensures { IfOk result (λ outcome. BlocksOutput name.now bytes.now outcome.text.items (code_of outcome.status)) }
 {
-    match list(alloc, bytes) {
+    match list_clauses(alloc, bytes) {
         Ok(listing) => Ok(listed(listing)),
         Err(LogRefusal::Line { number }) => refused_line(alloc, name, number),
         Err(LogRefusal::Memory) => Err(AllocError),

@@ -7,7 +7,7 @@ ghost use Rattle.file_loads.specs.Views.{OnlyReads, change_of};
 ghost use Rattle.file_loads.specs.Explained.{IsExplained};
 ghost use Rattle.vericon_app.specs.Conditions.{ClassesOutput, ConditionsOutput};
 
-use condition_listing::list;
+use condition_listing::list_conditions;
 use csdn_core::program::Program;
 use file_loads::load::load_program;
 use file_loads::outcome::{Outcome, Status};
@@ -26,7 +26,7 @@ fn class_lines(
     requires level { level ≤ 9 }
     ensures { IfOk result (λ outcome. ClassesOutput size level program.now outcome.text.items (code_of outcome.status)) }
 {
-    let text = list(alloc, program, size, level)?;
+    let text = list_conditions(alloc, program, size, level)?;
     Ok(Outcome {
         text,
         status: Status::Done,

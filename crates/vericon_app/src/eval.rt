@@ -16,7 +16,7 @@ use file_loads::lines::usage;
 use file_loads::load::{load_case, load_program};
 use file_loads::outcome::{Outcome, Status};
 use file_loads::read::Load;
-use net_listing::list;
+use net_listing::list_invariants;
 use net_structs::case::Case;
 use net_structs::state::State;
 use std::alloc::{AllocError, Global};
@@ -26,7 +26,7 @@ use vericon_edge::files::Files;
 fn truths(alloc: Global, program: &Program, case: &Case) -> Result<Outcome, AllocError>
     ensures { IfOk result (λ outcome. TruthOutput program.now case.now outcome.text.items (code_of outcome.status)) }
 {
-    let text = list(alloc, program, case)?;
+    let text = list_invariants(alloc, program, case)?;
     Ok(Outcome {
         text,
         status: Status::Done,
@@ -56,7 +56,7 @@ fn condition_lines(
     requires index { index < length (kinds program.now level) }
     ensures { IfOk result (λ outcome. IsTold program.now level index case.now state.now outcome.text.items (code_of outcome.status)) }
 {
-    let mut text = list(alloc, program, case)?;
+    let mut text = list_invariants(alloc, program, case)?;
     let told = judge(alloc, program, &case.network, state, level, index)?;
     text.extend_from_slice(&told.text)?;
     Ok(Outcome {

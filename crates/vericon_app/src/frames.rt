@@ -8,7 +8,7 @@ ghost use Rattle.vericon_app.specs.Frames.{ListingOutput, FramesOutput};
 
 use file_loads::outcome::{Outcome, Status};
 use file_loads::read::{FileKind, Load, read_file};
-use of10_listing::list;
+use of10_listing::list_frames;
 use std::alloc::{AllocError, Global};
 use vericon_edge::files::Files;
 
@@ -16,7 +16,7 @@ use vericon_edge::files::Files;
 fn list_bytes(alloc: Global, bytes: &[u8]) -> Result<Outcome, AllocError>
     ensures { IfOk result (λ outcome. ListingOutput bytes.now outcome.text.items (code_of outcome.status)) }
 {
-    let listing = list(alloc, bytes)?;
+    let listing = list_frames(alloc, bytes)?;
     let status = if listing.is_whole {
         Status::Done
     } else {

@@ -21,7 +21,7 @@ use file_loads::read::{FileKind, Load, read_file};
 use journal_text::Note;
 use net_facts::texts_give_cases;
 use net_structs::network::Network;
-use replay_listing::{Ending, Refused, first_refused, list, list_refused};
+use replay_listing::{Ending, Refused, first_refused, list_refused, list_replay};
 use std::alloc::{AllocError, Global};
 use vericon_edge::files::Files;
 
@@ -48,7 +48,7 @@ fn replay_bytes(
     requires entered { first_refused_in program network 1 0 notes.now ≡ None }
     ensures { IfOk result (λ outcome. StreamOutput program network notes.now session bytes.now outcome.text.items (code_of outcome.status)) }
 {
-    let replay = list(alloc, program, network, notes, session, bytes)?;
+    let replay = list_replay(alloc, program, network, notes, session, bytes)?;
     Ok(Outcome {
         text: replay.text,
         status: status_of(replay.ending),

@@ -15,7 +15,7 @@ use file_loads::read::Load;
 use journal_text::Note;
 use net_structs::case::Case;
 use std::alloc::{AllocError, Global};
-use trace_listing::{Ending, list};
+use trace_listing::{Ending, list_trace};
 use vericon_edge::files::Files;
 
 fn status_of(ending: Ending) -> Status
@@ -37,7 +37,7 @@ fn trace_notes(
 ) -> Result<Outcome, AllocError>
     ensures { IfOk result (λ outcome. NotesOutput program.now case notes.now outcome.text.items (code_of outcome.status)) }
 {
-    let trace = list(alloc, program, case, notes)?;
+    let trace = list_trace(alloc, program, case, notes)?;
     Ok(Outcome {
         text: trace.text,
         status: status_of(trace.ending),

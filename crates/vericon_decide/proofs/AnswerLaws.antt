@@ -14,7 +14,7 @@ use Rattle.csdn_conditions.specs.Conditions.{conditions, condition}
 use Rattle.csdn_conditions.proofs.Cases.{case_valid, case_network}
 use Rattle.csdn_conditions.proofs.Inductive.{sound}
 use Rattle.vericon_decide.specs.declared.verdict.Proof.{Proof}
-use Rattle.vericon_decide.specs.declared.answer.Why.{Why}
+use Rattle.vericon_decide.specs.declared.answer.UnknownWhy.{UnknownWhy}
 use Rattle.vericon_decide.specs.declared.findings.Finding.TheVariants.{Valid}
 use Rattle.vericon_decide.specs.Verdicts.{IsInside, IsBrokenBy}
 use Rattle.vericon_decide.specs.Levels.{IsWhy, IsFinding, IsCaseFound, IsMet, IsUnmet, IsFirst, IsProvenBy, FailsAt, FailsBelow, NoneIsBroken, NoneIsBrokenTo}
@@ -37,7 +37,7 @@ network_met P size case well found =
     let told = subst (λ z. IsBrokenBy P size z case) (sym (first_is P 0 found.condition found.there)) found.holds in
     record { inside = told.inside; network = (case_network P well 0).0 (case_has P (condition P 0 NetworkKind) case told.case_of) }
 
-pub network_undecided : (P : Parts) (size most : ℕ) (why : Why) → OfCondition P 0 0 (λ c. IsWhy P size c why) → IsUndecided P size most 0 why
+pub network_undecided : (P : Parts) (size most : ℕ) (why : UnknownWhy) → OfCondition P 0 0 (λ c. IsWhy P size c why) → IsUndecided P size most 0 why
 network_undecided P size most why found =
     let is = subst (λ z. IsWhy P size z why) (sym (first_is P 0 found.condition found.there)) found.holds in
     let outside = inside_not P size (condition P 0 NetworkKind) why is in
@@ -74,7 +74,7 @@ counter_by P size most i case met before is =
       first = λ j c there some below inside has. (is.before j c there some below).no_case has;
     }
 
-pub undecided_by : (P : Parts) (size most i : ℕ) (why : Why) → IsMet P size → FailsBelow P size most → IsFirst P size most i (λ c. IsWhy P size c why) → IsUndecided P size most i why
+pub undecided_by : (P : Parts) (size most i : ℕ) (why : UnknownWhy) → IsMet P size → FailsBelow P size most → IsFirst P size most i (λ c. IsWhy P size c why) → IsUndecided P size most i why
 undecided_by P size most i why met before is =
     record {
       open_so = open_by P size most met before (fails_undecided P size most i why is);
@@ -89,7 +89,7 @@ undecided_by P size most i why met before is =
 
 -- the walk over the rest
 
-pub rest_begins : (P : Parts) (size most i : ℕ) (why : Why) → IsUndecided P size most i why → NoneIsBrokenTo P size most (suc i)
+pub rest_begins : (P : Parts) (size most i : ℕ) (why : UnknownWhy) → IsUndecided P size most i why → NoneIsBrokenTo P size most (suc i)
 rest_begins P size most i why is =
     let found = is.undecided in
     facts_more P most i (λ c. IsInside P size c → HasCase P c → ⊥) (record { condition = found.condition; there = found.there; holds = λ inside has. inside_not P size found.condition why found.holds inside }) is.unbroken
@@ -97,10 +97,10 @@ rest_begins P size most i why is =
 pub rest_goes_on : (P : Parts) (size most k : ℕ) → NoneIsBrokenTo P size most k → OfCondition P most k (λ c. IsCaseFound P size c None) → NoneIsBrokenTo P size most (suc k)
 rest_goes_on P size most k before found = facts_more P most k (λ c. IsInside P size c → HasCase P c → ⊥) found before
 
-pub rest_breaks : (P : Parts) (size most i k : ℕ) (why : Why) (case : Case) → IsUndecided P size most i why → i < k → NoneIsBrokenTo P size most k → OfCondition P most k (λ c. IsBrokenBy P size c case) → IsCounter P size most most k case
+pub rest_breaks : (P : Parts) (size most i k : ℕ) (why : UnknownWhy) (case : Case) → IsUndecided P size most i why → i < k → NoneIsBrokenTo P size most k → OfCondition P most k (λ c. IsBrokenBy P size c case) → IsCounter P size most most k case
 rest_breaks P size most i k why case is later before found = record { last = refl; open_so = is.open_so; some = omega (arith, later); broken = found; first = before }
 
-pub rest_ends : (P : Parts) (size most i k : ℕ) (why : Why) → IsUndecided P size most i why → length (kinds P most) ≤ k → NoneIsBrokenTo P size most k → IsUnknown P size most most i why
+pub rest_ends : (P : Parts) (size most i k : ℕ) (why : UnknownWhy) → IsUndecided P size most i why → length (kinds P most) ≤ k → NoneIsBrokenTo P size most k → IsUnknown P size most most i why
 rest_ends P size most i k why is past before = record { last = refl; open_so = is.open_so; unbroken = unbroken; undecided = is.undecided; first = is.first }
   where
     unbroken : NoneIsBroken P size most

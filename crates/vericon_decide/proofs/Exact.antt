@@ -13,8 +13,8 @@ use Rattle.csdn_conditions.specs.Conditions.{condition, conditions}
 use Rattle.csdn_conditions.proofs.Cases.{case_valid}
 use Rattle.csdn_conditions.proofs.Complete.{complete}
 use Rattle.vericon_decide.specs.declared.verdict.Proof.{Proof}
-use Rattle.vericon_decide.specs.declared.answer.Why.{Why}
-use Rattle.vericon_decide.specs.declared.answer.Why.TheVariants.{Nodes, Outside, Instances}
+use Rattle.vericon_decide.specs.declared.answer.UnknownWhy.{UnknownWhy}
+use Rattle.vericon_decide.specs.declared.answer.UnknownWhy.TheVariants.{Nodes, Outside, Instances}
 use Rattle.vericon_decide.specs.declared.answer.Answer.{Answer}
 use Rattle.vericon_decide.specs.declared.answer.Answer.TheVariants.{Yes, Counter, Unknown, NoNetwork}
 use Rattle.vericon_decide.specs.Verdicts.{IsInside}
@@ -72,7 +72,7 @@ met_not_unmet P size most n ps proof met unmet = let network = met.met.network i
 counter_last : (P : Parts) (size most n i : ℕ) (case : Case) → IsCounter P size most n i case → IsCounter P size most most i case
 counter_last P size most n i case is = subst (λ z. IsCounter P size most z i case) is.last is
 
-unknown_last : (P : Parts) (size most n i : ℕ) (why : Why) → IsUnknown P size most n i why → IsUnknown P size most most i why
+unknown_last : (P : Parts) (size most n i : ℕ) (why : UnknownWhy) → IsUnknown P size most n i why → IsUnknown P size most most i why
 unknown_last P size most n i why is = subst (λ z. IsUnknown P size most z i why) is.last is
 
 counter_breaks : (P : Parts) (size most i : ℕ) (case : Case) → IsCounter P size most most i case → IsBreakable P size most
@@ -80,7 +80,7 @@ counter_breaks P size most i case is =
     let found = is.broken in
     record { index = i; some = is.some; broken = record { condition = found.condition; there = found.there; holds = (found.holds.inside, case_has P found.condition case found.holds.case_of) } }
 
-unknown_unbroken : (P : Parts) (size most i : ℕ) (why : Why) → IsUnknown P size most most i why → IsBreakable P size most → ⊥
+unknown_unbroken : (P : Parts) (size most i : ℕ) (why : UnknownWhy) → IsUnknown P size most most i why → IsBreakable P size most → ⊥
 unknown_unbroken P size most i why is can =
     let found = can.broken in
     is.unbroken can.index found.condition found.there can.some found.holds.0 found.holds.1
@@ -95,7 +95,7 @@ counter_below P size most i j c d is also below =
     let found = is.broken in
     also.first i found.condition found.there is.some below found.holds.inside (case_has P found.condition c found.holds.case_of)
 
-unknown_below : (P : Parts) (size most i j : ℕ) (why whz : Why) → IsUnknown P size most most i why → IsUnknown P size most most j whz → i < j → ⊥
+unknown_below : (P : Parts) (size most i j : ℕ) (why whz : UnknownWhy) → IsUnknown P size most most i why → IsUnknown P size most most j whz → i < j → ⊥
 unknown_below P size most i j why whz is also below =
     let found = is.undecided in
     inside_not P size found.condition why found.holds (also.first i found.condition found.there below)
@@ -106,7 +106,7 @@ same_number n m less more = elim (cases_lt n m) [
   | inr not_below ↦ elim (cases_lt m n) [ inl above ↦ absurd (more above) | inr not_above ↦ omega (arith, not_below, not_above) ]
 ]
 
-same_why : (P : Parts) (size : ℕ) (c : Condition) (why whz : Why) → IsWhy P size c why → IsWhy P size c whz → why ≡ whz
+same_why : (P : Parts) (size : ℕ) (c : Condition) (why whz : UnknownWhy) → IsWhy P size c why → IsWhy P size c whz → why ≡ whz
 same_why P size c Nodes Nodes is also = refl
 same_why P size c Nodes Outside (inl large) also = absurd (omega (arith, also.0.0, large))
 same_why P size c Nodes Outside (inr large) also = absurd (omega (arith, also.0.1, large))
@@ -121,13 +121,13 @@ same_why P size c (Instances n) Nodes is (inr large) = absurd (omega (arith, is.
 same_why P size c (Instances n) Outside is also = absurd (true≢false (sym is.1 ∙ also.1))
 same_why P size c (Instances n) (Instances m) is also = ap Instances (is.3 ∙ sym also.3)
 
-same_undecided : (P : Parts) (size n i j : ℕ) (why whz : Why) → i ≡ j → OfCondition P n i (λ c. IsWhy P size c why) → OfCondition P n j (λ c. IsWhy P size c whz) → why ≡ whz
+same_undecided : (P : Parts) (size n i j : ℕ) (why whz : UnknownWhy) → i ≡ j → OfCondition P n i (λ c. IsWhy P size c why) → OfCondition P n j (λ c. IsWhy P size c whz) → why ≡ whz
 same_undecided P size n i j why whz same found also =
     let there = ap (λ z. slice_get (conditions P n) z) same ∙ also.there in
     let one : found.condition ≡ also.condition = same_Some found.condition also.condition (sym found.there ∙ there) in
     same_why P size also.condition why whz (subst (λ z. IsWhy P size z why) one found.holds) also.holds
 
-unknowns_one : (P : Parts) (size most i j : ℕ) (why whz : Why) → IsUnknown P size most most i why → IsUnknown P size most most j whz → (i ≡ j) × (why ≡ whz)
+unknowns_one : (P : Parts) (size most i j : ℕ) (why whz : UnknownWhy) → IsUnknown P size most most i why → IsUnknown P size most most j whz → (i ≡ j) × (why ≡ whz)
 unknowns_one P size most i j why whz is also =
     let same = same_number i j (unknown_below P size most i j why whz is also) (unknown_below P size most j i whz why also is) in
     (same, same_undecided P size most i j why whz same is.undecided also.undecided)

@@ -16,8 +16,8 @@ use Rattle.csdn_conditions.proofs.Shared.{same_start}
 use Rattle.vericon_decide.specs.declared.verdict.Proof.{Proof}
 use Rattle.vericon_decide.specs.declared.verdict.Verdict.{Verdict}
 use Rattle.vericon_decide.specs.declared.verdict.Verdict.TheVariants.{Valid as ValidVerdict, Broken as BrokenVerdict, Nodes as NodesVerdict, Outside as OutsideVerdict, Instances as InstancesVerdict}
-use Rattle.vericon_decide.specs.declared.answer.Why.{Why}
-use Rattle.vericon_decide.specs.declared.answer.Why.TheVariants.{Nodes, Outside, Instances}
+use Rattle.vericon_decide.specs.declared.answer.UnknownWhy.{UnknownWhy}
+use Rattle.vericon_decide.specs.declared.answer.UnknownWhy.TheVariants.{Nodes, Outside, Instances}
 use Rattle.vericon_decide.specs.declared.findings.Finding.TheVariants.{Valid, Undecided}
 use Rattle.vericon_decide.specs.declared.levels.LevelEnd.{LevelEnd}
 use Rattle.vericon_decide.specs.declared.levels.LevelEnd.TheVariants.{Proven, Broken, Undecided as UndecidedAt}
@@ -26,7 +26,7 @@ use Rattle.vericon_decide.specs.Levels.{IsWhy, IsFinding, IsCaseFound, IsFirst, 
 use Rattle.vericon_decide.proofs.VerdictLaws.{case_has}
 
 -- what can't be decided isn't inside
-pub inside_not : (P : Parts) (size : ℕ) (c : Condition) (why : Why) → IsWhy P size c why → IsInside P size c → ⊥
+pub inside_not : (P : Parts) (size : ℕ) (c : Condition) (why : UnknownWhy) → IsWhy P size c why → IsInside P size c → ⊥
 inside_not P size c Nodes (inl large) inside = omega (arith, inside.0.0, large)
 inside_not P size c Nodes (inr large) inside = omega (arith, inside.0.1, large)
 inside_not P size c Outside is inside = true≢false (sym inside.1 ∙ is.1)
@@ -54,7 +54,7 @@ none_valid P size n i proof found = record { condition = found.condition; there 
 pub case_broken : (P : Parts) (size n i : ℕ) (case : Case) → OfCondition P n i (λ c. IsBrokenBy P size c case) → OfCondition P n i (λ c. IsCaseFound P size c (Some case))
 case_broken P size n i case found = record { condition = found.condition; there = found.there; holds = found.holds }
 
-pub none_undecided : (P : Parts) (size n i : ℕ) (why : Why) → OfCondition P n i (λ c. IsWhy P size c why) → OfCondition P n i (λ c. IsCaseFound P size c None)
+pub none_undecided : (P : Parts) (size n i : ℕ) (why : UnknownWhy) → OfCondition P n i (λ c. IsWhy P size c why) → OfCondition P n i (λ c. IsCaseFound P size c None)
 none_undecided P size n i why found = record { condition = found.condition; there = found.there; holds = λ inside has. inside_not P size found.condition why found.holds inside }
 
 proofs_more : (P : Parts) (k : ℕ) (cs : List Condition) (ps : List Proof) (c : Condition) (p : Proof) → slice_get cs k ≡ Some c → IsProofOf P (sentence c) p → AreProofsOf P (take k cs) ps → AreProofsOf P (take (suc k) cs) (ps ++ p ∷ [])
@@ -118,7 +118,7 @@ fails_broken P size n i case is =
     let found = is.fact in
     record { index = i; some = is.some; failed = record { condition = found.condition; there = found.there; holds = inr (case_has P found.condition case found.holds.case_of) } }
 
-pub fails_undecided : (P : Parts) (size n i : ℕ) (why : Why) → IsFirst P size n i (λ c. IsWhy P size c why) → FailsAt P size n
+pub fails_undecided : (P : Parts) (size n i : ℕ) (why : UnknownWhy) → IsFirst P size n i (λ c. IsWhy P size c why) → FailsAt P size n
 fails_undecided P size n i why is =
     let found = is.fact in
     record { index = i; some = is.some; failed = record { condition = found.condition; there = found.there; holds = inl (inside_not P size found.condition why found.holds) } }
@@ -210,7 +210,7 @@ module _ (P : Parts) (size most n first i : ℕ) (ps : List Proof) (le : n ≤ m
         stays P size n most i (λ c. IsBrokenBy P size c case) is.below le here,
       )
 
-  pub undecided_on : (why : Why) → StopsAt P size n first (shared P (n + 1)) i ps (λ c. IsWhy P size c why)
+  pub undecided_on : (why : UnknownWhy) → StopsAt P size n first (shared P (n + 1)) i ps (λ c. IsWhy P size c why)
       → FailsBelow P size most × IsFirst P size most i (λ c. IsWhy P size c why)
   undecided_on why is =
       let here = first_of P size n first (shared P (n + 1)) i ps (λ c. IsWhy P size c why) is in (

@@ -9,7 +9,7 @@ use Rattle.csdn_conditions.specs.Answers.{OfCondition}
 use Rattle.csdn_conditions.specs.Conditions.{conditions}
 use Rattle.csdn_conditions.specs.Valid.{HasCase}
 use Rattle.vericon_decide.specs.declared.verdict.Proof.{Proof}
-use Rattle.vericon_decide.specs.declared.answer.Why.{Why}
+use Rattle.vericon_decide.specs.declared.answer.UnknownWhy.{UnknownWhy}
 use Rattle.vericon_decide.specs.declared.answer.Answer.{Answer}
 use Rattle.vericon_decide.specs.declared.answer.Answer.TheVariants.{Yes, Counter, Unknown, NoNetwork}
 use Rattle.vericon_decide.specs.Verdicts.{IsInside, IsBrokenBy}
@@ -41,7 +41,7 @@ module _ (P : Parts) (size most : ℕ) where
 
   -- at level `most` no condition but the network condition is inside and has a case; that of this number is the first that is
   -- not inside, for this reason
-  pub record IsUnknown (level index : ℕ) (why : Why) : Type 0 where
+  pub record IsUnknown (level index : ℕ) (why : UnknownWhy) : Type 0 where
     pub last : level ≡ most
     pub open_so : IsOpen
     pub unbroken : NoneIsBroken P size level
@@ -49,7 +49,7 @@ module _ (P : Parts) (size most : ℕ) where
     pub first : AreInsideTo P size level index
 
   -- the condition of this number of level `most` is the first that is not inside, for this reason, and none before it has a case
-  pub record IsUndecided (index : ℕ) (why : Why) : Type 0 where
+  pub record IsUndecided (index : ℕ) (why : UnknownWhy) : Type 0 where
     pub open_so : IsOpen
     pub undecided : OfCondition P most index (λ c. IsWhy P size c why)
     pub first : AreInsideTo P size most index

@@ -14,8 +14,8 @@ use Rattle.csdn_conditions.specs.Valid.{HasCase}
 use Rattle.vericon_decide.specs.declared.verdict.Proof.{Proof}
 use Rattle.vericon_decide.specs.declared.verdict.Verdict.{Verdict}
 use Rattle.vericon_decide.specs.declared.verdict.Verdict.TheVariants.{Valid as ValidVerdict, Broken as BrokenVerdict, Nodes as NodesVerdict, Outside as OutsideVerdict, Instances as InstancesVerdict}
-use Rattle.vericon_decide.specs.declared.answer.Why.{Why}
-use Rattle.vericon_decide.specs.declared.answer.Why.TheVariants.{Nodes, Outside, Instances}
+use Rattle.vericon_decide.specs.declared.answer.UnknownWhy.{UnknownWhy}
+use Rattle.vericon_decide.specs.declared.answer.UnknownWhy.TheVariants.{Nodes, Outside, Instances}
 use Rattle.vericon_decide.specs.declared.findings.Finding.{Finding}
 use Rattle.vericon_decide.specs.declared.findings.Finding.TheVariants.{Valid, Broken, Undecided}
 use Rattle.vericon_decide.specs.declared.levels.LevelEnd.{LevelEnd}
@@ -30,7 +30,7 @@ AreProofsOf P (c ∷ cs) [] = ⊥
 AreProofsOf P (c ∷ cs) (proof ∷ proofs) = IsProofOf P (sentence c) proof × AreProofsOf P cs proofs
 
 -- why a condition isn't inside
-abbrev pub IsWhy : Parts → ℕ → Condition → Why → Type 0
+abbrev pub IsWhy : Parts → ℕ → Condition → UnknownWhy → Type 0
 IsWhy P size c Nodes = IsClass P size (sentence c) NodesClass
 IsWhy P size c Outside = IsClass P size (sentence c) OutsideClass
 IsWhy P size c (Instances n) = IsClass P size (sentence c) (InstancesClass n)

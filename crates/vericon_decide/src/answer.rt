@@ -17,7 +17,7 @@ use std::alloc::{AllocError, Global};
 
 /// Why a condition can't be decided.
 #[derive(Clone, Copy, Debug, PartialEq, Eq)]
-pub enum Why {
+pub enum UnknownWhy {
     /// Its sentence, or the normal form of that, has more than 1,048,576 nodes.
     Nodes,
     /// In the normal form of its sentence an `exists` stands under a `forall`.
@@ -31,13 +31,26 @@ pub enum Why {
 pub enum Answer {
     /// It is inductive at this level and at none below, and some network meets its topology invariants. There is one proof for
     /// each condition of the level but the first, in their order.
-    Yes { level: u8, proofs: Vec<Proof> },
+    Yes {
+        level: u8,
+        proofs: Vec<Proof>,
+    },
     /// The condition of this number is the first of the last level that has a case, which is this one.
-    Counter { level: u8, index: u32, case: Case },
+    Counter {
+        level: u8,
+        index: u32,
+        case: Case,
+    },
     /// The condition of this number is the first of the last level that can't be decided, and no other that can has a case.
-    Unknown { level: u8, index: u32, why: Why },
+    Unknown {
+        level: u8,
+        index: u32,
+        why: UnknownWhy,
+    },
     /// No network meets its topology invariants.
-    NoNetwork { proof: Proof },
+    NoNetwork {
+        proof: Proof,
+    },
 }
 
 /// Decides a program: yes at the least level of at most `most` whose conditions are proven, or what is broken or can't
@@ -152,7 +165,7 @@ fn decide_rest(
     size: u64,
     most: u8,
     index: u32,
-    why: Why,
+    why: UnknownWhy,
 ) -> Result<Answer, AllocError>
     requires size { size ≤ greatest_size }
     requires most { most ≤ 9 }

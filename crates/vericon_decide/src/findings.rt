@@ -7,7 +7,7 @@ ghost use Rattle.csdn_conditions.specs.Classes.{greatest_size};
 ghost use Rattle.csdn_conditions.specs.Kinds.{kinds};
 ghost use Rattle.vericon_decide.specs.Levels.{IsFinding, IsCaseFound, found_by};
 
-use crate::answer::Why;
+use crate::answer::UnknownWhy;
 use crate::verdict::{Proof, Verdict, decide_condition};
 use csdn_conditions::condition::condition;
 use csdn_core::program::Program;
@@ -23,7 +23,7 @@ pub enum Finding {
     /// This is a case of it.
     Broken(Case),
     /// It can't be decided.
-    Undecided(Why),
+    Undecided(UnknownWhy),
 }
 
 /// Makes and decides the condition of this number, by a size.
@@ -43,7 +43,7 @@ pub fn finding_at(
     program.parts();
     match condition(alloc, program, level, index) {
         Ok(condition) => Ok(finding_of(decide_condition(alloc, program, size, condition)?)),
-        Err(FormRefusal::Large) => Ok(Finding::Undecided(Why::Nodes)),
+        Err(FormRefusal::Large) => Ok(Finding::Undecided(UnknownWhy::Nodes)),
         Err(FormRefusal::Memory) => Err(AllocError),
     }
 }
@@ -55,9 +55,9 @@ fn finding_of(verdict: Verdict) -> Finding
     match verdict {
         Verdict::Valid(proof) => Finding::Valid(proof),
         Verdict::Broken(case) => Finding::Broken(case),
-        Verdict::Nodes => Finding::Undecided(Why::Nodes),
-        Verdict::Outside => Finding::Undecided(Why::Outside),
-        Verdict::Instances(count) => Finding::Undecided(Why::Instances(count)),
+        Verdict::Nodes => Finding::Undecided(UnknownWhy::Nodes),
+        Verdict::Outside => Finding::Undecided(UnknownWhy::Outside),
+        Verdict::Instances(count) => Finding::Undecided(UnknownWhy::Instances(count)),
     }
 }
 

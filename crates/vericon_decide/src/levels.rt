@@ -6,7 +6,7 @@ ghost use Rattle.csdn_conditions.specs.Classes.{greatest_size};
 ghost use Rattle.csdn_conditions.specs.Kinds.{kinds};
 ghost use Rattle.vericon_decide.specs.Levels.{AreProvenByTo, IsLevelEnd, IsLevelProven, shared};
 
-use crate::answer::Why;
+use crate::answer::UnknownWhy;
 use crate::findings::{Finding, finding_at};
 use crate::verdict::Proof;
 use csdn_conditions::kinds::condition_count;
@@ -22,7 +22,7 @@ pub enum LevelEnd {
     /// The condition of this number is the first that is not, and this is a case of it.
     Broken { index: u32, case: Case },
     /// The condition of this number is the first that is not, since it can't be decided.
-    Undecided { index: u32, why: Why },
+    Undecided { index: u32, why: UnknownWhy },
 }
 
 impl LevelEnd {

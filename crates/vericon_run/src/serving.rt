@@ -10,7 +10,7 @@ ghost use Rattle.vericon_run.specs.Runs.{HasBegun, HasPrinted, HasRun, HasServed
 use crate::ran::Ran;
 use csdn_history::entry::Entry;
 use csdn_run::Runtime;
-use run_listing::list;
+use run_listing::list_run;
 use session_workers::{Halt, Row, Terms, Worked, serve_sessions};
 use std::alloc::Global;
 use std::sync::Wait;
@@ -57,7 +57,7 @@ fn print<S: Sink>(alloc: Global, out: &mut S, rows: &[Row], history: &[Entry], h
     ensures prints { Prints (run_text rows.now history.now (is_fault halt)) (status_number halt) (S.written out.old) (S.written out.new) (S.faults out.old) (S.faults out.new) result }
     ensures later { S.faults out.old ≤ S.faults out.new }
 {
-    match list(alloc, rows, history, has_fault(halt)) {
+    match list_run(alloc, rows, history, has_fault(halt)) {
         Ok(text) => say(out, &text, status_of(halt)),
         Err(_) => 7,
     }

@@ -1,7 +1,7 @@
 //! Whole outputs of `replay`, worked by hand from the documents of the commands and OpenFlow 1.0.
 use super::*;
 
-const N2: &[u8] = b"vericon-net 1\nsw 1\nho 1 2\npr 1 2\nend\n";
+pub(crate) const N2: &[u8] = b"vericon-net 1\nsw 1\nho 1 2\npr 1 2\nend\n";
 
 const WITH_STATE: &[u8] = b"vericon-net 1\nsw 1\nho 1 2\npr 1 2\nstate\nend\n";
 
@@ -9,14 +9,15 @@ const WITH_STATE: &[u8] = b"vericon-net 1\nsw 1\nho 1 2\npr 1 2\nstate\nend\n";
 const FAR: &[u8] = b"vericon-net 1\nsw 1\nho 1 281474976710656\npr 1 2\nend\n";
 
 /// A HELLO, the features of switch 1, and a packet of host 1 to host 2 on port 1.
-const STREAM: &[u8] =
+pub(crate) const STREAM: &[u8] =
     b"\x01\x00\x00\x08\x00\x00\x00\x00\x01\x06\x00\x20\x00\x00\x00\x02\x00\x00\x00\x00\x00\x00\x00\x01\x00\x00\x01\x00\x01\x00\x00\x00\x00\x00\x00\x00\x00\x00\x0f\xff\x01\x0a\x00\x20\x00\x00\x00\x00\x00\x00\x00\x05\x00\x0e\x00\x01\x00\x00\x00\x00\x00\x00\x00\x02\x00\x00\x00\x00\x00\x01\x08\x00";
 
 /// A HELLO, and the features of switch 1.
 const JOINED: &[u8] =
     b"\x01\x00\x00\x08\x00\x00\x00\x00\x01\x06\x00\x20\x00\x00\x00\x02\x00\x00\x00\x00\x00\x00\x00\x01\x00\x00\x01\x00\x01\x00\x00\x00\x00\x00\x00\x00\x00\x00\x0f\xff";
 
-const JOIN_AND_PACKET: &[u8] = b"vericon-journal 1\njoin 0 1 1\npacket 0 1 1 1 2 1\nend\n";
+pub(crate) const JOIN_AND_PACKET: &[u8] =
+    b"vericon-journal 1\njoin 0 1 1\npacket 0 1 1 1 2 1\nend\n";
 
 const REPLAYS: &[Call] = &[
     // a session, message by message

@@ -1,5 +1,5 @@
-use Rattle.csdn_read.proofs.Exact.{one_answer}
+use Rattle.csdn_read.proofs.Exact.{has_one_answer}
 use Rattle.csdn_read.proofs.laws.bytes_have_one_answer.Goals as goal
 
 pub returns : goal.returns
-returns c = one_answer
+returns c = has_one_answer

@@ -2,7 +2,7 @@ use Rattle.std.proofs.Common.{refl, ap, ◌∙◌, ◌≡◌, arith, true, ℕ, 
 use Rattle.std.specs.Prelude.{IfErr}
 use Rattle.of10_speech.specs.declared.stops.Broken.{Broken}
 use Rattle.of10_speech.specs.declared.stops.Broken.TheVariants.{Full}
-use Rattle.of10_speech.specs.declared.stops.Stop.{Stop}
+use Rattle.of10_speech.specs.declared.stops.SpeechStop.{SpeechStop}
 use Rattle.of10_speech.specs.Speeches.{told}
 use Rattle.of10_speech.proofs.Following.{hears_inside}
 use Rattle.link_sessions.specs.Pieces.{HearsPiece}
@@ -87,7 +87,7 @@ returns-clause-few g c =
 
 pub returns-in_err-heard-clause-hears : goal.returns-in_err-heard-clause-hears
 returns-in_err-heard-clause-hears g c =
-    err_is (λ (r : Result Stop Broken). HearsPiece (told g.P.Answers.declares g.P.Answers.given g.P.Answers.asked c.args.program.now) (told g.P.Answers.declares g.P.Answers.given g.P.Answers.asked c.hear_next.new.program) c.args.framer.now c.args.session.now c.args.piece.now c.hear_next.new.framer c.hear_next.new.session c.hear_next.new.out.items r) c.from_residual.result c.in_err-heard.field-0.0 c.from_residual.ensures.1
+    err_is (λ (r : Result SpeechStop Broken). HearsPiece (told g.P.Answers.declares g.P.Answers.given g.P.Answers.asked c.args.program.now) (told g.P.Answers.declares g.P.Answers.given g.P.Answers.asked c.hear_next.new.program) c.args.framer.now c.args.session.now c.args.piece.now c.hear_next.new.framer c.hear_next.new.session c.hear_next.new.out.items r) c.from_residual.result c.in_err-heard.field-0.0 c.from_residual.ensures.1
     (some_breaks (told g.P.Answers.declares g.P.Answers.given g.P.Answers.asked c.args.program.now) (told g.P.Answers.declares g.P.Answers.given g.P.Answers.asked c.loop-at.program) (told g.P.Answers.declares g.P.Answers.given g.P.Answers.asked c.hear_next.new.program) c.args.framer.now c.args.session.now c.args.piece.now c.loop-at.at c.loop-at.framer c.loop-at.session c.hear_next.new.framer c.hear_next.new.session c.loop-at.out.items c.hear_next.new.out.items c.in_err-heard.field-0.0 c.in_err-heard.ensures.further c.loop-at.invariant.heard (rw c.rest_from.ensures at c.in_err-heard.ensures.broken) c.in_err-heard.ensures.err.0 c.in_err-heard.ensures.err.1)
 
 pub returns-in_err-heard-clause-few : goal.returns-in_err-heard-clause-few
@@ -101,4 +101,4 @@ returns-in_err-heard-clause-further g c = still_further (told g.P.Answers.declar
 
 pub returns-in_err-heard-clause-full : goal.returns-in_err-heard-clause-full
 returns-in_err-heard-clause-full g c =
-    err_is (λ (r : Result Stop Broken). IfErr r (λ why. why ≡ Full → g.P.Answers.is_full c.hear_next.new.program ≡ true)) c.from_residual.result c.in_err-heard.field-0.0 c.from_residual.ensures.1 c.in_err-heard.ensures.full
+    err_is (λ (r : Result SpeechStop Broken). IfErr r (λ why. why ≡ Full → g.P.Answers.is_full c.hear_next.new.program ≡ true)) c.from_residual.result c.in_err-heard.field-0.0 c.from_residual.ensures.1 c.in_err-heard.ensures.full

@@ -1,6 +1,6 @@
 use Rattle.std.proofs.Common.{◌∙◌, ◌≤◌, ap}
 use Rattle.std.proofs.lemmas.List.Elements.{All-same}
-use Rattle.csdn_core.specs.declared.terms.Place.TheVariants.{Trans}
+use Rattle.csdn_core.specs.declared.terms.FormulaPlace.TheVariants.{Trans}
 use Rattle.csdn_core.specs.WellSorted.{signature}
 use Rattle.csdn_core.specs.Depth.{depth}
 use Rattle.net_structs.proofs.Depths.{all_shallow}

@@ -6,7 +6,7 @@ use Rattle.of10_session.specs.Sessions.{spelled}
 use Rattle.of10_speech.specs.Speeches.{told}
 use Rattle.of10_speech.specs.Hearings.{IsAnswer}
 use Rattle.of10_speech.proofs.Following.{follows_nothing, following_next, following_stops, following_closed, hears_inside}
-use Rattle.of10_speech.specs.declared.stops.Stop.TheVariants.{Goes}
+use Rattle.of10_speech.specs.declared.stops.SpeechStop.TheVariants.{Goes}
 use Rattle.of10_speech.proofs.speaking.speak.Goals as goal
 
 pub loop-at-init : goal.loop-at-init

@@ -4,8 +4,8 @@ use mathlib.Core.Option.{none}
 use Rattle.shared_hall.proofs.Calls.{passes_as}
 use Rattle.shared_hall.proofs.hall.Hall.give.Goals as goal
 
-pub fetch_add-served-requires : goal.fetch_add-served-requires
-fetch_add-served-requires c =
+pub fetch_add-requires : goal.fetch_add-requires
+fetch_add-requires c =
     let e = c.exchange-taken.ensures in (
       e.0 ∙ (c.requires.table ∙ sym (ap (λ h. h.id) c.self.view_is)),
       omega (arith, c.self.invariant.0),
