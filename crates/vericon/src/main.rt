@@ -11,11 +11,5 @@ fn main(rt: HostRuntime) -> ExitCode {
     let mut files = HostFiles::new(rt);
     let mut out = HostSink::new(rt.stdout());
     let listener = TcpListen::new(rt);
-    ExitCode::from(serve_process(
-        &rt,
-        rt.alloc(),
-        &mut files,
-        listener,
-        &mut out,
-    ))
+    ExitCode::from(serve_process(&rt, rt.alloc(), &mut files, listener, &mut out))
 }

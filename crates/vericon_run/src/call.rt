@@ -68,12 +68,16 @@ pub fn run_call<R: Threads + Wait + Sync, F: Files, L: Listener, S: Sink>(
     ensures later { L.faults listener ≤ L.faults result.listener }
 {
     match prepare(alloc, words, files) {
-        Ok(Prepared::Ready(Start {
-            runtime,
-            first,
-            terms,
-            port,
-        })) => serve_accepted(rt, alloc, &first, runtime, &terms, listener, port, out),
+        Ok(
+            Prepared::Ready(
+                Start {
+                    runtime,
+                    first,
+                    terms,
+                    port,
+                },
+            ),
+        ) => serve_accepted(rt, alloc, &first, runtime, &terms, listener, port, out),
         Ok(Prepared::Told(outcome)) => Ran {
             status: finish(out, &outcome.text, outcome.status),
             listener,

@@ -17,8 +17,20 @@ pub const WORDS: &[Unserved] = &[
     (&["run", "P", "N", "N"], None, None, b"usage\n", 6),
     (&["run", "--port", "0", "P", "N"], None, None, b"usage\n", 6),
     (&["run", "--log", "L", "P", "N"], None, None, b"usage\n", 6),
-    (&["check", "P"], Some(Program::Learning), None, b"usage\n", 6),
-    (&["Run", "P", "N"], Some(Program::Learning), Some(Net::Two), b"usage\n", 6),
+    (
+        &["check", "P"],
+        Some(Program::Learning),
+        None,
+        b"usage\n",
+        6,
+    ),
+    (
+        &["Run", "P", "N"],
+        Some(Program::Learning),
+        Some(Net::Two),
+        b"usage\n",
+        6,
+    ),
 ];
 
 pub const FILES: &[Unserved] = &[
@@ -37,7 +49,13 @@ pub const FILES: &[Unserved] = &[
         b"P refused at 0: Unexpected\n",
         3,
     ),
-    (&["run", "P", "N"], Some(Program::Unmet), None, b"no network\n", 4),
+    (
+        &["run", "P", "N"],
+        Some(Program::Unmet),
+        None,
+        b"no network\n",
+        4,
+    ),
     (
         &["run", "P", "N"],
         Some(Program::Linked),
@@ -114,7 +132,17 @@ pub const SERVED: &[Served] = &[
         b"yes level 0\nsession 1 history full ignored 0\nvericon-journal 1\njoin 0 1 1\nend\n",
     ),
     (
-        &["run", "--strengthen", "1", "--workers", "1", "--sessions", "2", "P", "N"],
+        &[
+            "run",
+            "--strengthen",
+            "1",
+            "--workers",
+            "1",
+            "--sessions",
+            "2",
+            "P",
+            "N",
+        ],
         Program::Firewall,
         2,
         3,

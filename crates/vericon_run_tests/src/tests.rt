@@ -179,7 +179,11 @@ fn two_workers_serve_both(rt: HostRuntime) -> Result<(), Fail> {
     ];
     let left = call(&rt, alloc, &words, &SCENE)?;
     assert_eq!(rt; left.ran.status, 0);
-    assert_eq!(rt; left.text.starts_with(b"yes level 1\nsession 1 closed ignored 0\n"), true);
+    assert_eq!(rt;
+        left.text
+            .starts_with(b"yes level 1\nsession 1 closed ignored 0\n"),
+        true
+    );
     let Some(runtime) = left.ran.runtime.as_ref() else {
         return Err(Fail::from("no runtime"));
     };
@@ -207,7 +211,10 @@ fn two_sessions_at_once(rt: HostRuntime) -> Result<(), Fail> {
     links.push(GateLink::new(rt.clone()?, Arc::try_clone(&gate)?, false))?;
     links.push(GateLink::new(rt.clone()?, gate, true))?;
     let listener = GateListener::new(links);
-    let words = words_of(alloc, &["run", "--workers", "2", "--sessions", "2", "P", "N"])?;
+    let words = words_of(
+        alloc,
+        &["run", "--workers", "2", "--sessions", "2", "P", "N"],
+    )?;
     let mut files = files_of(alloc, &GATE_FILES)?;
     let mut out = MemSink::new(alloc, 1 << 20, FaultPlan::none(alloc));
     let ran = run_call(&rt, alloc, &words, &mut files, listener, &mut out);

@@ -111,4 +111,3 @@ returns-in-Ok-Ready-clause-decided g c =
     let ran = s.ensures.run in
     λ program network bytes net run is is_net undisturbed no_fault few.
     served_decided asked only _ program network bytes net run is is_net _ _ _ _ _ undisturbed start ready c.deref.result.now (history_in s.result.runtime) (view c.args.listener) (view s.result.listener) no_fault few ran
-
