@@ -74,10 +74,10 @@ pub all_distinct : (t : Terms) (seat : ℕ) (all : List (List LinkView)) → sea
 all_distinct t seat [] few = tt
 all_distinct t seat (links ∷ more) few =
     let apart : (n : ℕ) → IsIn n (numbers (numbered_from t (1 + seat) links)) → IsIn n (numbers (numbered t (seat + 1) more)) → ⊥ =
-      λ n here there.
-        let f = from_one t (1 + seat) links n here in
-        let g = of_one t (seat + 1) more n there in
-        let same : seat ≡ g.one = same_seat t.workers seat g.one f.0 g.before (omega arith) (let m = g.to in omega arith) (sym f.1 ∙ g.is) in
-        (let m = g.from in omega (arith, same)) in
+    λ n here there.
+    let f = from_one t (1 + seat) links n here in
+    let g = of_one t (seat + 1) more n there in
+    let same : seat ≡ g.one = same_seat t.workers seat g.one f.0 g.before (omega arith) (let m = g.to in omega arith) (sym f.1 ∙ g.is) in
+    (let m = g.from in omega (arith, same)) in
     subst AreDistinct (sym (all_split t seat links more))
-      (distinct_append (numbers (numbered_from t (1 + seat) links)) (numbers (numbered t (seat + 1) more)) (from_distinct t (1 + seat) links) (all_distinct t (seat + 1) more (omega arith)) apart)
+    (distinct_append (numbers (numbered_from t (1 + seat) links)) (numbers (numbered t (seat + 1) more)) (from_distinct t (1 + seat) links) (all_distinct t (seat + 1) more (omega arith)) apart)
