@@ -20,6 +20,8 @@ pub struct Scene {
     pub links: usize,
     pub packets: usize,
     pub listen_fails: bool,
+    /// The number of the `accept` that fails, counted from 0.
+    pub accept_fails: Option<u64>,
     pub write_fails: bool,
 }
 
@@ -61,6 +63,11 @@ fn scripts_of(alloc: Global, scene: &Scene) -> Result<Vec<LinkScript>, AllocErro
     Ok(all)
 }
 
+// The number of the first call, where it is to fail.
+fn first_of(fails: bool) -> Option<u64> {
+    if fails { Some(0) } else { None }
+}
+
 /// What a call with these words leaves.
 pub fn call<R: Threads + Wait + Sync>(
     rt: &R,
@@ -71,9 +78,10 @@ pub fn call<R: Threads + Wait + Sync>(
     let words = words_of(alloc, words)?;
     let mut files = files_of(alloc, scene)?;
     let scripts = scripts_of(alloc, scene)?;
-    let listens = plan(alloc, scene.listen_fails)?;
-    let listener = MemListener::new(alloc, scripts, listens, FaultPlan::none(alloc))?;
-    let mut out = MemSink::new(alloc, 1 << 20, plan(alloc, scene.write_fails)?);
+    let listens = plan(alloc, first_of(scene.listen_fails))?;
+    let accepts = plan(alloc, scene.accept_fails)?;
+    let listener = MemListener::new(alloc, scripts, listens, accepts)?;
+    let mut out = MemSink::new(alloc, 1 << 20, plan(alloc, first_of(scene.write_fails))?);
     let ran = run_call(rt, alloc, &words, &mut files, listener, &mut out);
     Ok(Left {
         ran,

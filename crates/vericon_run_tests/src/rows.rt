@@ -149,3 +149,31 @@ pub const SERVED: &[Served] = &[
         b"yes level 1\nsession 1 closed ignored 0\nsession 2 closed ignored 0\nvericon-journal 1\njoin 0 1 1\npacket 0 1 1 1 2 1\npacket 0 1 1 1 2 1\npacket 0 1 1 1 2 1\njoin 0 2 1\npacket 0 2 1 1 2 1\npacket 0 2 1 1 2 1\npacket 0 2 1 1 2 1\nend\n",
     ),
 ];
+
+/// The number of the `accept` that fails, of three links whose switches send a packet each; and what is printed, with its status. The sessions
+/// that came before are whole.
+pub type Accepts = (u64, &'static [u8], u8);
+
+pub const ACCEPTS: &[Accepts] = &[
+    (0, b"yes level 0\nvericon-journal 1\nend\nlisten fault\n", 9),
+    (
+        1,
+        b"yes level 0\nsession 1 closed ignored 0\nvericon-journal 1\njoin 0 1 1\npacket 0 1 1 1 2 1\nend\nlisten fault\n",
+        9,
+    ),
+    (
+        2,
+        b"yes level 0\nsession 1 closed ignored 0\nsession 2 closed ignored 0\nvericon-journal 1\njoin 0 1 1\npacket 0 1 1 1 2 1\njoin 0 2 1\npacket 0 2 1 1 2 1\nend\nlisten fault\n",
+        9,
+    ),
+    (
+        3,
+        b"yes level 0\nsession 1 closed ignored 0\nsession 2 closed ignored 0\nsession 3 closed ignored 0\nvericon-journal 1\njoin 0 1 1\npacket 0 1 1 1 2 1\njoin 0 2 1\npacket 0 2 1 1 2 1\njoin 0 3 1\npacket 0 3 1 1 2 1\nend\nlisten fault\n",
+        9,
+    ),
+    (
+        4,
+        b"yes level 0\nsession 1 closed ignored 0\nsession 2 closed ignored 0\nsession 3 closed ignored 0\nvericon-journal 1\njoin 0 1 1\npacket 0 1 1 1 2 1\njoin 0 2 1\npacket 0 2 1 1 2 1\njoin 0 3 1\npacket 0 3 1 1 2 1\nend\n",
+        0,
+    ),
+];

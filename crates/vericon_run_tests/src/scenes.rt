@@ -95,12 +95,12 @@ pub fn script(alloc: Global, packets: usize, writes: FaultPlan) -> Result<LinkSc
     Ok(LinkScript::new(gives, 5, 7, FaultPlan::none(alloc), writes))
 }
 
-/// A plan in which the first call fails, where it is to.
-pub fn plan(alloc: Global, first_fails: bool) -> Result<FaultPlan, AllocError> {
-    if !first_fails {
+/// A plan in which the call of this number fails, counted from 0; none where there is no number.
+pub fn plan(alloc: Global, failing: Option<u64>) -> Result<FaultPlan, AllocError> {
+    let Some(number) = failing else {
         return Ok(FaultPlan::none(alloc));
-    }
+    };
     let mut calls = Vec::new(alloc);
-    calls.push(0)?;
+    calls.push(number)?;
     Ok(FaultPlan::new(calls))
 }

@@ -2,7 +2,7 @@
 use crate::calls::{Scene, call, files_of, words_of};
 use crate::expected::{FLOOD, JOINED, THREE_PACKETS};
 use crate::gate::{GateLink, GateListener};
-use crate::rows::{FILES, SERVED, Served, Unserved, WORDS};
+use crate::rows::{ACCEPTS, Accepts, FILES, SERVED, Served, Unserved, WORDS};
 use crate::scenes::{Net, Program};
 use std::alloc::Global;
 use std::process::Abort;
@@ -27,6 +27,7 @@ const SCENE: Scene = Scene {
     links: 2,
     packets: 3,
     listen_fails: false,
+    accept_fails: None,
     write_fails: false,
 };
 
@@ -123,6 +124,37 @@ fn a_flood_is_sent(rt: HostRuntime) -> Result<(), Fail> {
     Ok(())
 }
 
+// Each call ends at the `accept` of its row, and all links that came are given back, answered whole.
+fn stops<R: Threads + Wait + Sync + Abort>(
+    rt: &R,
+    alloc: Global,
+    rows: &[Accepts],
+) -> Result<(), Fail> {
+    for (number, text, status) in rows {
+        let scene = Scene {
+            program: Some(Program::Learning),
+            links: 3,
+            packets: 1,
+            accept_fails: Some(*number),
+            ..SCENE
+        };
+        let left = call(rt, alloc, &["run", "--workers", "1", "P", "N"], &scene)?;
+        assert_eq!(rt; left.text.as_slice(), *text);
+        assert_eq!(rt; left.ran.status, *status);
+        for (_, link) in left.ran.listener.given() {
+            assert_eq!(rt; link.is_closed(), true);
+            assert_eq!(rt; link.is_shut(), true);
+            assert_eq!(rt; link.written().ends_with(FLOOD), true);
+        }
+    }
+    Ok(())
+}
+
+#[test]
+fn each_accept_may_fail(rt: HostRuntime) -> Result<(), Fail> {
+    stops(&rt, rt.alloc(), ACCEPTS)
+}
+
 #[test]
 fn nobody_listens(rt: HostRuntime) -> Result<(), Fail> {
     let scene = Scene {
@@ -200,6 +232,7 @@ const GATE_FILES: Scene = Scene {
     links: 0,
     packets: 0,
     listen_fails: false,
+    accept_fails: None,
     write_fails: false,
 };
 
