@@ -1,12 +1,13 @@
 //! All commands over what a process has.
-ghost use Rattle.std.specs.Prelude.{◌≡◌, ◌≤◌, false, map, string_bytes};
-ghost use Rattle.command_words.specs.Calls.{asked_call};
+ghost use Rattle.std.specs.Prelude.{◌≡◌, ◌⊎◌, ◌≤◌, false, map, string_bytes};
+ghost use Rattle.command_words.specs.Calls.{asked_call, if_serves};
 ghost use Rattle.link_sessions.specs.Links.{view_by};
 ghost use Rattle.session_workers.specs.Told.{told_given};
 ghost use Rattle.file_loads.specs.Explained.{IsExplained};
 ghost use Rattle.file_loads.specs.Views.{change_of};
 ghost use Rattle.vericon_app.specs.Calls.{files_named};
 ghost use Rattle.vericon_app.specs.Output.{Output};
+ghost use Rattle.vericon_run.specs.Accepted.{HasSaidYes};
 ghost use Rattle.vericon_run.specs.Left.{HasRunLeft};
 ghost use Rattle.vericon_run.specs.Outputs.{RunOutput};
 ghost use Rattle.vericon_run.specs.Runs.{history_in, listener_view};
@@ -39,6 +40,8 @@ pub fn serve_words<R: Threads + Wait + Sync, F: Files, L: Listener, S: Sink>(
     // what is written, and its status, whatever the command
     ensures output { HasRunLeft (IsExplained (change_of F.told F.read_calls F.write_calls F.read_faults F.write_faults files.old files.new) (files_named (asked_call (map string_bytes words.now))) (Output (RunOutput (listener_view (λ l. told_given (view_by L.Link.taken L.Link.written L.Link.closed L.Link.is_shut L.Link.read_faults L.Link.write_faults) (L.given l)) L.faults L.came L.back L.ended listener) (listener_view (λ l. told_given (view_by L.Link.taken L.Link.written L.Link.closed L.Link.is_shut L.Link.read_faults L.Link.write_faults) (L.given l)) L.faults L.came L.back L.ended result.listener) (history_in result.runtime)) (asked_call (map string_bytes words.now)))) (S.written out.old) (S.written out.new) (S.faults out.old) (S.faults out.new) result.status }
     ensures faults { S.faults out.old ≤ S.faults out.new }
+    // the listener is used for the words of `run` alone, of an accepted program and network, once the yes was printed
+    ensures serves { (result.listener ≡ listener) ⊎ HasSaidYes (if_serves (asked_call (map string_bytes words.now))) (F.told files.old) (S.written out.old) (S.written out.new) }
 {
     match run_request(words) {
         Some(_) => run_call(rt, alloc, words, files, listener, out),
