@@ -1,5 +1,5 @@
 -- The calls of all commands as one.
-use Rattle.std.proofs.Common.{◌≡◌, ℕ, true, false, if◌then◌else◌, List, [], Option, Some, None, sym, ap, subst, refl}
+use Rattle.std.proofs.Common.{◌≡◌, ℕ, if◌then◌else◌, List, Option, Some, None, subst, refl}
 use Rattle.command_words.specs.declared.table.Command.{Command}
 use Rattle.command_words.specs.declared.table.Command.TheVariants.{Check, Show, Eval, Trace, Conditions, Clauses, Frames, Make, Replay, Run}
 use Rattle.command_words.specs.Call.{Call}
@@ -14,7 +14,6 @@ use Rattle.vericon_app.specs.Output.{CommandOutput, MayPrint, Output, serves_non
 use Rattle.vericon_app.specs.Left as left
 use Rattle.vericon_app.specs.Left.{HasLeft}
 use Rattle.vericon_run.specs.Left.{HasRunLeft, has_left}
-use Rattle.vericon_run.proofs.Asked.{asks_run}
 
 -- a call of `run` is one that serves, and another is one that doesn't
 serves_all : (c : Call) (command : Command) → c.command ≡ command → (if serves command then Some c else None) ≡ None → (if serves command then None else Some c) ≡ Some c

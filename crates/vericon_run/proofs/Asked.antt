@@ -1,15 +1,12 @@
 -- Words that ask for a run.
-use Rattle.std.proofs.Common.{◌≡◌, ℕ, ◌<◌, true, false, if◌then◌else◌, List, [], ◌∷◌, length, Option, Some, None, sym, ◌∙◌, ap, subst, refl, arith}
+use Rattle.std.proofs.Common.{◌≡◌, ℕ, if◌then◌else◌, List, length, Option, Some, None, sym, ◌∙◌, ap, subst, refl}
 use Rattle.std.proofs.lemmas.Option.{same_Some}
 use Rattle.command_words.specs.declared.table.Command.{Command}
 use Rattle.command_words.specs.declared.table.Command.TheVariants.{Check, Show, Eval, Trace, Conditions, Clauses, Frames, Make, Replay, Run}
 use Rattle.command_words.specs.Call.{Call}
 use Rattle.command_words.specs.Calls.{if_serves, serves}
-use Rattle.file_loads.specs.declared.outcome.Outcome.{Outcome}
 use Rattle.file_loads.specs.Status.{code_of}
-use Rattle.file_loads.specs.Views.{View, Change, OnlyReads}
-use Rattle.file_loads.specs.Answers.{Answer}
-use Rattle.file_loads.specs.Writes.{Write}
+use Rattle.file_loads.specs.Views.{Change, OnlyReads}
 use Rattle.file_loads.specs.Explained.{IsExplained}
 use Rattle.vericon_app.specs.Calls.{files_named, files_of}
 use Rattle.vericon_app.specs.Output.{CommandOutput, MayPrint, Output}

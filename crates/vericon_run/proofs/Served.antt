@@ -1,15 +1,11 @@
 -- What a run leaves that has served.
-use Rattle.std.proofs.Common.{◌≡◌, ℕ, ◌≤◌, ◌⊎◌, inl, inr, Bool, true, false, List, [], ◌∷◌, length, Option, Some, None, sym, ◌∙◌, ap, subst, refl, arith}
+use Rattle.std.proofs.Common.{◌≡◌, ℕ, ◌⊎◌, inl, inr, Bool, true, false, List, [], ◌∷◌, length, Option, Some, None, sym, ◌∙◌, ap, subst, refl, arith}
 use Rattle.csdn_core.proofs.Induction.{sound}
 use Rattle.csdn_history.specs.declared.entry.Entry.{Entry}
 use Rattle.csdn_run.specs.Histories.{Running, running, with_history}
 use Rattle.vericon_decide.specs.Answers.{IsYes}
-use Rattle.answer_listing.specs.Words.{yes_text}
 use Rattle.vericon_edge.specs.Counts.{Rose}
-use Rattle.vericon_edge.specs.Told.{Told}
-use Rattle.vericon_edge.specs.Written.{Grown, GrownByFront}
 use Rattle.session_workers.specs.declared.row.Row.{Row}
-use Rattle.session_workers.specs.declared.terms.Terms.{Terms}
 use Rattle.session_workers.specs.declared.halt.Halt.{Halt}
 use Rattle.session_workers.specs.declared.halt.Halt.TheVariants.{Done, Fault, Memory}
 use Rattle.session_workers.specs.Endings.{HaltsFor}
@@ -21,13 +17,12 @@ use Rattle.file_loads.proofs.Explaining.{unwritten}
 use Rattle.vericon_app.specs.Calls.{file_name, files_named, level_of, size_of}
 use Rattle.vericon_app.specs.Left as left
 use Rattle.vericon_app.specs.Output.{Output}
-use Rattle.vericon_app.specs.Verified.{IsVerified}
 use Rattle.vericon_run.specs.declared.prepared.Start.{Start}
 use Rattle.vericon_run.specs.Words.{AreTerms, room_of}
-use Rattle.vericon_run.specs.Runs.{HasBegun, HasRun, HasSaid, HasServed, IsOf, ListenerView, whole, short, cut, accepted_status, accepted_text, history_in, is_fault, status_of}
+use Rattle.vericon_run.specs.Runs.{HasBegun, HasRun, HasSaid, HasServed, IsOf, ListenerView, whole, short, cut, accepted_status, accepted_text, is_fault, status_of}
 use Rattle.vericon_run.specs.Outputs.{RunOutput, is_served}
 use Rattle.vericon_run.specs.Left.{CameAll, HasCause, HasRunLeft, has_left, is_short}
-use Rattle.vericon_run.specs.Accepted.{HandsBack, HasSaidYes, IsAccepted, IsAcceptedCall, IsOfAccepted}
+use Rattle.vericon_run.specs.Accepted.{HandsBack, HasSaidYes, IsAccepted, IsAcceptedCall}
 use Rattle.vericon_run.specs.Starts.{IsStartAsked, IsStartFor, run_files}
 use Rattle.vericon_run.proofs.Asked.{AsksRun, as_asked, reads_called}
 use Rattle.vericon_run.proofs.Topologies.{meets}

@@ -1,5 +1,5 @@
 -- From step to step of what is prepared before the listener is used.
-use Rattle.std.proofs.Common.{◌≡◌, ℕ, ◌≤◌, List, [], ◌∷◌, length, Option, Some, None, sym, ◌∙◌, subst, refl}
+use Rattle.std.proofs.Common.{◌≡◌, ℕ, ◌≤◌, List, [], ◌∷◌, length, subst}
 use Rattle.csdn_core.specs.declared.program.Parts.{Parts}
 use Rattle.csdn_core.specs.Network.{Network}
 use Rattle.csdn_read.specs.Programs.{Spells}
@@ -7,7 +7,6 @@ use Rattle.vericon_decide.specs.declared.verdict.Proof.{Proof}
 use Rattle.vericon_decide.specs.Answers.{IsYes}
 use Rattle.vericon_edge.specs.Told.{Told, MayHold}
 use Rattle.command_words.specs.Call.{Call}
-use Rattle.file_loads.specs.declared.outcome.Outcome.{Outcome}
 use Rattle.file_loads.specs.declared.read.FileKind.{FileKind}
 use Rattle.file_loads.specs.declared.read.FileKind.TheVariants as kind
 use Rattle.file_loads.specs.Status.{code_of}

@@ -1,21 +1,15 @@
 -- Runs that nothing disturbs.
-use Rattle.std.proofs.Common.{◌≡◌, ℕ, ◌<◌, ◌⊎◌, inl, inr, List, [], ◌∷◌, length, Option, Some, None, Result, Ok, Err, sym, ◌∙◌, ap, subst, refl, arith}
+use Rattle.std.proofs.Common.{◌≡◌, ℕ, ◌<◌, ◌⊎◌, inl, inr, List, [], ◌∷◌, Option, None, Result, Ok, Err, sym, ◌∙◌, ap, subst, refl, arith}
 use Rattle.std.proofs.lemmas.Option.{same_Some}
-use Rattle.text_lines.specs.Machine.{reading}
 use Rattle.csdn_core.specs.declared.program.Parts.{Parts}
 use Rattle.csdn_core.specs.Network.{Network}
-use Rattle.csdn_core.specs.Holds.{IsTopology}
 use Rattle.csdn_history.specs.declared.entry.Entry.{Entry}
 use Rattle.csdn_read.specs.Programs.{Spells}
 use Rattle.csdn_read.proofs.Exact.{none_spelled}
 use Rattle.net_structs.specs.declared.case.Case.{Case}
 use Rattle.net_structs.specs.Networks.{IsServable}
-use Rattle.net_text.specs.NetText.{net_format}
-use Rattle.vericon_decide.specs.declared.verdict.Proof.{Proof}
-use Rattle.vericon_decide.specs.Answers.{IsYes}
 use Rattle.vericon_edge.specs.Counts.{Rose}
 use Rattle.vericon_edge.specs.Told.{Told, holds, MayHold, MayBeMissing, MayBeLonger}
-use Rattle.session_workers.specs.declared.terms.Terms.{Terms}
 use Rattle.session_workers.specs.declared.halt.Halt.{Halt}
 use Rattle.session_workers.specs.declared.halt.Halt.TheVariants.{Done, Fault, Memory}
 use Rattle.session_workers.specs.Endings.{HaltsFor}

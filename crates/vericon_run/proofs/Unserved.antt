@@ -1,6 +1,5 @@
 -- What a run leaves that has served nobody.
-use Rattle.std.proofs.Common.{◌≡◌, ℕ, ◌<◌, List, [], Option, Some, None, sym, ◌∙◌, subst, refl, arith}
-use Rattle.vericon_edge.specs.Counts.{Rose}
+use Rattle.std.proofs.Common.{ℕ, ◌<◌, List, [], Option, Some, None, subst, refl, arith}
 use Rattle.command_words.specs.declared.table.Command.{Command}
 use Rattle.command_words.specs.declared.table.Command.TheVariants.{Check, Show, Eval, Trace, Conditions, Clauses, Frames, Make, Replay, Run}
 use Rattle.command_words.specs.Call.{Call}

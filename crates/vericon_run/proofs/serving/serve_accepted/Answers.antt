@@ -1,7 +1,7 @@
 use Rattle.link_sessions.specs.Links.{LinkView, view_by}
 use Rattle.session_workers.specs.Told.{told_given}
 use Rattle.vericon_run.specs.Runs.{ListenerView, history_in, listener_view}
-use Rattle.std.proofs.Common.{inl, inr, refl}
+use Rattle.std.proofs.Common.{inl}
 use Rattle.vericon_run.proofs.Said.{begun_so, cut_off, printed_run}
 use Rattle.vericon_run.proofs.serving.serve_accepted.Goals as goal
 
