@@ -6,11 +6,13 @@ use Rattle.csdn_tree.specs.declared.names.RawTerm.{RawTerm}
 use Rattle.csdn_tree.specs.declared.syntax.FlowWord.{FlowWord}
 use Rattle.csdn_tree.specs.declared.syntax.RawFlow.{RawFlow}
 use Rattle.csdn_tree.specs.declared.syntax.RawPacket.{RawPacket}
+use Rattle.csdn_tree.specs.declared.syntax.Connective.{Connective}
+use Rattle.csdn_tree.specs.declared.syntax.Quantifier.{Quantifier}
 use Rattle.csdn_tree.specs.declared.syntax.RawFormula.{RawFormula}
 use Rattle.csdn_tree.specs.declared.syntax.RawFormula.TheVariants as f
 use Rattle.csdn_tree.specs.declared.syntax.RawCommand.{RawCommand}
 use Rattle.csdn_tree.specs.declared.syntax.RawCommand.TheVariants as c
-use Rattle.csdn_tree.specs.RawTree.{Seq-is, If-is, Pick-is, Not-is, And-is, Or-is, Implies-is, Iff-is, Forall-is, Exists-is}
+use Rattle.csdn_tree.specs.RawTree.{Seq-is, If-is, Pick-is, Not-is, Two-is, Bind-is}
 use Rattle.csdn_tree.specs.Binders.{binders, command_binders}
 
 pub binders-True : binders f.True ≡ 0
@@ -41,29 +43,13 @@ pub binders-Not : (p : RawFormula) → binders (f.Not p) ≡ binders p
 unfolding binders
 binders-Not p = rw Not-is
 
-pub binders-And : (p q : RawFormula) → binders (f.And p q) ≡ binders p + binders q
+pub binders-Two : (k : Connective) (p q : RawFormula) → binders (f.Two k p q) ≡ binders p + binders q
 unfolding binders
-binders-And p q = rw And-is
+binders-Two k p q = rw Two-is
 
-pub binders-Or : (p q : RawFormula) → binders (f.Or p q) ≡ binders p + binders q
+pub binders-Bind : (which : Quantifier) (name : RawName) (sort : Sort) (p : RawFormula) → binders (f.Bind which name sort p) ≡ 1 + binders p
 unfolding binders
-binders-Or p q = rw Or-is
-
-pub binders-Implies : (p q : RawFormula) → binders (f.Implies p q) ≡ binders p + binders q
-unfolding binders
-binders-Implies p q = rw Implies-is
-
-pub binders-Iff : (p q : RawFormula) → binders (f.Iff p q) ≡ binders p + binders q
-unfolding binders
-binders-Iff p q = rw Iff-is
-
-pub binders-Forall : (name : RawName) (sort : Sort) (p : RawFormula) → binders (f.Forall name sort p) ≡ 1 + binders p
-unfolding binders
-binders-Forall name sort p = rw Forall-is
-
-pub binders-Exists : (name : RawName) (sort : Sort) (p : RawFormula) → binders (f.Exists name sort p) ≡ 1 + binders p
-unfolding binders
-binders-Exists name sort p = rw Exists-is
+binders-Bind which name sort p = rw Bind-is
 
 pub command_binders-Skip : command_binders c.Skip ≡ 0
 unfolding command_binders
@@ -105,4 +91,4 @@ pub command_binders-Flood : (w : RawPacket) → command_binders (c.Flood w) ≡ 
 unfolding command_binders
 command_binders-Flood w = refl
 
-pub ruleset binder_steps = (binders-True, binders-False, binders-Atom, binders-Same, binders-Flow, binders-RcvThis, binders-Not, binders-And, binders-Or, binders-Implies, binders-Iff, binders-Forall, binders-Exists, command_binders-Skip, command_binders-Seq, command_binders-If, command_binders-Pick, command_binders-Insert, command_binders-Remove, command_binders-Install, command_binders-Uninstall, command_binders-Forward, command_binders-Flood)
+pub ruleset binder_steps = (binders-True, binders-False, binders-Atom, binders-Same, binders-Flow, binders-RcvThis, binders-Not, binders-Two, binders-Bind, command_binders-Skip, command_binders-Seq, command_binders-If, command_binders-Pick, command_binders-Insert, command_binders-Remove, command_binders-Install, command_binders-Uninstall, command_binders-Forward, command_binders-Flood)

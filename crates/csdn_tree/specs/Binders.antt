@@ -6,7 +6,7 @@ use Rattle.csdn_tree.specs.declared.syntax.RawCommand.{RawCommand}
 use Rattle.csdn_tree.specs.declared.syntax.RawCommand.TheVariants as c
 use Rattle.csdn_tree.specs.declared.syntax.RawItem.{RawItem}
 use Rattle.csdn_tree.specs.declared.syntax.RawItem.TheVariants as item
-use Rattle.csdn_tree.specs.RawTree.{raw_seq, raw_if, raw_pick, raw_not, raw_and, raw_or, raw_implies, raw_iff, raw_forall, raw_exists}
+use Rattle.csdn_tree.specs.RawTree.{raw_seq, raw_if, raw_pick, raw_not, raw_two, raw_bind}
 
 -- how many variables a formula binds
 unfoldable pub binders : RawFormula → ℕ
@@ -17,12 +17,8 @@ binders (f.Same t u) = 0
 binders (f.Flow at word w) = 0
 binders (f.RcvThis at w) = 0
 binders (raw_not p) = binders p
-binders (raw_and p q) = binders p + binders q
-binders (raw_or p q) = binders p + binders q
-binders (raw_implies p q) = binders p + binders q
-binders (raw_iff p q) = binders p + binders q
-binders (raw_forall name sort p) = 1 + binders p
-binders (raw_exists name sort p) = 1 + binders p
+binders (raw_two k p q) = binders p + binders q
+binders (raw_bind which name sort p) = 1 + binders p
 
 -- how many variables a command binds
 unfoldable pub command_binders : RawCommand → ℕ

@@ -6,11 +6,13 @@ use Rattle.csdn_tree.specs.declared.names.RawTerm.{RawTerm}
 use Rattle.csdn_tree.specs.declared.syntax.FlowWord.{FlowWord}
 use Rattle.csdn_tree.specs.declared.syntax.RawFlow.{RawFlow}
 use Rattle.csdn_tree.specs.declared.syntax.RawPacket.{RawPacket}
+use Rattle.csdn_tree.specs.declared.syntax.Connective.{Connective}
+use Rattle.csdn_tree.specs.declared.syntax.Quantifier.{Quantifier}
 use Rattle.csdn_tree.specs.declared.syntax.RawFormula.{RawFormula}
 use Rattle.csdn_tree.specs.declared.syntax.RawFormula.TheVariants as f
 use Rattle.csdn_tree.specs.declared.syntax.RawCommand.{RawCommand}
 use Rattle.csdn_tree.specs.declared.syntax.RawCommand.TheVariants as c
-use Rattle.csdn_tree.specs.RawTree.{Seq-is, If-is, Pick-is, Not-is, And-is, Or-is, Implies-is, Iff-is, Forall-is, Exists-is}
+use Rattle.csdn_tree.specs.RawTree.{Seq-is, If-is, Pick-is, Not-is, Two-is, Bind-is}
 use Rattle.csdn_tree.specs.Nodes.{raw_nodes, raw_commands}
 
 pub raw_nodes-True : raw_nodes f.True ≡ 1
@@ -41,29 +43,13 @@ pub raw_nodes-Not : (p : RawFormula) → raw_nodes (f.Not p) ≡ raw_nodes p + 1
 unfolding raw_nodes
 raw_nodes-Not p = rw Not-is
 
-pub raw_nodes-And : (p q : RawFormula) → raw_nodes (f.And p q) ≡ raw_nodes p + raw_nodes q + 1
+pub raw_nodes-Two : (k : Connective) (p q : RawFormula) → raw_nodes (f.Two k p q) ≡ raw_nodes p + raw_nodes q + 1
 unfolding raw_nodes
-raw_nodes-And p q = rw And-is
+raw_nodes-Two k p q = rw Two-is
 
-pub raw_nodes-Or : (p q : RawFormula) → raw_nodes (f.Or p q) ≡ raw_nodes p + raw_nodes q + 1
+pub raw_nodes-Bind : (which : Quantifier) (name : RawName) (sort : Sort) (p : RawFormula) → raw_nodes (f.Bind which name sort p) ≡ raw_nodes p + 1
 unfolding raw_nodes
-raw_nodes-Or p q = rw Or-is
-
-pub raw_nodes-Implies : (p q : RawFormula) → raw_nodes (f.Implies p q) ≡ raw_nodes p + raw_nodes q + 1
-unfolding raw_nodes
-raw_nodes-Implies p q = rw Implies-is
-
-pub raw_nodes-Iff : (p q : RawFormula) → raw_nodes (f.Iff p q) ≡ raw_nodes p + raw_nodes q + 1
-unfolding raw_nodes
-raw_nodes-Iff p q = rw Iff-is
-
-pub raw_nodes-Forall : (name : RawName) (sort : Sort) (p : RawFormula) → raw_nodes (f.Forall name sort p) ≡ raw_nodes p + 1
-unfolding raw_nodes
-raw_nodes-Forall name sort p = rw Forall-is
-
-pub raw_nodes-Exists : (name : RawName) (sort : Sort) (p : RawFormula) → raw_nodes (f.Exists name sort p) ≡ raw_nodes p + 1
-unfolding raw_nodes
-raw_nodes-Exists name sort p = rw Exists-is
+raw_nodes-Bind which name sort p = rw Bind-is
 
 pub raw_commands-Skip : raw_commands c.Skip ≡ 1
 unfolding raw_commands
@@ -105,4 +91,4 @@ pub raw_commands-Flood : (w : RawPacket) → raw_commands (c.Flood w) ≡ 1
 unfolding raw_commands
 raw_commands-Flood w = refl
 
-pub ruleset raw_node_steps = (raw_nodes-True, raw_nodes-False, raw_nodes-Atom, raw_nodes-Same, raw_nodes-Flow, raw_nodes-RcvThis, raw_nodes-Not, raw_nodes-And, raw_nodes-Or, raw_nodes-Implies, raw_nodes-Iff, raw_nodes-Forall, raw_nodes-Exists, raw_commands-Skip, raw_commands-Seq, raw_commands-If, raw_commands-Pick, raw_commands-Insert, raw_commands-Remove, raw_commands-Install, raw_commands-Uninstall, raw_commands-Forward, raw_commands-Flood)
+pub ruleset raw_node_steps = (raw_nodes-True, raw_nodes-False, raw_nodes-Atom, raw_nodes-Same, raw_nodes-Flow, raw_nodes-RcvThis, raw_nodes-Not, raw_nodes-Two, raw_nodes-Bind, raw_commands-Skip, raw_commands-Seq, raw_commands-If, raw_commands-Pick, raw_commands-Insert, raw_commands-Remove, raw_commands-Install, raw_commands-Uninstall, raw_commands-Forward, raw_commands-Flood)

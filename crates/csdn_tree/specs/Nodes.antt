@@ -4,7 +4,7 @@ use Rattle.csdn_tree.specs.declared.syntax.RawFormula.{RawFormula}
 use Rattle.csdn_tree.specs.declared.syntax.RawFormula.TheVariants as f
 use Rattle.csdn_tree.specs.declared.syntax.RawCommand.{RawCommand}
 use Rattle.csdn_tree.specs.declared.syntax.RawCommand.TheVariants as c
-use Rattle.csdn_tree.specs.RawTree.{raw_seq, raw_if, raw_pick, raw_not, raw_and, raw_or, raw_implies, raw_iff, raw_forall, raw_exists}
+use Rattle.csdn_tree.specs.RawTree.{raw_seq, raw_if, raw_pick, raw_not, raw_two, raw_bind}
 
 unfoldable pub raw_nodes : RawFormula → ℕ
 raw_nodes f.True = 1
@@ -14,12 +14,8 @@ raw_nodes (f.Same t u) = 1
 raw_nodes (f.Flow at word w) = 1
 raw_nodes (f.RcvThis at w) = 1
 raw_nodes (raw_not p) = raw_nodes p + 1
-raw_nodes (raw_and p q) = raw_nodes p + raw_nodes q + 1
-raw_nodes (raw_or p q) = raw_nodes p + raw_nodes q + 1
-raw_nodes (raw_implies p q) = raw_nodes p + raw_nodes q + 1
-raw_nodes (raw_iff p q) = raw_nodes p + raw_nodes q + 1
-raw_nodes (raw_forall name sort p) = raw_nodes p + 1
-raw_nodes (raw_exists name sort p) = raw_nodes p + 1
+raw_nodes (raw_two k p q) = raw_nodes p + raw_nodes q + 1
+raw_nodes (raw_bind which name sort p) = raw_nodes p + 1
 
 -- how many commands a command of a tree has
 unfoldable pub raw_commands : RawCommand → ℕ

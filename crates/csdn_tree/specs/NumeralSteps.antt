@@ -6,11 +6,13 @@ use Rattle.csdn_tree.specs.declared.names.RawTerm.{RawTerm}
 use Rattle.csdn_tree.specs.declared.syntax.FlowWord.{FlowWord}
 use Rattle.csdn_tree.specs.declared.syntax.RawFlow.{RawFlow}
 use Rattle.csdn_tree.specs.declared.syntax.RawPacket.{RawPacket}
+use Rattle.csdn_tree.specs.declared.syntax.Connective.{Connective}
+use Rattle.csdn_tree.specs.declared.syntax.Quantifier.{Quantifier}
 use Rattle.csdn_tree.specs.declared.syntax.RawFormula.{RawFormula}
 use Rattle.csdn_tree.specs.declared.syntax.RawFormula.TheVariants as f
 use Rattle.csdn_tree.specs.declared.syntax.RawCommand.{RawCommand}
 use Rattle.csdn_tree.specs.declared.syntax.RawCommand.TheVariants as c
-use Rattle.csdn_tree.specs.RawTree.{Seq-is, If-is, Pick-is, Not-is, And-is, Or-is, Implies-is, Iff-is, Forall-is, Exists-is}
+use Rattle.csdn_tree.specs.RawTree.{Seq-is, If-is, Pick-is, Not-is, Two-is, Bind-is}
 use Rattle.csdn_tree.specs.Numerals.{term_numerals, terms_numerals, flow_numerals, formula_numerals, command_numerals}
 
 pub formula_numerals-True : formula_numerals f.True ≡ []
@@ -41,29 +43,13 @@ pub formula_numerals-Not : (p : RawFormula) → formula_numerals (f.Not p) ≡ f
 unfolding formula_numerals
 formula_numerals-Not p = rw Not-is
 
-pub formula_numerals-And : (p q : RawFormula) → formula_numerals (f.And p q) ≡ formula_numerals p ++ formula_numerals q
+pub formula_numerals-Two : (k : Connective) (p q : RawFormula) → formula_numerals (f.Two k p q) ≡ formula_numerals p ++ formula_numerals q
 unfolding formula_numerals
-formula_numerals-And p q = rw And-is
+formula_numerals-Two k p q = rw Two-is
 
-pub formula_numerals-Or : (p q : RawFormula) → formula_numerals (f.Or p q) ≡ formula_numerals p ++ formula_numerals q
+pub formula_numerals-Bind : (which : Quantifier) (name : RawName) (sort : Sort) (p : RawFormula) → formula_numerals (f.Bind which name sort p) ≡ formula_numerals p
 unfolding formula_numerals
-formula_numerals-Or p q = rw Or-is
-
-pub formula_numerals-Implies : (p q : RawFormula) → formula_numerals (f.Implies p q) ≡ formula_numerals p ++ formula_numerals q
-unfolding formula_numerals
-formula_numerals-Implies p q = rw Implies-is
-
-pub formula_numerals-Iff : (p q : RawFormula) → formula_numerals (f.Iff p q) ≡ formula_numerals p ++ formula_numerals q
-unfolding formula_numerals
-formula_numerals-Iff p q = rw Iff-is
-
-pub formula_numerals-Forall : (name : RawName) (sort : Sort) (p : RawFormula) → formula_numerals (f.Forall name sort p) ≡ formula_numerals p
-unfolding formula_numerals
-formula_numerals-Forall name sort p = rw Forall-is
-
-pub formula_numerals-Exists : (name : RawName) (sort : Sort) (p : RawFormula) → formula_numerals (f.Exists name sort p) ≡ formula_numerals p
-unfolding formula_numerals
-formula_numerals-Exists name sort p = rw Exists-is
+formula_numerals-Bind which name sort p = rw Bind-is
 
 pub command_numerals-Skip : command_numerals c.Skip ≡ []
 unfolding command_numerals
@@ -105,4 +91,4 @@ pub command_numerals-Flood : (w : RawPacket) → command_numerals (c.Flood w) �
 unfolding command_numerals
 command_numerals-Flood w = refl
 
-pub ruleset numeral_steps = (formula_numerals-True, formula_numerals-False, formula_numerals-Atom, formula_numerals-Same, formula_numerals-Flow, formula_numerals-RcvThis, formula_numerals-Not, formula_numerals-And, formula_numerals-Or, formula_numerals-Implies, formula_numerals-Iff, formula_numerals-Forall, formula_numerals-Exists, command_numerals-Skip, command_numerals-Seq, command_numerals-If, command_numerals-Pick, command_numerals-Insert, command_numerals-Remove, command_numerals-Install, command_numerals-Uninstall, command_numerals-Forward, command_numerals-Flood)
+pub ruleset numeral_steps = (formula_numerals-True, formula_numerals-False, formula_numerals-Atom, formula_numerals-Same, formula_numerals-Flow, formula_numerals-RcvThis, formula_numerals-Not, formula_numerals-Two, formula_numerals-Bind, command_numerals-Skip, command_numerals-Seq, command_numerals-If, command_numerals-Pick, command_numerals-Insert, command_numerals-Remove, command_numerals-Install, command_numerals-Uninstall, command_numerals-Forward, command_numerals-Flood)

@@ -12,7 +12,7 @@ use Rattle.csdn_tree.specs.declared.syntax.RawPattern.{RawPattern}
 use Rattle.csdn_tree.specs.declared.syntax.RawPattern.TheVariants.{Any as AnyPort, Port as OnePort}
 use Rattle.csdn_tree.specs.declared.syntax.RawItem.{RawItem}
 use Rattle.csdn_tree.specs.declared.syntax.RawItem.TheVariants as item
-use Rattle.csdn_tree.specs.RawTree.{raw_seq, raw_if, raw_pick, raw_not, raw_and, raw_or, raw_implies, raw_iff, raw_forall, raw_exists}
+use Rattle.csdn_tree.specs.RawTree.{raw_seq, raw_if, raw_pick, raw_not, raw_two, raw_bind}
 
 -- the number of `prt(number)`
 abbrev pub term_numerals : RawTerm → List ℕ
@@ -34,12 +34,8 @@ formula_numerals (f.Same t u) = term_numerals t ++ term_numerals u
 formula_numerals (f.Flow at word w) = flow_numerals w
 formula_numerals (f.RcvThis at w) = term_numerals w.source ++ (term_numerals w.target ++ term_numerals w.ingress)
 formula_numerals (raw_not p) = formula_numerals p
-formula_numerals (raw_and p q) = formula_numerals p ++ formula_numerals q
-formula_numerals (raw_or p q) = formula_numerals p ++ formula_numerals q
-formula_numerals (raw_implies p q) = formula_numerals p ++ formula_numerals q
-formula_numerals (raw_iff p q) = formula_numerals p ++ formula_numerals q
-formula_numerals (raw_forall name sort p) = formula_numerals p
-formula_numerals (raw_exists name sort p) = formula_numerals p
+formula_numerals (raw_two k p q) = formula_numerals p ++ formula_numerals q
+formula_numerals (raw_bind which name sort p) = formula_numerals p
 
 unfoldable pub command_numerals : RawCommand → List ℕ
 command_numerals c.Skip = []

@@ -11,7 +11,7 @@ use Rattle.csdn_tree.specs.declared.syntax.RawPattern.{RawPattern}
 use Rattle.csdn_tree.specs.declared.syntax.RawPattern.TheVariants.{Any as AnyPort, Port as OnePort}
 use Rattle.csdn_tree.specs.declared.syntax.RawItem.{RawItem}
 use Rattle.csdn_tree.specs.declared.syntax.RawItem.TheVariants as item
-use Rattle.csdn_tree.specs.RawTree.{raw_seq, raw_if, raw_pick, raw_not, raw_and, raw_or, raw_implies, raw_iff, raw_forall, raw_exists}
+use Rattle.csdn_tree.specs.RawTree.{raw_seq, raw_if, raw_pick, raw_not, raw_two, raw_bind}
 use Rattle.csdn_tree.specs.Places.{place as place_of}
 
 unfoldable pub TermsWithin : ℕ → List RawTerm → ℕ → Type 0
@@ -28,12 +28,8 @@ Within from (f.Flow at word w) to =
 Within from (f.RcvThis at w) to =
     (from ≤ w.switch.at) × (w.switch.at < at) × TermsWithin (at + 1) (w.source ∷ w.target ∷ w.ingress ∷ []) to
 Within from (raw_not p) to = Within from p to
-Within from (raw_and p q) to = (middle : ℕ) × Within from p middle × Within middle q to
-Within from (raw_or p q) to = (middle : ℕ) × Within from p middle × Within middle q to
-Within from (raw_implies p q) to = (middle : ℕ) × Within from p middle × Within middle q to
-Within from (raw_iff p q) to = (middle : ℕ) × Within from p middle × Within middle q to
-Within from (raw_forall name sort p) to = (from ≤ name.at) × Within (name.at + 1) p to
-Within from (raw_exists name sort p) to = (from ≤ name.at) × Within (name.at + 1) p to
+Within from (raw_two k p q) to = (middle : ℕ) × Within from p middle × Within middle q to
+Within from (raw_bind which name sort p) to = (from ≤ name.at) × Within (name.at + 1) p to
 
 unfoldable pub CommandWithin : ℕ → RawCommand → ℕ → Type 0
 CommandWithin from c.Skip to = from ≤ to

@@ -51,6 +51,24 @@ pub enum FlowWord {
     Sent,
 }
 
+/// What joins two formulas.
+#[derive(Clone, Copy)]
+pub enum Connective {
+    And,
+    Or,
+    /// `left -> right`.
+    Implies,
+    /// `left <-> right`.
+    Iff,
+}
+
+/// Whether a name is bound by `forall` or by `exists`.
+#[derive(Clone, Copy)]
+pub enum Quantifier {
+    All,
+    Some,
+}
+
 /// A formula of a text, its names as they are written (docs/LANGUAGE.md).
 #[derive(Drop)]
 pub enum RawFormula {
@@ -65,16 +83,10 @@ pub enum RawFormula {
     /// `switch.rcv_this(..)`, with the place of that word.
     RcvThis(usize, RawPacket),
     Not(Boxed<RawFormula>),
-    And(Boxed<RawFormula>, Boxed<RawFormula>),
-    Or(Boxed<RawFormula>, Boxed<RawFormula>),
-    /// `left -> right`.
-    Implies(Boxed<RawFormula>, Boxed<RawFormula>),
-    /// `left <-> right`.
-    Iff(Boxed<RawFormula>, Boxed<RawFormula>),
-    /// `forall name:sort. body`.
-    Forall(RawName, Sort, Boxed<RawFormula>),
-    /// `exists name:sort. body`.
-    Exists(RawName, Sort, Boxed<RawFormula>),
+    /// `left and right`, or another word between the two.
+    Two(Connective, Boxed<RawFormula>, Boxed<RawFormula>),
+    /// `forall name:sort. body` or `exists name:sort. body`.
+    Bind(Quantifier, RawName, Sort, Boxed<RawFormula>),
 }
 
 /// A command of a text, its names as they are written (docs/LANGUAGE.md).
