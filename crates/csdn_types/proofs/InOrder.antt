@@ -14,7 +14,7 @@ use Rattle.csdn_types.specs.declared.refusal.SortRefusal.{SortRefusal}
 use Rattle.csdn_types.specs.declared.refusal.SortRefusal.TheVariants.{Memory, Duplicate, Unknown, WrongArity, WrongSort, NotAllowed, TooMany}
 use Rattle.csdn_tree.specs.declared.syntax.RawFormula.{RawFormula}
 use Rattle.csdn_tree.specs.declared.syntax.RawFormula.TheVariants as f
-use Rattle.csdn_tree.specs.RawTree.{raw_not, raw_and, raw_or, raw_implies, raw_iff, raw_forall, raw_exists}
+use Rattle.csdn_tree.specs.RawTree.{raw_not, raw_two, raw_bind}
 use Rattle.csdn_tree.specs.Places.{place as place_of}
 use Rattle.csdn_types.specs.declared.scope.SortedTerm.{SortedTerm}
 use Rattle.csdn_types.specs.declared.terms.Use.{Use}
@@ -153,12 +153,8 @@ faults_ordered place s (f.RcvThis at w) from to within =
     (then_later _ (place_of w.target) to _ _ within.2.1.0 (term_ordered s Ho w.target)
     (between _ (place_of w.ingress) to _ within.2.1.1.0 (omega (arith, within.2.1.1.1)) (term_ordered s Pr w.ingress))))
 faults_ordered place s (raw_not p) from to within = faults_ordered place s p from to within
-faults_ordered place s (raw_and p q) from to (m, left, right) = joined _ (8 * m) _ (faults place s p) _ (faults_ordered place s p from m left) (faults_ordered place (after s p) q m to right)
-faults_ordered place s (raw_or p q) from to (m, left, right) = joined _ (8 * m) _ (faults place s p) _ (faults_ordered place s p from m left) (faults_ordered place (after s p) q m to right)
-faults_ordered place s (raw_implies p q) from to (m, left, right) = joined _ (8 * m) _ (faults place s p) _ (faults_ordered place s p from m left) (faults_ordered place (after s p) q m to right)
-faults_ordered place s (raw_iff p q) from to (m, left, right) = joined _ (8 * m) _ (faults place s p) _ (faults_ordered place s p from m left) (faults_ordered place (after s p) q m to right)
-faults_ordered place s (raw_forall name sort p) from to within = then_later from name.at to (variable_faults s name) _ within.0 (variable_ordered s name) (faults_ordered place (bound s name sort) p (name.at + 1) to within.1)
-faults_ordered place s (raw_exists name sort p) from to within = then_later from name.at to (variable_faults s name) _ within.0 (variable_ordered s name) (faults_ordered place (bound s name sort) p (name.at + 1) to within.1)
+faults_ordered place s (raw_two k p q) from to (m, left, right) = joined _ (8 * m) _ (faults place s p) _ (faults_ordered place s p from m left) (faults_ordered place (after s p) q m to right)
+faults_ordered place s (raw_bind which name sort p) from to within = then_later from name.at to (variable_faults s name) _ within.0 (variable_ordered s name) (faults_ordered place (bound s name sort) p (name.at + 1) to within.1)
 
 -- ---- the first is the least
 

@@ -3,7 +3,7 @@ use Rattle.std.proofs.Common.{◌≡◌, ℕ, ◌+◌, Bool, true, false, List, 
 use Rattle.csdn_core.specs.declared.terms.Term.TheVariants.{Var, Const}
 use Rattle.csdn_core.specs.declared.program.Constant.{Constant}
 use Rattle.csdn_core.specs.Numerals as core
-use Rattle.csdn_core.proofs.Shapes.{Not-is, And-is, Or-is, Implies-is, Iff-is, Forall-is, Exists-is, Seq-is, If-is, Pick-is}
+use Rattle.csdn_core.proofs.Shapes.{Not-is, Seq-is, If-is, Pick-is}
 use Rattle.csdn_tree.specs.declared.names.RawTerm.{RawTerm}
 use Rattle.csdn_tree.specs.declared.names.RawTerm.TheVariants.{Name, Port}
 use Rattle.csdn_tree.specs.declared.syntax.RawFlow.{RawFlow}
@@ -16,14 +16,15 @@ use Rattle.csdn_tree.specs.declared.syntax.RawRow.{RawRow}
 use Rattle.csdn_tree.specs.declared.syntax.RawPattern.{RawPattern}
 use Rattle.csdn_tree.specs.declared.syntax.RawPattern.TheVariants.{Any as AnyPort, Port as OnePort}
 use Rattle.csdn_tree.specs.declared.syntax.RawHandler.{RawHandler}
-use Rattle.csdn_tree.specs.RawTree.{raw_not, raw_and, raw_or, raw_implies, raw_iff, raw_forall, raw_exists, raw_seq, raw_if, raw_pick}
+use Rattle.csdn_tree.specs.RawTree.{raw_not, raw_two, raw_bind, raw_seq, raw_if, raw_pick}
 use Rattle.csdn_tree.specs.Binders.{binders, command_binders}
 use Rattle.csdn_tree.specs.Numerals.{term_numerals, terms_numerals, flow_numerals, formula_numerals, command_numerals, port_numerals, rows_numerals}
 use Rattle.csdn_types.specs.declared.scope.SortedTerm.{SortedTerm}
 use Rattle.csdn_types.specs.declared.scope.Variable.{Variable}
 use Rattle.csdn_core.specs.declared.terms.RelId.{RelId}
 use Rattle.csdn_types.specs.Scope.{Scope, variable_named, constant_at, constant_named, or_else, bound}
-use Rattle.csdn_types.specs.Typed.{known_term, term_of, terms_of, flow_of, packet_of, typed, after}
+use Rattle.csdn_types.specs.Typed.{known_term, term_of, terms_of, flow_of, packet_of, typed, after, next_var}
+use Rattle.csdn_types.proofs.Twins.{joined_by, quantified_by}
 use Rattle.csdn_types.specs.Commands.{command_typed, later}
 use Rattle.csdn_types.specs.Items.{port_of, row_of, handler_of, inside}
 
@@ -76,12 +77,12 @@ kept-formula s (f.Same t u) = ap₂ (λ xs ys. xs ++ ys) (kept-term s t) (kept-t
 kept-formula s (f.Flow at word w) = kept-flow s w
 kept-formula s (f.RcvThis at w) = kept-packet s w
 kept-formula s (raw_not p) = rw Not-is (kept-formula s p)
-kept-formula s (raw_and p q) = rw And-is (ap₂ (λ xs ys. xs ++ ys) (kept-formula s p) (kept-formula (after s p) q))
-kept-formula s (raw_or p q) = rw Or-is (ap₂ (λ xs ys. xs ++ ys) (kept-formula s p) (kept-formula (after s p) q))
-kept-formula s (raw_implies p q) = rw Implies-is (ap₂ (λ xs ys. xs ++ ys) (kept-formula s p) (kept-formula (after s p) q))
-kept-formula s (raw_iff p q) = rw Iff-is (ap₂ (λ xs ys. xs ++ ys) (kept-formula s p) (kept-formula (after s p) q))
-kept-formula s (raw_forall name sort p) = rw Forall-is (kept-formula (bound s name sort) p)
-kept-formula s (raw_exists name sort p) = rw Exists-is (kept-formula (bound s name sort) p)
+kept-formula s (raw_two k p q) =
+    let whole = ap₂ (λ xs ys. xs ++ ys) (kept-formula s p) (kept-formula (after s p) q) in
+    joined_by (λ r. core.formula_numerals r ≡ formula_numerals p ++ formula_numerals q) k (typed s p) (typed (after s p) q) whole whole whole whole
+kept-formula s (raw_bind which name sort p) =
+    let whole = kept-formula (bound s name sort) p in
+    quantified_by (λ r. core.formula_numerals r ≡ formula_numerals p) which (next_var s) sort (typed (bound s name sort) p) whole whole
 
 three : {ks ls ms ks' ls' ms' : List ℕ} → ks ≡ ks' → ls ≡ ls' → ms ≡ ms' → ks ++ (ls ++ ms) ≡ ks' ++ (ls' ++ ms')
 three h j k = ap₂ (λ xs ys. xs ++ ys) h (ap₂ (λ xs ys. xs ++ ys) j k)

@@ -10,7 +10,7 @@ use Rattle.csdn_tree.specs.declared.syntax.RawFormula.{RawFormula}
 use Rattle.csdn_tree.specs.declared.syntax.RawFormula.TheVariants as f
 use Rattle.csdn_tree.specs.declared.syntax.RawCommand.{RawCommand}
 use Rattle.csdn_tree.specs.declared.syntax.RawCommand.TheVariants as c
-use Rattle.csdn_tree.specs.RawTree.{raw_not, raw_and, raw_or, raw_implies, raw_iff, raw_forall, raw_exists, raw_seq, raw_if, raw_pick}
+use Rattle.csdn_tree.specs.RawTree.{raw_not, raw_two, raw_bind, raw_seq, raw_if, raw_pick}
 use Rattle.csdn_tree.specs.Numerals.{term_numerals, terms_numerals, flow_numerals, formula_numerals, command_numerals}
 use Rattle.csdn_types.specs.Signed.{HasNumeral, HaveNumerals, FormulaNumerals, CommandNumerals}
 
@@ -73,12 +73,8 @@ module _ (S : Signature) where
   formula_named (f.Flow at word w) h = flow_named w h
   formula_named (f.RcvThis at w) h = packet_named w h
   formula_named (raw_not p) h = formula_named p h
-  formula_named (raw_and p q) h = (formula_named p (left (formula_numerals p) (formula_numerals q) h), formula_named q (right (formula_numerals p) (formula_numerals q) h))
-  formula_named (raw_or p q) h = (formula_named p (left (formula_numerals p) (formula_numerals q) h), formula_named q (right (formula_numerals p) (formula_numerals q) h))
-  formula_named (raw_implies p q) h = (formula_named p (left (formula_numerals p) (formula_numerals q) h), formula_named q (right (formula_numerals p) (formula_numerals q) h))
-  formula_named (raw_iff p q) h = (formula_named p (left (formula_numerals p) (formula_numerals q) h), formula_named q (right (formula_numerals p) (formula_numerals q) h))
-  formula_named (raw_forall name sort p) h = formula_named p h
-  formula_named (raw_exists name sort p) h = formula_named p h
+  formula_named (raw_two k p q) h = (formula_named p (left (formula_numerals p) (formula_numerals q) h), formula_named q (right (formula_numerals p) (formula_numerals q) h))
+  formula_named (raw_bind which name sort p) h = formula_named p h
 
   pub command_named : (x : RawCommand) → Named (command_numerals x) → CommandNumerals S x
   unfolding command_numerals CommandNumerals

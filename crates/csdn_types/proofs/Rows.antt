@@ -4,12 +4,13 @@ use Rattle.csdn_core.specs.declared.terms.Sort.TheVariants.{Sw, Ho}
 use Rattle.csdn_tree.specs.declared.names.RawName.{RawName}
 use Rattle.csdn_tree.specs.declared.names.RawTerm.TheVariants.{Name}
 use Rattle.csdn_types.specs.declared.refusal.SortRefusal.TheVariants.{Duplicate, WrongArity, WrongSort, NotAllowed}
+use Rattle.csdn_tree.specs.declared.syntax.Quantifier.TheVariants.{All}
 use Rattle.csdn_tree.specs.declared.syntax.RawFormula.TheVariants as f
 use Rattle.csdn_tree.specs.declared.syntax.RawItem.{RawItem}
 use Rattle.csdn_tree.specs.declared.syntax.RawProgram.{RawProgram}
 use Rattle.csdn_tree.specs.declared.syntax.RawItem.TheVariants.{Relation, Invariant}
 use Rattle.csdn_tree.specs.declared.syntax.InvariantKind.TheVariants.{Topology, Safety}
-use Rattle.csdn_tree.specs.RawTree.{raw_not, raw_forall}
+use Rattle.csdn_tree.specs.RawTree.{raw_not, raw_bind}
 use Rattle.csdn_types.specs.Faults.{faults, terms_faults}
 use Rattle.csdn_types.specs.Items.{rows_faults}
 use Rattle.csdn_types.specs.Programs.{items_faults}
@@ -30,11 +31,11 @@ abbrev unary : RawItem
 unary = Relation (record { name = name 4 114; sorts = Ho ∷ []; fixed = false; rows = [] })
 
 -- `rel r(HO); topology A: forall X:SW. not r(X);`: the relation and the term break a rule
-sorts_and_places : broken_rules (program (unary ∷ Invariant Topology (name 20 65) (raw_forall (name 30 88) Sw (raw_not (f.Atom (name 40 114) (Name (name 42 88) ∷ [])))) ∷ [])) ≡ NotAllowed 40 ∷ WrongSort 42 ∷ []
+sorts_and_places : broken_rules (program (unary ∷ Invariant Topology (name 20 65) (raw_bind All (name 30 88) Sw (raw_not (f.Atom (name 40 114) (Name (name 42 88) ∷ [])))) ∷ [])) ≡ NotAllowed 40 ∷ WrongSort 42 ∷ []
 unfolding items_faults rows_faults faults terms_faults
 sorts_and_places = refl
 
 -- `rel r(HO); safety A: forall X:HO. r(X, Y);`
-arity : broken_rules (program (unary ∷ Invariant Safety (name 20 65) (raw_forall (name 30 88) Ho (f.Atom (name 40 114) (Name (name 42 88) ∷ Name (name 45 89) ∷ []))) ∷ [])) ≡ WrongArity 40 ∷ []
+arity : broken_rules (program (unary ∷ Invariant Safety (name 20 65) (raw_bind All (name 30 88) Ho (f.Atom (name 40 114) (Name (name 42 88) ∷ Name (name 45 89) ∷ []))) ∷ [])) ≡ WrongArity 40 ∷ []
 unfolding items_faults rows_faults faults terms_faults
 arity = refl

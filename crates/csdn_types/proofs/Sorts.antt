@@ -17,6 +17,7 @@ use Rattle.csdn_core.specs.declared.program.Constant.{Constant}
 use Rattle.csdn_core.specs.Sorted.{Signature, IsAllowed, sorts_of, flow_sorts, packet_sorts, most_variables}
 use Rattle.csdn_core.specs.SortedIn.{Scope as SortedScope, no_scope, with_sort, HasSortIn, HaveSortsIn, IsAtomIn, IsSortedIn}
 use Rattle.csdn_core.specs.Depth.{depth}
+use Rattle.csdn_core.specs.Tree.{universal}
 use Rattle.csdn_core.proofs.Scopes.{AreInScope, AreInScope-more, still_none}
 use Rattle.csdn_types.specs.Commands.{later}
 use Rattle.csdn_tree.specs.declared.names.RawName.{RawName}
@@ -33,16 +34,17 @@ use Rattle.std.proofs.lemmas.Bool.Decides.{nat_tests}
 use Rattle.csdn_types.specs.Scope.{relation_named, bound}
 use Rattle.csdn_types.specs.Typed.{known_term, term_of, terms_of, typed, after, stored, pred_of, flow_of, packet_of, next_var}
 use Rattle.csdn_tree.specs.Binders.{binders}
+use Rattle.csdn_types.proofs.Twins.{joined_by, quantified_by}
 use Rattle.csdn_types.specs.Signed.{bind_of, IsPart, IsScopeOf, HasNumeral, HaveNumerals, FormulaNumerals, counted}
 use Rattle.csdn_core.specs.Sorted.{bound_in}
-use Rattle.csdn_core.proofs.Shapes.{Not-is, And-is, Or-is, Implies-is, Iff-is, Forall-is, Exists-is}
+use Rattle.csdn_core.proofs.Shapes.{Not-is}
 use Rattle.csdn_tree.specs.declared.syntax.RawFormula.{RawFormula}
 use Rattle.csdn_tree.specs.declared.syntax.RawFormula.TheVariants as f
 use Rattle.csdn_tree.specs.declared.syntax.FlowWord.{FlowWord}
 use Rattle.csdn_tree.specs.declared.syntax.FlowWord.TheVariants.{Ft, Sent}
 use Rattle.csdn_tree.specs.declared.syntax.RawFlow.{RawFlow}
 use Rattle.csdn_tree.specs.declared.syntax.RawPacket.{RawPacket}
-use Rattle.csdn_tree.specs.RawTree.{raw_not, raw_and, raw_or, raw_implies, raw_iff, raw_forall, raw_exists}
+use Rattle.csdn_tree.specs.RawTree.{raw_not, raw_two, raw_bind}
 use Rattle.csdn_core.specs.declared.syntax.Formula.{Formula}
 use Rattle.csdn_tree.specs.Places.{place as place_of}
 
@@ -274,18 +276,16 @@ typed_is_sorted S place s Γ (f.RcvThis at w) part scope numerals free =
     let rest = free_right (term_faults s Sw (Name w.switch)) (outside ++ packet_faults s w) free in
     ((record { sorts = packet_sorts; declared = refl; terms = packet_have s S Γ part scope w numerals (free_left (term_faults s Sw (Name w.switch)) _ free) (free_right outside (packet_faults s w) rest) }, packet_allowed S place (fault_free (packet_is_outside place) (NotAllowed at) (free_left outside (packet_faults s w) rest))), none_bound s Γ scope)
 typed_is_sorted S place s Γ (raw_not p) part scope numerals free = rw Not-is (typed_is_sorted S place s Γ p part scope numerals free)
-typed_is_sorted S place s Γ (raw_and p q) part scope numerals free = rw And-is (both (length s.variables) (depth (typed s p)) (depth (typed (after s p) q)) (typed_is_sorted S place s Γ p part scope numerals.0 (free_left (faults place s p) _ free)) (typed_is_sorted S place (after s p) Γ q (part_after s S p part) (scope_later s Γ (binders p) scope) numerals.1 (free_right (faults place s p) _ free)))
-typed_is_sorted S place s Γ (raw_or p q) part scope numerals free = rw Or-is (both (length s.variables) (depth (typed s p)) (depth (typed (after s p) q)) (typed_is_sorted S place s Γ p part scope numerals.0 (free_left (faults place s p) _ free)) (typed_is_sorted S place (after s p) Γ q (part_after s S p part) (scope_later s Γ (binders p) scope) numerals.1 (free_right (faults place s p) _ free)))
-typed_is_sorted S place s Γ (raw_implies p q) part scope numerals free = rw Implies-is (both (length s.variables) (depth (typed s p)) (depth (typed (after s p) q)) (typed_is_sorted S place s Γ p part scope numerals.0 (free_left (faults place s p) _ free)) (typed_is_sorted S place (after s p) Γ q (part_after s S p part) (scope_later s Γ (binders p) scope) numerals.1 (free_right (faults place s p) _ free)))
-typed_is_sorted S place s Γ (raw_iff p q) part scope numerals free = rw Iff-is (both (length s.variables) (depth (typed s p)) (depth (typed (after s p) q)) (typed_is_sorted S place s Γ p part scope numerals.0 (free_left (faults place s p) _ free)) (typed_is_sorted S place (after s p) Γ q (part_after s S p part) (scope_later s Γ (binders p) scope) numerals.1 (free_right (faults place s p) _ free)))
-typed_is_sorted S place s Γ (raw_forall name sort p) part scope numerals free =
+typed_is_sorted S place s Γ (raw_two k p q) part scope numerals free =
+    let left = typed_is_sorted S place s Γ p part scope numerals.0 (free_left (faults place s p) _ free) in
+    let right = typed_is_sorted S place (after s p) Γ q (part_after s S p part) (scope_later s Γ (binders p) scope) numerals.1 (free_right (faults place s p) _ free) in
+    let whole = both (length s.variables) (depth (typed s p)) (depth (typed (after s p) q)) left right in
+    joined_by (Fits S place s Γ) k (typed s p) (typed (after s p) q) whole whole whole whole
+typed_is_sorted S place s Γ (raw_bind which name sort p) part scope numerals free =
     let room = room_left s name (free_left (variable_faults s name) _ free) in
     let body = typed_is_sorted S place (bound s name sort) (with_sort Γ (next_var s) sort) p (part_bound s S name sort part) (scope_bound s Γ name sort room scope) numerals (free_right (variable_faults s name) _ free) in
-    rw Forall-is (body.0, pushed s name sort (depth (typed (bound s name sort) p)) body.1)
-typed_is_sorted S place s Γ (raw_exists name sort p) part scope numerals free =
-    let room = room_left s name (free_left (variable_faults s name) _ free) in
-    let body = typed_is_sorted S place (bound s name sort) (with_sort Γ (next_var s) sort) p (part_bound s S name sort part) (scope_bound s Γ name sort room scope) numerals (free_right (variable_faults s name) _ free) in
-    rw Exists-is (body.0, pushed s name sort (depth (typed (bound s name sort) p)) body.1)
+    let whole : Fits S place s Γ (universal (next_var s) sort (typed (bound s name sort) p)) = (body.0, pushed s name sort (depth (typed (bound s name sort) p)) body.1) in
+    quantified_by (Fits S place s Γ) which (next_var s) sort (typed (bound s name sort) p) whole whole
 
 -- ---- numbers
 
@@ -311,9 +311,9 @@ bound_in-typed s (f.Same t u) = refl
 bound_in-typed s (f.Flow at word w) = refl
 bound_in-typed s (f.RcvThis at w) = refl
 bound_in-typed s (raw_not p) = rw Not-is (bound_in-typed s p)
-bound_in-typed s (raw_and p q) = rw (And-is, bound_in-typed s p, bound_in-typed (after s p) q) (counted-add s.next (binders p) (binders q))
-bound_in-typed s (raw_or p q) = rw (Or-is, bound_in-typed s p, bound_in-typed (after s p) q) (counted-add s.next (binders p) (binders q))
-bound_in-typed s (raw_implies p q) = rw (Implies-is, bound_in-typed s p, bound_in-typed (after s p) q) (counted-add s.next (binders p) (binders q))
-bound_in-typed s (raw_iff p q) = rw (Iff-is, bound_in-typed s p, bound_in-typed (after s p) q) (counted-add s.next (binders p) (binders q))
-bound_in-typed s (raw_forall name sort p) = rw (Forall-is, bound_in-typed (bound s name sort) p) (counted-next s.next (binders p))
-bound_in-typed s (raw_exists name sort p) = rw (Exists-is, bound_in-typed (bound s name sort) p) (counted-next s.next (binders p))
+bound_in-typed s (raw_two k p q) =
+    let whole : bound_in (typed s p) ++ bound_in (typed (after s p) q) ≡ counted s.next (binders p + binders q) = rw (bound_in-typed s p, bound_in-typed (after s p) q) (counted-add s.next (binders p) (binders q)) in
+    joined_by (λ r. bound_in r ≡ counted s.next (binders p + binders q)) k (typed s p) (typed (after s p) q) whole whole whole whole
+bound_in-typed s (raw_bind which name sort p) =
+    let whole : s.next ∷ bound_in (typed (bound s name sort) p) ≡ counted s.next (1 + binders p) = rw (bound_in-typed (bound s name sort) p) (counted-next s.next (binders p)) in
+    quantified_by (λ r. bound_in r ≡ counted s.next (1 + binders p)) which (next_var s) sort (typed (bound s name sort) p) whole whole

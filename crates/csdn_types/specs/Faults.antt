@@ -18,7 +18,7 @@ use Rattle.csdn_tree.specs.declared.syntax.RawFlow.{RawFlow}
 use Rattle.csdn_tree.specs.declared.syntax.RawPacket.{RawPacket}
 use Rattle.csdn_tree.specs.declared.syntax.RawFormula.{RawFormula}
 use Rattle.csdn_tree.specs.declared.syntax.RawFormula.TheVariants as f
-use Rattle.csdn_tree.specs.RawTree.{raw_not, raw_and, raw_or, raw_implies, raw_iff, raw_forall, raw_exists}
+use Rattle.csdn_tree.specs.RawTree.{raw_not, raw_two, raw_bind}
 use Rattle.csdn_tree.specs.Places.{place as place_of}
 use Rattle.csdn_types.specs.declared.scope.SortedTerm.{SortedTerm}
 use Rattle.csdn_types.specs.declared.terms.Use.{Use}
@@ -117,9 +117,5 @@ faults place s (f.Same t u) = same_faults s t u
 faults place s (f.Flow at word w) = term_faults s Sw (Name w.switch) ++ (fault_if (word_is_outside place word) (NotAllowed at) ++ flow_faults s w)
 faults place s (f.RcvThis at w) = term_faults s Sw (Name w.switch) ++ (fault_if (packet_is_outside place) (NotAllowed at) ++ packet_faults s w)
 faults place s (raw_not p) = faults place s p
-faults place s (raw_and p q) = faults place s p ++ faults place (after s p) q
-faults place s (raw_or p q) = faults place s p ++ faults place (after s p) q
-faults place s (raw_implies p q) = faults place s p ++ faults place (after s p) q
-faults place s (raw_iff p q) = faults place s p ++ faults place (after s p) q
-faults place s (raw_forall name sort p) = variable_faults s name ++ faults place (bound s name sort) p
-faults place s (raw_exists name sort p) = variable_faults s name ++ faults place (bound s name sort) p
+faults place s (raw_two k p q) = faults place s p ++ faults place (after s p) q
+faults place s (raw_bind which name sort p) = variable_faults s name ++ faults place (bound s name sort) p

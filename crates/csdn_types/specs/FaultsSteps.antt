@@ -6,12 +6,14 @@ use Rattle.csdn_core.specs.declared.terms.Sort.TheVariants.{Sw}
 use Rattle.csdn_tree.specs.declared.names.RawName.{RawName}
 use Rattle.csdn_tree.specs.declared.names.RawTerm.{RawTerm}
 use Rattle.csdn_tree.specs.declared.names.RawTerm.TheVariants.{Name}
+use Rattle.csdn_tree.specs.declared.syntax.Connective.{Connective}
+use Rattle.csdn_tree.specs.declared.syntax.Quantifier.{Quantifier}
 use Rattle.csdn_tree.specs.declared.syntax.FlowWord.{FlowWord}
 use Rattle.csdn_tree.specs.declared.syntax.RawFlow.{RawFlow}
 use Rattle.csdn_tree.specs.declared.syntax.RawPacket.{RawPacket}
 use Rattle.csdn_tree.specs.declared.syntax.RawFormula.{RawFormula}
 use Rattle.csdn_tree.specs.declared.syntax.RawFormula.TheVariants as f
-use Rattle.csdn_tree.specs.RawTree.{Not-is, And-is, Or-is, Implies-is, Iff-is, Forall-is, Exists-is}
+use Rattle.csdn_tree.specs.RawTree.{Not-is, Two-is, Bind-is}
 use Rattle.csdn_types.specs.declared.refusal.SortRefusal.TheVariants.{NotAllowed}
 use Rattle.csdn_types.specs.declared.terms.Use.TheVariants.{InFormula}
 use Rattle.csdn_types.specs.Scope.{Scope, bound}
@@ -46,28 +48,12 @@ pub faults-Not : (place : FormulaPlace) (s : Scope) (p : RawFormula) → faults 
 unfolding faults
 faults-Not place s p = rw Not-is
 
-pub faults-And : (place : FormulaPlace) (s : Scope) (p q : RawFormula) → faults place s (f.And p q) ≡ faults place s p ++ faults place (after s p) q
+pub faults-Two : (place : FormulaPlace) (s : Scope) (k : Connective) (p q : RawFormula) → faults place s (f.Two k p q) ≡ faults place s p ++ faults place (after s p) q
 unfolding faults
-faults-And place s p q = rw And-is
+faults-Two place s k p q = rw Two-is
 
-pub faults-Or : (place : FormulaPlace) (s : Scope) (p q : RawFormula) → faults place s (f.Or p q) ≡ faults place s p ++ faults place (after s p) q
+pub faults-Bind : (place : FormulaPlace) (s : Scope) (which : Quantifier) (name : RawName) (sort : Sort) (p : RawFormula) → faults place s (f.Bind which name sort p) ≡ variable_faults s name ++ faults place (bound s name sort) p
 unfolding faults
-faults-Or place s p q = rw Or-is
+faults-Bind place s which name sort p = rw Bind-is
 
-pub faults-Implies : (place : FormulaPlace) (s : Scope) (p q : RawFormula) → faults place s (f.Implies p q) ≡ faults place s p ++ faults place (after s p) q
-unfolding faults
-faults-Implies place s p q = rw Implies-is
-
-pub faults-Iff : (place : FormulaPlace) (s : Scope) (p q : RawFormula) → faults place s (f.Iff p q) ≡ faults place s p ++ faults place (after s p) q
-unfolding faults
-faults-Iff place s p q = rw Iff-is
-
-pub faults-Forall : (place : FormulaPlace) (s : Scope) (name : RawName) (sort : Sort) (p : RawFormula) → faults place s (f.Forall name sort p) ≡ variable_faults s name ++ faults place (bound s name sort) p
-unfolding faults
-faults-Forall place s name sort p = rw Forall-is
-
-pub faults-Exists : (place : FormulaPlace) (s : Scope) (name : RawName) (sort : Sort) (p : RawFormula) → faults place s (f.Exists name sort p) ≡ variable_faults s name ++ faults place (bound s name sort) p
-unfolding faults
-faults-Exists place s name sort p = rw Exists-is
-
-pub ruleset faults_steps = (faults-True, faults-False, faults-Atom, faults-Same, faults-Flow, faults-RcvThis, faults-Not, faults-And, faults-Or, faults-Implies, faults-Iff, faults-Forall, faults-Exists)
+pub ruleset faults_steps = (faults-True, faults-False, faults-Atom, faults-Same, faults-Flow, faults-RcvThis, faults-Not, faults-Two, faults-Bind)

@@ -10,7 +10,7 @@ use Rattle.csdn_tree.specs.declared.syntax.RawFormula.{RawFormula}
 use Rattle.csdn_tree.specs.declared.syntax.RawFormula.TheVariants as f
 use Rattle.csdn_tree.specs.declared.syntax.RawCommand.{RawCommand}
 use Rattle.csdn_tree.specs.declared.syntax.RawCommand.TheVariants as c
-use Rattle.csdn_tree.specs.RawTree.{raw_seq, raw_if, raw_pick, raw_not, raw_and, raw_or, raw_implies, raw_iff, raw_forall, raw_exists}
+use Rattle.csdn_tree.specs.RawTree.{raw_seq, raw_if, raw_pick, raw_not, raw_two, raw_bind}
 use Rattle.csdn_types.specs.declared.scope.Variable.{Variable}
 use Rattle.csdn_core.specs.WellSorted.{OwnPacket}
 use Rattle.csdn_types.specs.declared.own.OwnTerms.{OwnTerms}
@@ -52,12 +52,8 @@ FormulaNumerals S (f.Same t u) = HasNumeral S t × HasNumeral S u
 FormulaNumerals S (f.Flow at word w) = HaveNumerals S (Name w.switch ∷ w.source ∷ w.target ∷ w.ingress ∷ w.egress ∷ [])
 FormulaNumerals S (f.RcvThis at w) = HaveNumerals S (Name w.switch ∷ w.source ∷ w.target ∷ w.ingress ∷ [])
 FormulaNumerals S (raw_not p) = FormulaNumerals S p
-FormulaNumerals S (raw_and p q) = FormulaNumerals S p × FormulaNumerals S q
-FormulaNumerals S (raw_or p q) = FormulaNumerals S p × FormulaNumerals S q
-FormulaNumerals S (raw_implies p q) = FormulaNumerals S p × FormulaNumerals S q
-FormulaNumerals S (raw_iff p q) = FormulaNumerals S p × FormulaNumerals S q
-FormulaNumerals S (raw_forall name sort p) = FormulaNumerals S p
-FormulaNumerals S (raw_exists name sort p) = FormulaNumerals S p
+FormulaNumerals S (raw_two k p q) = FormulaNumerals S p × FormulaNumerals S q
+FormulaNumerals S (raw_bind which name sort p) = FormulaNumerals S p
 
 unfoldable pub CommandNumerals : Signature → RawCommand → Type 0
 CommandNumerals S c.Skip = Unit {0}

@@ -1,5 +1,6 @@
 -- What stands for a tree that breaks no rule.
 use Rattle.std.specs.Prelude.{ℕ, ◌+◌, List, [], ◌∷◌, map, Option, Some, None, unwrap_or}
+use Rattle.csdn_core.specs.declared.terms.Sort.{Sort}
 use Rattle.csdn_core.specs.declared.terms.VarId.{VarId}
 use Rattle.csdn_core.specs.declared.terms.Term.{Term}
 use Rattle.csdn_core.specs.declared.terms.Term.TheVariants.{Var}
@@ -10,13 +11,17 @@ use Rattle.csdn_core.specs.declared.syntax.Formula.TheVariants as formula
 use Rattle.csdn_tree.specs.Binders.{binders}
 use Rattle.csdn_tree.specs.declared.names.RawTerm.TheVariants.{Name}
 use Rattle.csdn_tree.specs.declared.names.RawTerm.{RawTerm}
+use Rattle.csdn_tree.specs.declared.syntax.Connective.{Connective}
+use Rattle.csdn_tree.specs.declared.syntax.Connective.TheVariants as k
+use Rattle.csdn_tree.specs.declared.syntax.Quantifier.{Quantifier}
+use Rattle.csdn_tree.specs.declared.syntax.Quantifier.TheVariants as q
 use Rattle.csdn_tree.specs.declared.syntax.FlowWord.{FlowWord}
 use Rattle.csdn_tree.specs.declared.syntax.FlowWord.TheVariants.{Ft, Sent}
 use Rattle.csdn_tree.specs.declared.syntax.RawFlow.{RawFlow}
 use Rattle.csdn_tree.specs.declared.syntax.RawPacket.{RawPacket}
 use Rattle.csdn_tree.specs.declared.syntax.RawFormula.{RawFormula}
 use Rattle.csdn_tree.specs.declared.syntax.RawFormula.TheVariants as f
-use Rattle.csdn_tree.specs.RawTree.{raw_not, raw_and, raw_or, raw_implies, raw_iff, raw_forall, raw_exists}
+use Rattle.csdn_tree.specs.RawTree.{raw_not, raw_two, raw_bind}
 use Rattle.csdn_types.specs.declared.scope.SortedTerm.{SortedTerm}
 use Rattle.csdn_types.specs.Scope.{Scope, relation_named, meaning, bound}
 
@@ -51,6 +56,18 @@ packet_of s w = term_of s w.source ∷ term_of s w.target ∷ term_of s w.ingres
 abbrev pub next_var : Scope → VarId
 next_var s = record { 0 = s.next }
 
+-- two formulas with a word between them
+abbrev pub joined : Connective → Formula → Formula → Formula
+joined k.And p q = formula.And p q
+joined k.Or p q = formula.Or p q
+joined k.Implies p q = formula.Implies p q
+joined k.Iff p q = formula.Iff p q
+
+-- a formula under a variable
+abbrev pub quantified : Quantifier → VarId → Sort → Formula → Formula
+quantified q.All x sort p = formula.Forall x sort p
+quantified q.Some x sort p = formula.Exists x sort p
+
 unfoldable pub typed : Scope → RawFormula → Formula
 typed s f.True = formula.True
 typed s f.False = formula.False
@@ -59,9 +76,5 @@ typed s (f.Same u v) = formula.Same (term_of s u) (term_of s v)
 typed s (f.Flow at word w) = formula.Atom (pred_of word) (term_of s (Name w.switch) ∷ flow_of s w)
 typed s (f.RcvThis at w) = formula.Atom pred.RcvThis (term_of s (Name w.switch) ∷ packet_of s w)
 typed s (raw_not p) = formula.Not (typed s p)
-typed s (raw_and p q) = formula.And (typed s p) (typed (after s p) q)
-typed s (raw_or p q) = formula.Or (typed s p) (typed (after s p) q)
-typed s (raw_implies p q) = formula.Implies (typed s p) (typed (after s p) q)
-typed s (raw_iff p q) = formula.Iff (typed s p) (typed (after s p) q)
-typed s (raw_forall name sort p) = formula.Forall (next_var s) sort (typed (bound s name sort) p)
-typed s (raw_exists name sort p) = formula.Exists (next_var s) sort (typed (bound s name sort) p)
+typed s (raw_two k p q) = joined k (typed s p) (typed (after s p) q)
+typed s (raw_bind which name sort p) = quantified which (next_var s) sort (typed (bound s name sort) p)

@@ -6,14 +6,16 @@ use Rattle.csdn_core.specs.declared.syntax.Formula.TheVariants as formula
 use Rattle.csdn_tree.specs.declared.names.RawName.{RawName}
 use Rattle.csdn_tree.specs.declared.names.RawTerm.{RawTerm}
 use Rattle.csdn_tree.specs.declared.names.RawTerm.TheVariants.{Name}
+use Rattle.csdn_tree.specs.declared.syntax.Connective.{Connective}
+use Rattle.csdn_tree.specs.declared.syntax.Quantifier.{Quantifier}
 use Rattle.csdn_tree.specs.declared.syntax.FlowWord.{FlowWord}
 use Rattle.csdn_tree.specs.declared.syntax.RawFlow.{RawFlow}
 use Rattle.csdn_tree.specs.declared.syntax.RawPacket.{RawPacket}
 use Rattle.csdn_tree.specs.declared.syntax.RawFormula.{RawFormula}
 use Rattle.csdn_tree.specs.declared.syntax.RawFormula.TheVariants as f
-use Rattle.csdn_tree.specs.RawTree.{Not-is, And-is, Or-is, Implies-is, Iff-is, Forall-is, Exists-is}
+use Rattle.csdn_tree.specs.RawTree.{Not-is, Two-is, Bind-is}
 use Rattle.csdn_types.specs.Scope.{Scope, bound, relation_named}
-use Rattle.csdn_types.specs.Typed.{after, typed, stored, terms_of, term_of, pred_of, flow_of, packet_of, next_var}
+use Rattle.csdn_types.specs.Typed.{after, typed, joined, quantified, stored, terms_of, term_of, pred_of, flow_of, packet_of, next_var}
 
 pub typed-True : (s : Scope) → typed s f.True ≡ formula.True
 unfolding typed
@@ -43,28 +45,12 @@ pub typed-Not : (s : Scope) (p : RawFormula) → typed s (f.Not p) ≡ formula.N
 unfolding typed
 typed-Not s p = rw Not-is
 
-pub typed-And : (s : Scope) (p q : RawFormula) → typed s (f.And p q) ≡ formula.And (typed s p) (typed (after s p) q)
+pub typed-Two : (s : Scope) (k : Connective) (p q : RawFormula) → typed s (f.Two k p q) ≡ joined k (typed s p) (typed (after s p) q)
 unfolding typed
-typed-And s p q = rw And-is
+typed-Two s k p q = rw Two-is
 
-pub typed-Or : (s : Scope) (p q : RawFormula) → typed s (f.Or p q) ≡ formula.Or (typed s p) (typed (after s p) q)
+pub typed-Bind : (s : Scope) (which : Quantifier) (name : RawName) (sort : Sort) (p : RawFormula) → typed s (f.Bind which name sort p) ≡ quantified which (next_var s) sort (typed (bound s name sort) p)
 unfolding typed
-typed-Or s p q = rw Or-is
+typed-Bind s which name sort p = rw Bind-is
 
-pub typed-Implies : (s : Scope) (p q : RawFormula) → typed s (f.Implies p q) ≡ formula.Implies (typed s p) (typed (after s p) q)
-unfolding typed
-typed-Implies s p q = rw Implies-is
-
-pub typed-Iff : (s : Scope) (p q : RawFormula) → typed s (f.Iff p q) ≡ formula.Iff (typed s p) (typed (after s p) q)
-unfolding typed
-typed-Iff s p q = rw Iff-is
-
-pub typed-Forall : (s : Scope) (name : RawName) (sort : Sort) (p : RawFormula) → typed s (f.Forall name sort p) ≡ formula.Forall (next_var s) sort (typed (bound s name sort) p)
-unfolding typed
-typed-Forall s name sort p = rw Forall-is
-
-pub typed-Exists : (s : Scope) (name : RawName) (sort : Sort) (p : RawFormula) → typed s (f.Exists name sort p) ≡ formula.Exists (next_var s) sort (typed (bound s name sort) p)
-unfolding typed
-typed-Exists s name sort p = rw Exists-is
-
-pub ruleset typed_steps = (typed-True, typed-False, typed-Atom, typed-Same, typed-Flow, typed-RcvThis, typed-Not, typed-And, typed-Or, typed-Implies, typed-Iff, typed-Forall, typed-Exists)
+pub ruleset typed_steps = (typed-True, typed-False, typed-Atom, typed-Same, typed-Flow, typed-RcvThis, typed-Not, typed-Two, typed-Bind)

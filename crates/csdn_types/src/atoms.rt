@@ -22,15 +22,7 @@ use csdn_core::syntax::Formula;
 use csdn_core::terms::{FormulaPlace, MOST_VARIABLES, Pred, Sort, Term, Terms, VarId};
 use csdn_tree::names::RawName;
 use csdn_tree::syntax::{FlowWord, RawFlow, RawFormula, RawPacket};
-use sqlite_items::Boxed;
 use std::alloc::Global;
-
-/// A variable and what stands under its quantifier.
-#[derive(Drop)]
-pub struct Quantified {
-    pub var: VarId,
-    pub body: Boxed<Formula>,
-}
 
 /// Brings a name into scope, under the next number. Refused at its byte are, in order, a name that stands for a
 /// constant or a variable in scope (`Duplicate`), and any name where 24 variables are in scope already (`TooMany`).

@@ -4,19 +4,20 @@
 ghost use Rattle.std.specs.Prelude.{◌≡◌, ◌≤◌, ◌<◌, ◌+◌, ◌^◌, ◌++◌, OnOk};
 ghost use Rattle.csdn_types.specs.Answers.{Answers};
 ghost use Rattle.csdn_types.specs.Faults.{faults, variable_faults};
+ghost use Rattle.csdn_types.specs.Typed as spec;
 ghost use Rattle.csdn_types.specs.Typed.{after, typed, next_var};
 ghost use Rattle.csdn_tree.specs.Binders.{binders};
 ghost use Rattle.csdn_types.specs.Scope.{bound};
 ghost use Rattle.csdn_core.specs.Sorted.{most_numbers};
 
-use crate::atoms::{Quantified, bind, flow_atom, packet_atom};
+use crate::atoms::{bind, flow_atom, packet_atom};
 use crate::refusal::SortRefusal;
 use crate::scope::Scope;
 use crate::terms::{Use, same, used};
 use csdn_core::syntax::Formula;
 use csdn_core::terms::{FormulaPlace, Pred, Sort};
 use csdn_tree::names::RawName;
-use csdn_tree::syntax::RawFormula;
+use csdn_tree::syntax::{Connective, Quantifier, RawFormula};
 use sqlite_items::Boxed;
 use std::alloc::Global;
 
@@ -56,34 +57,27 @@ pub fn formula(
             let p = boxed(alloc, scope, place, p.get())?;
             Ok(Formula::Not(p))
         }
-        RawFormula::And(p, q) => {
+        RawFormula::Two(word, p, q) => {
             let p = boxed(alloc, scope, place, p.get())?;
             let q = boxed(alloc, scope, place, q.get())?;
-            Ok(Formula::And(p, q))
+            Ok(joined(*word, p, q))
         }
-        RawFormula::Or(p, q) => {
-            let p = boxed(alloc, scope, place, p.get())?;
-            let q = boxed(alloc, scope, place, q.get())?;
-            Ok(Formula::Or(p, q))
+        RawFormula::Bind(which, name, sort, p) => {
+            let whole = quantified(alloc, scope, place, *which, name, *sort, p.get())?;
+            Ok(whole)
         }
-        RawFormula::Implies(p, q) => {
-            let p = boxed(alloc, scope, place, p.get())?;
-            let q = boxed(alloc, scope, place, q.get())?;
-            Ok(Formula::Implies(p, q))
-        }
-        RawFormula::Iff(p, q) => {
-            let p = boxed(alloc, scope, place, p.get())?;
-            let q = boxed(alloc, scope, place, q.get())?;
-            Ok(Formula::Iff(p, q))
-        }
-        RawFormula::Forall(name, sort, p) => {
-            let part = quantified(alloc, scope, place, name, *sort, p.get())?;
-            Ok(Formula::Forall(part.var, *sort, part.body))
-        }
-        RawFormula::Exists(name, sort, p) => {
-            let part = quantified(alloc, scope, place, name, *sort, p.get())?;
-            Ok(Formula::Exists(part.var, *sort, part.body))
-        }
+    }
+}
+
+/// Two formulas with a word between them.
+fn joined(word: Connective, p: Boxed<Formula>, q: Boxed<Formula>) -> Formula
+    ensures { result ≡ spec.joined word p q }
+{
+    match word {
+        Connective::And => Formula::And(p, q),
+        Connective::Or => Formula::Or(p, q),
+        Connective::Implies => Formula::Implies(p, q),
+        Connective::Iff => Formula::Iff(p, q),
     }
 }
 
@@ -103,22 +97,26 @@ fn boxed(
     Ok(made)
 }
 
-/// A quantifier's variable and body.
+/// A formula under a variable.
 #[cycle(formula)]
 fn quantified(
     alloc: Global,
     scope: &mut Scope,
     place: FormulaPlace,
+    which: Quantifier,
     name: &RawName,
     sort: Sort,
     raw: &RawFormula,
-) -> Result<Quantified, SortRefusal>
+) -> Result<Formula, SortRefusal>
     requires { scope.old.next + (1 + binders raw.now) ≤ most_numbers }
-    ensures answers { Answers (variable_faults scope.old name.now ++ faults place (bound scope.old name.now sort) raw.now) (record { var = next_var scope.old; body = typed (bound scope.old name.now sort) raw.now }) result }
+    ensures answers { Answers (variable_faults scope.old name.now ++ faults place (bound scope.old name.now sort) raw.now) (spec.quantified which (next_var scope.old) sort (typed (bound scope.old name.now sort) raw.now)) result }
     ensures scope { OnOk result (scope.new ≡ record scope.old { next = scope.old.next + (1 + binders raw.now) }) }
 {
     let var = bind(alloc, scope, name, sort)?;
     let body = boxed(alloc, scope, place, raw)?;
     scope.leave();
-    Ok(Quantified { var, body })
+    match which {
+        Quantifier::All => Ok(Formula::Forall(var, sort, body)),
+        Quantifier::Some => Ok(Formula::Exists(var, sort, body)),
+    }
 }

@@ -104,31 +104,12 @@ impl Numerals {
                 self.formula(p.get())?;
                 Ok(())
             }
-            RawFormula::And(p, q) => {
+            RawFormula::Two(_, p, q) => {
                 self.formula(p.get())?;
                 self.formula(q.get())?;
                 Ok(())
             }
-            RawFormula::Or(p, q) => {
-                self.formula(p.get())?;
-                self.formula(q.get())?;
-                Ok(())
-            }
-            RawFormula::Implies(p, q) => {
-                self.formula(p.get())?;
-                self.formula(q.get())?;
-                Ok(())
-            }
-            RawFormula::Iff(p, q) => {
-                self.formula(p.get())?;
-                self.formula(q.get())?;
-                Ok(())
-            }
-            RawFormula::Forall(_, _, p) => {
-                self.formula(p.get())?;
-                Ok(())
-            }
-            RawFormula::Exists(_, _, p) => {
+            RawFormula::Bind(_, _, _, p) => {
                 self.formula(p.get())?;
                 Ok(())
             }
