@@ -5,28 +5,31 @@ use Rattle.csdn_core.specs.WellSorted.{IsNumeral}
 use Rattle.csdn_tree.specs.declared.names.RawName.{RawName}
 use Rattle.csdn_tree.specs.declared.names.RawTerm.{RawTerm}
 use Rattle.csdn_tree.specs.declared.names.RawTerm.TheVariants as t
+use Rattle.csdn_tree.specs.declared.syntax.Connective.{Connective}
+use Rattle.csdn_tree.specs.declared.syntax.Connective.TheVariants as word
+use Rattle.csdn_tree.specs.declared.syntax.Quantifier.{Quantifier}
 use Rattle.csdn_tree.specs.declared.syntax.RawFormula.{RawFormula}
 use Rattle.csdn_tree.specs.declared.syntax.RawFormula.TheVariants as f
 use Rattle.csdn_tree.specs.declared.syntax.RawCommand.{RawCommand}
 use Rattle.csdn_tree.specs.declared.syntax.RawCommand.TheVariants as c
 use Rattle.csdn_tree.specs.declared.syntax.RawItem.{RawItem}
-use Rattle.csdn_tree.specs.RawTree.{raw_not, raw_and, raw_or, raw_implies, raw_iff, raw_forall, raw_exists, Not-is, And-is, Or-is, Implies-is, Iff-is, Forall-is, Exists-is, Seq-is, If-is, Pick-is}
+use Rattle.csdn_tree.specs.RawTree.{raw_not, raw_two, raw_bind, Not-is, Two-is, Bind-is, Seq-is, If-is, Pick-is}
 use Rattle.csdn_text.specs.declared.parts.Action.{Action}
 use Rattle.csdn_text.specs.declared.parts.Action.TheVariants as a
 use Rattle.csdn_text.specs.declared.parts.AtomRest.{AtomRest}
 use Rattle.csdn_text.specs.declared.parts.AtomRest.TheVariants as r
 use Rattle.csdn_text.specs.declared.parts.FlowTerms.{FlowTerms}
 use Rattle.csdn_text.specs.declared.parts.PacketTerms.{PacketTerms}
-use Rattle.csdn_text.specs.declared.parts.Quantifier.{Quantifier}
-use Rattle.csdn_text.specs.declared.parts.Quantifier.TheVariants as q
-use Rattle.csdn_text.specs.Symbols.{Nonterminal, program, items, item, static_item, const_item, rel_item, invariant_item, invariant_kind, handler_item, handler_port, timeout_item, sorts, sort_list, more_sorts, sort, initial, rows, more_rows, row, terms, more_terms, name, term, port, formula, binds, more_binds, iff, iff_tail, implies, implies_tail, either, either_tail, both, both_tail, unary, atom, atom_rest, fact, flow, packet, block, commands, more_commands, command, branch, choice, otherwise, action, depth_of, Symbol, token, part, Value, Values, made, Rule}
-use Rattle.csdn_text.specs.Grammar.{joined, quantified, atom_of, command_of}
+use Rattle.csdn_tree.specs.declared.tiers.Tier.TheVariants.{Single, Joins}
+use Rattle.csdn_tree.specs.Tiers.{left_of, right_of}
+use Rattle.csdn_text.specs.Symbols.{Nonterminal, program, items, item, static_item, const_item, rel_item, invariant_item, invariant_kind, handler_item, handler_port, timeout_item, sorts, sort_list, more_sorts, sort, initial, rows, more_rows, row, terms, more_terms, name, term, port, formula, binds, more_binds, tier, tail, atom, atom_rest, fact, flow, packet, block, commands, more_commands, command, branch, choice, otherwise, action, depth_of, Symbol, token, part, Value, Values, made, Rule}
+use Rattle.csdn_text.specs.Grammar.{joined, atom_of, command_of}
 use Rattle.csdn_text.specs.Derives.{Mark, tokens_of, IsRule, Derives}
 use Rattle.csdn_text.specs.Derives.Derives.{nothing, one, by_rule}
 use Rattle.csdn_text.specs.Reading.{Within}
 use Rattle.csdn_text.proofs.Theory.{Within-front, Within-back}
 use Rattle.text_facts.proofs.Tokens.{IsFine, AreFine}
-use Rattle.csdn_print.specs.Formulas.{level}
+use Rattle.csdn_print.specs.Formulas.{tier_level, level}
 use Rattle.csdn_print.specs.Commands.{is_skip}
 use Rattle.csdn_print.proofs.Prints.{NamePrints, TermPrints, TermsPrint, inside, inside_least, Prints, is_single, CommandPrints, RowsPrint, PatternPrints, ItemPrints, ItemsPrint}
 
@@ -57,24 +60,13 @@ lower most d e (f.Same u v) le h = (omega (arith, le, h.0), h.1)
 lower most d e (f.Flow at word ts) le h = (omega (arith, le, h.0), h.1)
 lower most d e (f.RcvThis at ts) le h = (omega (arith, le, h.0), h.1)
 lower most d e (raw_not p) le h = lower most (inside 5 (level p) (d + 1)) (inside 5 (level p) (e + 1)) p (inside_mono 5 5 (level p) (e + 1) (d + 1) (omega arith) (omega (arith, le))) h
-lower most d e (raw_and p r) le h = (
-  lower most (inside 5 (level p) d) (inside 5 (level p) e) p (inside_mono 5 5 (level p) e d (omega arith) le) h.0,
-  lower most (inside 4 (level r) (d + 1)) (inside 4 (level r) (e + 1)) r (inside_mono 4 4 (level r) (e + 1) (d + 1) (omega arith) (omega (arith, le))) h.1,
-)
-lower most d e (raw_or p r) le h = (
-  lower most (inside 4 (level p) d) (inside 4 (level p) e) p (inside_mono 4 4 (level p) e d (omega arith) le) h.0,
-  lower most (inside 3 (level r) (d + 1)) (inside 3 (level r) (e + 1)) r (inside_mono 3 3 (level r) (e + 1) (d + 1) (omega arith) (omega (arith, le))) h.1,
-)
-lower most d e (raw_implies p r) le h = (
-  lower most (inside 3 (level p) d) (inside 3 (level p) e) p (inside_mono 3 3 (level p) e d (omega arith) le) h.0,
-  lower most (inside 2 (level r) (d + 1)) (inside 2 (level r) (e + 1)) r (inside_mono 2 2 (level r) (e + 1) (d + 1) (omega arith) (omega (arith, le))) h.1,
-)
-lower most d e (raw_iff p r) le h = (
-  lower most (inside 2 (level p) d) (inside 2 (level p) e) p (inside_mono 2 2 (level p) e d (omega arith) le) h.0,
-  lower most (inside 2 (level r) (d + 1)) (inside 2 (level r) (e + 1)) r (inside_mono 2 2 (level r) (e + 1) (d + 1) (omega arith) (omega (arith, le))) h.1,
-)
-lower most d e (raw_forall x s p) le h = (h.0, lower most (d + 1) (e + 1) p (omega (arith, le)) h.1)
-lower most d e (raw_exists x s p) le h = (h.0, lower most (d + 1) (e + 1) p (omega (arith, le)) h.1)
+lower most d e (raw_two word p r) le h =
+    let left = tier_level (left_of word) in
+    let right = tier_level (right_of word) in (
+      lower most (inside left (level p) d) (inside left (level p) e) p (inside_mono left left (level p) e d (omega arith) le) h.0,
+      lower most (inside right (level r) (d + 1)) (inside right (level r) (e + 1)) r (inside_mono right right (level r) (e + 1) (d + 1) (omega arith) (omega (arith, le))) h.1,
+    )
+lower most d e (raw_bind which x s p) le h = (h.0, lower most (d + 1) (e + 1) p (omega (arith, le)) h.1)
 
 -- ---- what the shapes of values keep
 
@@ -83,53 +75,35 @@ abbrev Tail : (most needed d : ℕ) → Option RawFormula → Type 0
 Tail most needed d None = Unit {0}
 Tail most needed d (Some p) = Prints most (inside needed (level p) (d + 1)) p
 
-and_prints : (most d : ℕ) (p r : RawFormula) → Prints most (inside 5 (level p) d) p → Prints most (inside 4 (level r) (d + 1)) r → Prints most (inside 4 (level (f.And p r)) d) (f.And p r)
+two_prints : (most d : ℕ) (word : Connective) (p r : RawFormula) → Prints most (inside (tier_level (left_of word)) (level p) d) p → Prints most (inside (tier_level (right_of word)) (level r) (d + 1)) r
+    → Prints most (inside (tier_level (Joins word)) (level (f.Two word p r)) d) (f.Two word p r)
 unfolding Prints level
-and_prints most d p r h h' = rw And-is (h, h')
+two_prints most d word.And p r h h' = rw Two-is (h, h')
+two_prints most d word.Or p r h h' = rw Two-is (h, h')
+two_prints most d word.Implies p r h h' = rw Two-is (h, h')
+two_prints most d word.Iff p r h h' = rw Two-is (h, h')
 
-joined_and : (most d : ℕ) (p : RawFormula) (tail : Option RawFormula) → Prints most (inside 5 (level p) d) p → Tail most 4 d tail → Prints most (inside 4 (level (joined f.And p tail)) d) (joined f.And p tail)
-joined_and most d p None h i = lower most (inside 5 (level p) d) (inside 4 (level p) d) p (inside_mono 4 5 (level p) d d (omega arith) (omega arith)) h
-joined_and most d p (Some r) h i = and_prints most d p r h i
+left_above : (word : Connective) → tier_level (Joins word) ≤ tier_level (left_of word)
+left_above word.And = omega arith
+left_above word.Or = omega arith
+left_above word.Implies = omega arith
+left_above word.Iff = omega arith
 
-or_prints : (most d : ℕ) (p r : RawFormula) → Prints most (inside 4 (level p) d) p → Prints most (inside 3 (level r) (d + 1)) r → Prints most (inside 3 (level (f.Or p r)) d) (f.Or p r)
-unfolding Prints level
-or_prints most d p r h h' = rw Or-is (h, h')
-
-joined_or : (most d : ℕ) (p : RawFormula) (tail : Option RawFormula) → Prints most (inside 4 (level p) d) p → Tail most 3 d tail → Prints most (inside 3 (level (joined f.Or p tail)) d) (joined f.Or p tail)
-joined_or most d p None h i = lower most (inside 4 (level p) d) (inside 3 (level p) d) p (inside_mono 3 4 (level p) d d (omega arith) (omega arith)) h
-joined_or most d p (Some r) h i = or_prints most d p r h i
-
-implies_prints : (most d : ℕ) (p r : RawFormula) → Prints most (inside 3 (level p) d) p → Prints most (inside 2 (level r) (d + 1)) r → Prints most (inside 2 (level (f.Implies p r)) d) (f.Implies p r)
-unfolding Prints level
-implies_prints most d p r h h' = rw Implies-is (h, h')
-
-joined_implies : (most d : ℕ) (p : RawFormula) (tail : Option RawFormula) → Prints most (inside 3 (level p) d) p → Tail most 2 d tail → Prints most (inside 2 (level (joined f.Implies p tail)) d) (joined f.Implies p tail)
-joined_implies most d p None h i = lower most (inside 3 (level p) d) (inside 2 (level p) d) p (inside_mono 2 3 (level p) d d (omega arith) (omega arith)) h
-joined_implies most d p (Some r) h i = implies_prints most d p r h i
-
-iff_prints : (most d : ℕ) (p r : RawFormula) → Prints most (inside 2 (level p) d) p → Prints most (inside 2 (level r) (d + 1)) r → Prints most (inside 1 (level (f.Iff p r)) d) (f.Iff p r)
-unfolding Prints level
-iff_prints most d p r h h' = rw Iff-is (h, h')
-
-joined_iff : (most d : ℕ) (p : RawFormula) (tail : Option RawFormula) → Prints most (inside 2 (level p) d) p → Tail most 2 d tail → Prints most (inside 1 (level (joined f.Iff p tail)) d) (joined f.Iff p tail)
-joined_iff most d p None h i = lower most (inside 2 (level p) d) (inside 1 (level p) d) p (inside_mono 1 2 (level p) d d (omega arith) (omega arith)) h
-joined_iff most d p (Some r) h i = iff_prints most d p r h i
+joined_two : (most d : ℕ) (word : Connective) (p : RawFormula) (rest : Option RawFormula) → Prints most (inside (tier_level (left_of word)) (level p) d) p → Tail most (tier_level (right_of word)) d rest
+    → Prints most (inside (tier_level (Joins word)) (level (joined (f.Two word) p rest)) d) (joined (f.Two word) p rest)
+joined_two most d word p None h i =
+    let own = tier_level (Joins word) in
+    let left = tier_level (left_of word) in
+    lower most (inside left (level p) d) (inside own (level p) d) p (inside_mono own left (level p) d d (left_above word) (omega arith)) h
+joined_two most d word p (Some r) h i = two_prints most d word p r h i
 
 not_prints : (most d : ℕ) (p : RawFormula) → Prints most (inside 5 (level p) (d + 1)) p → Prints most (inside 5 (level (f.Not p)) d) (f.Not p)
 unfolding Prints level
 not_prints most d p h = rw Not-is h
 
-forall_prints : (most d : ℕ) (x : RawName) (s : Sort) (p : RawFormula) → NamePrints x → Prints most (d + 1) p → Prints most d (f.Forall x s p)
+quantified_prints : (most d : ℕ) (which : Quantifier) (x : RawName) (s : Sort) (p : RawFormula) → NamePrints x → Prints most (d + 1) p → Prints most d (f.Bind which x s p)
 unfolding Prints
-forall_prints most d x s p h h' = rw Forall-is (h, h')
-
-exists_prints : (most d : ℕ) (x : RawName) (s : Sort) (p : RawFormula) → NamePrints x → Prints most (d + 1) p → Prints most d (f.Exists x s p)
-unfolding Prints
-exists_prints most d x s p h h' = rw Exists-is (h, h')
-
-quantified_prints : (most d : ℕ) (which : Quantifier) (x : RawName) (s : Sort) (p : RawFormula) → NamePrints x → Prints most (d + 1) p → Prints most d (quantified which x s p)
-quantified_prints most d q.All x s p h h' = forall_prints most d x s p h h'
-quantified_prints most d q.Some x s p h h' = exists_prints most d x s p h h'
+quantified_prints most d which x s p h h' = rw Bind-is (h, h')
 
 true_prints : (most d : ℕ) → d ≤ most → Prints most (inside 5 (level f.True) d) f.True
 unfolding Prints level
@@ -255,15 +229,8 @@ Good most d port v = (d ≤ most) × IsNumeral v.number
 Good most d formula v = Prints most d v
 Good most d (binds which) v = Prints most d v
 Good most d (more_binds which) v = Prints most d v
-Good most d iff v = Prints most (inside 1 (level v) d) v
-Good most d iff_tail v = Tail most 2 d v
-Good most d implies v = Prints most (inside 2 (level v) d) v
-Good most d implies_tail v = Tail most 2 d v
-Good most d either v = Prints most (inside 3 (level v) d) v
-Good most d either_tail v = Tail most 3 d v
-Good most d both v = Prints most (inside 4 (level v) d) v
-Good most d both_tail v = Tail most 4 d v
-Good most d unary v = Prints most (inside 5 (level v) d) v
+Good most d (tier t) v = Prints most (inside (tier_level t) (level v) d) v
+Good most d (tail word) v = Tail most (tier_level (right_of word)) d v
 Good most d atom v = Prints most (inside 5 (level v) d) v
 Good most d atom_rest v = RestPrints v
 Good most d fact v = RestPrints v
@@ -363,29 +330,14 @@ keeps most d (binds which) r (inr (a)) = absurd a
 keeps most d (more_binds which) r (inl e) = subst (Keeps most d (more_binds which)) e (λ us g. g.1.0)
 keeps most d (more_binds which) r (inr (inl e)) = subst (Keeps most d (more_binds which)) e (λ us g. g.1.0)
 keeps most d (more_binds which) r (inr (inr (a))) = absurd a
-keeps most d iff r (inl e) = subst (Keeps most d iff) e (λ us g. joined_iff most d us.0 us.1.0 g.0 g.1.0)
-keeps most d iff r (inr (a)) = absurd a
-keeps most d iff_tail r (inl e) = subst (Keeps most d iff_tail) e (λ us g. g.1.0)
-keeps most d iff_tail r (inr (inl e)) = subst (Keeps most d iff_tail) e (λ us g. tt)
-keeps most d iff_tail r (inr (inr (a))) = absurd a
-keeps most d implies r (inl e) = subst (Keeps most d implies) e (λ us g. joined_implies most d us.0 us.1.0 g.0 g.1.0)
-keeps most d implies r (inr (a)) = absurd a
-keeps most d implies_tail r (inl e) = subst (Keeps most d implies_tail) e (λ us g. g.1.0)
-keeps most d implies_tail r (inr (inl e)) = subst (Keeps most d implies_tail) e (λ us g. tt)
-keeps most d implies_tail r (inr (inr (a))) = absurd a
-keeps most d either r (inl e) = subst (Keeps most d either) e (λ us g. joined_or most d us.0 us.1.0 g.0 g.1.0)
-keeps most d either r (inr (a)) = absurd a
-keeps most d either_tail r (inl e) = subst (Keeps most d either_tail) e (λ us g. g.1.0)
-keeps most d either_tail r (inr (inl e)) = subst (Keeps most d either_tail) e (λ us g. tt)
-keeps most d either_tail r (inr (inr (a))) = absurd a
-keeps most d both r (inl e) = subst (Keeps most d both) e (λ us g. joined_and most d us.0 us.1.0 g.0 g.1.0)
-keeps most d both r (inr (a)) = absurd a
-keeps most d both_tail r (inl e) = subst (Keeps most d both_tail) e (λ us g. g.1.0)
-keeps most d both_tail r (inr (inl e)) = subst (Keeps most d both_tail) e (λ us g. tt)
-keeps most d both_tail r (inr (inr (a))) = absurd a
-keeps most d unary r (inl e) = subst (Keeps most d unary) e (λ us g. not_prints most d us.1.0 g.1.0)
-keeps most d unary r (inr (inl e)) = subst (Keeps most d unary) e (λ us g. g.0)
-keeps most d unary r (inr (inr (a))) = absurd a
+keeps most d (tier Single) r (inl e) = subst (Keeps most d (tier Single)) e (λ us g. not_prints most d us.1.0 g.1.0)
+keeps most d (tier Single) r (inr (inl e)) = subst (Keeps most d (tier Single)) e (λ us g. g.0)
+keeps most d (tier Single) r (inr (inr (a))) = absurd a
+keeps most d (tier (Joins word)) r (inl e) = subst (Keeps most d (tier (Joins word))) e (λ us g. joined_two most d word us.0 us.1.0 g.0 g.1.0)
+keeps most d (tier (Joins word)) r (inr (a)) = absurd a
+keeps most d (tail word) r (inl e) = subst (Keeps most d (tail word)) e (λ us g. g.1.0)
+keeps most d (tail word) r (inr (inl e)) = subst (Keeps most d (tail word)) e (λ us g. tt)
+keeps most d (tail word) r (inr (inr (a))) = absurd a
 keeps most d atom r (inl e) = subst (Keeps most d atom) e (λ us g. true_prints most d g.0.0)
 keeps most d atom r (inr (inl e)) = subst (Keeps most d atom) e (λ us g. false_prints most d g.0.0)
 keeps most d atom r (inr (inr (inl e))) = subst (Keeps most d atom) e (λ us g. in_parentheses most d us.1.0 g.1.0)

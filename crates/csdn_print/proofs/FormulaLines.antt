@@ -1,21 +1,27 @@
 -- Formulas, as they are printed.
-use Rattle.std.proofs.Common.{◌≡◌, ℕ, zero, suc, ◌+◌, ◌-◌, ◌≤◌, Bool, true, false, cond, ltb, List, ◌++◌, length, inl, inr, refl, subst, append-nil, arith}
+use Rattle.std.proofs.Common.{◌≡◌, ℕ, zero, suc, ◌+◌, ◌-◌, ◌≤◌, Bool, true, false, cond, ltb, List, ◌∷◌, ◌++◌, length, inl, inr, refl, subst, append-nil, arith}
 use Rattle.std.specs.Prelude.{codes}
 use Rattle.std.proofs.lemmas.Bool.{ltb-false}
 use Rattle.csdn_tokens.specs.declared.Kind.TheVariants as k
 use Rattle.csdn_tokens.specs.Lex.{word_kind}
+use Rattle.csdn_tokens.specs.declared.Token.{Token}
 use Rattle.csdn_tree.specs.declared.names.RawName.{RawName}
+use Rattle.csdn_tree.specs.declared.syntax.Connective.{Connective}
+use Rattle.csdn_tree.specs.declared.syntax.Connective.TheVariants as w
+use Rattle.csdn_tree.specs.declared.tiers.Tier.{Tier}
+use Rattle.csdn_tree.specs.declared.tiers.Tier.TheVariants.{Single, Joins}
+use Rattle.csdn_tree.specs.Tiers.{left_of}
 use Rattle.csdn_tree.specs.declared.syntax.RawFlow.{RawFlow}
 use Rattle.csdn_tree.specs.declared.syntax.RawPacket.{RawPacket}
 use Rattle.csdn_tree.specs.declared.syntax.RawFormula.{RawFormula}
-use Rattle.csdn_text.specs.Symbols.{formula, iff, implies, either, both, unary, flow, packet}
-use Rattle.csdn_text.specs.Grammar.{flow_of, packet_of}
+use Rattle.csdn_text.specs.Symbols.{formula, tier, flow, packet, deeper, Values, Symbol, token}
+use Rattle.csdn_text.specs.Grammar.{kind_of, flow_of, packet_of}
 use Rattle.csdn_print.specs.Words.{term_text, flow_text, packet_text}
-use Rattle.csdn_print.specs.Formulas.{operand}
+use Rattle.csdn_print.specs.Formulas.{tier_level, operand, connective_text}
 use Rattle.csdn_print.specs.Placeless.{bare_flow, bare_packet, bare_formula}
 use Rattle.csdn_print.proofs.Prints.{FlowPrints, PacketPrints, inside}
-use Rattle.csdn_print.proofs.Lexing.{IsWord, reserved, open_is, close_is, comma_is}
-use Rattle.csdn_print.proofs.Lines.{nil, gap, symbol, arrow, along, by, before, final}
+use Rattle.csdn_print.proofs.Lexing.{opens, IsWord, reserved, open_is, close_is, comma_is}
+use Rattle.csdn_print.proofs.Lines.{Line, nil, gap, symbol, arrow, double_arrow, word, along, by, before, final}
 use Rattle.csdn_print.proofs.WordLines.{Again, term_again}
 
 -- the same formula, places aside
@@ -93,25 +99,33 @@ packet_again x w room is at =
 
 -- ---- levels
 
+-- where a formula of a level stands, of which one less is given
+abbrev tier_at : ℕ → Tier
+tier_at zero = Joins w.Iff
+tier_at (suc zero) = Joins w.Implies
+tier_at (suc (suc zero)) = Joins w.Or
+tier_at (suc (suc (suc zero))) = Joins w.And
+tier_at (suc (suc (suc (suc n)))) = Single
+
 abbrev ReadAt : (most d at needed : ℕ) → List ℕ → RawFormula → Type 0
 ReadAt most d at zero bytes p = Again most d at formula bytes (SameAs p)
-ReadAt most d at (suc zero) bytes p = Again most d at iff bytes (SameAs p)
-ReadAt most d at (suc (suc zero)) bytes p = Again most d at implies bytes (SameAs p)
-ReadAt most d at (suc (suc (suc zero))) bytes p = Again most d at either bytes (SameAs p)
-ReadAt most d at (suc (suc (suc (suc zero)))) bytes p = Again most d at both bytes (SameAs p)
-ReadAt most d at (suc (suc (suc (suc (suc n))))) bytes p = Again most d at unary bytes (SameAs p)
+ReadAt most d at (suc n) bytes p = Again most d at (tier (tier_at n)) bytes (SameAs p)
 
 -- these bytes are read as a formula at a place that needs a level
 pub record FormulaAt (most d at needed : ℕ) (bytes : List ℕ) (p : RawFormula) : Type 0 where
   pub again : ReadAt most d at needed bytes p
 
+-- what may stand to the left of a word may stand without it
+alone : {most d at : ℕ} {bytes : List ℕ} {p : RawFormula} (word : Connective) → Again most d at (tier (left_of word)) bytes (SameAs p) → Again most d at (tier (Joins word)) bytes (SameAs p)
+alone {bytes = bytes} word a = record { value = a.value; line = by _ (inl refl) (along (append-nil bytes) (before a.line refl (final (by _ (inr (inl refl)) nil)))); same = a.same }
+
 -- a formula may stand where a level less is needed
 lower : {most d at : ℕ} {bytes : List ℕ} {p : RawFormula} (n : ℕ) → FormulaAt most d at (suc n) bytes p → FormulaAt most d at n bytes p
 lower zero a = record { again = record { value = a.again.value; line = by _ (inr (inr (inl refl))) (final a.again.line); same = a.again.same } }
-lower {bytes = bytes} (suc zero) a = record { again = record { value = a.again.value; line = by _ (inl refl) (along (append-nil bytes) (before a.again.line refl (final (by _ (inr (inl refl)) nil)))); same = a.again.same } }
-lower {bytes = bytes} (suc (suc zero)) a = record { again = record { value = a.again.value; line = by _ (inl refl) (along (append-nil bytes) (before a.again.line refl (final (by _ (inr (inl refl)) nil)))); same = a.again.same } }
-lower {bytes = bytes} (suc (suc (suc zero))) a = record { again = record { value = a.again.value; line = by _ (inl refl) (along (append-nil bytes) (before a.again.line refl (final (by _ (inr (inl refl)) nil)))); same = a.again.same } }
-lower {bytes = bytes} (suc (suc (suc (suc zero)))) a = record { again = record { value = a.again.value; line = by _ (inl refl) (along (append-nil bytes) (before a.again.line refl (final (by _ (inr (inl refl)) nil)))); same = a.again.same } }
+lower (suc zero) a = record { again = alone w.Iff a.again }
+lower (suc (suc zero)) a = record { again = alone w.Implies a.again }
+lower (suc (suc (suc zero))) a = record { again = alone w.Or a.again }
+lower (suc (suc (suc (suc zero)))) a = record { again = alone w.And a.again }
 lower (suc (suc (suc (suc (suc n))))) a = record { again = a.again }
 
 -- .. and where some levels less are
@@ -140,3 +154,38 @@ operand_at {most} {bytes} {p} d needed own few h at = go (ltb own needed) refl h
     go : (b : Bool) → ltb own needed ≡ b → Own most (cond b (d + 1) d) own bytes p → FormulaAt most d at needed (cond b (codes "(" ++ (bytes ++ codes ")")) bytes) p
     go true is a = to_level 5 needed few (wrapped a.room (to_level own 0 (omega arith) (a.line (at + 1))))
     go false is a = to_level own needed (ltb-false own needed is) (a.line at)
+
+-- ---- words between two formulas
+
+pub tier_small : (t : Tier) → tier_level t ≤ 5
+tier_small Single = omega arith
+tier_small (Joins w.And) = omega arith
+tier_small (Joins w.Or) = omega arith
+tier_small (Joins w.Implies) = omega arith
+tier_small (Joins w.Iff) = omega arith
+
+pub at_tier : {most d at : ℕ} {bytes : List ℕ} {p : RawFormula} (t : Tier) → FormulaAt most d at (tier_level t) bytes p → Again most d at (tier t) bytes (SameAs p)
+at_tier Single a = a.again
+at_tier (Joins w.And) a = a.again
+at_tier (Joins w.Or) a = a.again
+at_tier (Joins w.Implies) a = a.again
+at_tier (Joins w.Iff) a = a.again
+
+pub by_word : {most d at : ℕ} {bytes : List ℕ} {p : RawFormula} (word : Connective) → Again most d at (tier (Joins word)) bytes (SameAs p) → FormulaAt most d at (tier_level (Joins word)) bytes p
+by_word w.And a = record { again = a }
+by_word w.Or a = record { again = a }
+by_word w.Implies a = record { again = a }
+by_word w.Iff a = record { again = a }
+
+pub opens_between : (word : Connective) (bytes : List ℕ) → opens (connective_text word ++ bytes) ≡ true
+opens_between w.And bytes = refl
+opens_between w.Or bytes = refl
+opens_between w.Implies bytes = refl
+opens_between w.Iff bytes = refl
+
+pub between : {most d at : ℕ} {ss : List Symbol} {bytes : List ℕ} {vs : Values ss} (word : Connective) → d + 1 ≤ most → Line most d (at + length (connective_text word)) ss bytes vs
+    → (t : Token) × Line most d at (token (kind_of word) deeper ∷ ss) (connective_text word ++ bytes) (t, vs)
+between w.And room a = (_, gap 32 refl (word (codes "and") and_is room refl (gap 32 refl a)))
+between w.Or room a = (_, gap 32 refl (word (codes "or") or_is room refl (gap 32 refl a)))
+between w.Implies room a = (_, gap 32 refl (arrow room (gap 32 refl a)))
+between w.Iff room a = (_, gap 32 refl (double_arrow room (gap 32 refl a)))

@@ -11,23 +11,23 @@ use Rattle.csdn_tree.specs.declared.syntax.RawFlow.{RawFlow}
 use Rattle.csdn_tree.specs.declared.syntax.RawPacket.{RawPacket}
 use Rattle.csdn_tree.specs.declared.syntax.RawFormula.{RawFormula}
 use Rattle.csdn_tree.specs.declared.syntax.RawFormula.TheVariants as f
-use Rattle.csdn_tree.specs.RawTree.{raw_not, raw_and, raw_or, raw_implies, raw_iff, raw_forall, raw_exists}
-use Rattle.csdn_text.specs.declared.parts.Quantifier.{Quantifier as Which}
-use Rattle.csdn_text.specs.declared.parts.Quantifier.TheVariants as which
-use Rattle.csdn_text.specs.Symbols.{here, part, binds, more_binds}
-use Rattle.csdn_text.specs.Grammar.{quantified}
+use Rattle.csdn_tree.specs.RawTree.{raw_not, raw_two, raw_bind}
+use Rattle.csdn_tree.specs.declared.syntax.Connective.{Connective}
+use Rattle.csdn_tree.specs.declared.tiers.Tier.TheVariants.{Joins}
+use Rattle.csdn_tree.specs.Tiers.{left_of, right_of}
+use Rattle.csdn_text.specs.Symbols.{here, part, formula, binds, more_binds}
 use Rattle.csdn_print.specs.declared.forms.Lead.TheVariants.{Nothing, Binds}
-use Rattle.csdn_print.specs.declared.forms.Quantifier.{Quantifier}
-use Rattle.csdn_print.specs.declared.forms.Quantifier.TheVariants as q
+use Rattle.csdn_tree.specs.declared.syntax.Quantifier.{Quantifier}
+use Rattle.csdn_tree.specs.declared.syntax.Quantifier.TheVariants as q
 use Rattle.csdn_print.specs.Words.{sort_text, term_text, terms_text, flow_text, packet_text}
-use Rattle.csdn_print.specs.Formulas.{level, operand, flow_word, formula_text}
+use Rattle.csdn_print.specs.Formulas.{tier_level, level, operand, quantifier_word, quantifier_text, connective_text, flow_word, formula_text}
 use Rattle.csdn_print.specs.Placeless.{bare_name, bare_formula}
-use Rattle.csdn_print.specs.Steps.{bare_formula-Not, bare_formula-And, bare_formula-Or, bare_formula-Implies, bare_formula-Iff, bare_formula-Forall, bare_formula-Exists}
+use Rattle.csdn_print.specs.Steps.{bare_formula-Not, bare_formula-Two, bare_formula-Bind}
 use Rattle.csdn_print.proofs.Prints.{NamePrints, TermPrints, TermsPrint, FlowPrints, PacketPrints, inside, inside_least, Prints}
 use Rattle.csdn_print.proofs.Lexing.{opens, comma_is, colon_is, dot_is, equals_is}
-use Rattle.csdn_print.proofs.Lines.{Line, nil, gap, symbol, arrow, double_arrow, word, by, before, final}
+use Rattle.csdn_print.proofs.Lines.{Line, nil, gap, symbol, word, by, before, final}
 use Rattle.csdn_print.proofs.WordLines.{Again, name_line, port_line, term_again, row_again, sort_line}
-use Rattle.csdn_print.proofs.FormulaLines.{SameAs, true_is, false_is, not_is, and_is, or_is, forall_is, exists_is, ft_is, sent_is, rcv_this_is, flow_again, packet_again, to_level, Own, operand_at}
+use Rattle.csdn_print.proofs.FormulaLines.{SameAs, true_is, false_is, not_is, forall_is, exists_is, ft_is, sent_is, rcv_this_is, flow_again, packet_again, to_level, Own, operand_at, tier_small, at_tier, by_word, opens_between, between}
 
 -- ---- what has no formula in it
 
@@ -146,103 +146,43 @@ not_own {most} {own} {bytes} {p} d h =
           };
     }
 
-and_own : {most o o' : ℕ} {bytes bytes' : List ℕ} {p r : RawFormula} (d : ℕ) → Own most (inside 5 o d) o bytes p → Own most (inside 4 o' (d + 1)) o' bytes' r
-    → Own most d 4 (operand 5 o bytes ++ (codes " and " ++ operand 4 o' bytes')) (raw_and p r)
+two_own : {most o o' : ℕ} {bytes bytes' : List ℕ} {p r : RawFormula} (d : ℕ) (word : Connective) → Own most (inside (tier_level (left_of word)) o d) o bytes p → Own most (inside (tier_level (right_of word)) o' (d + 1)) o' bytes' r
+    → Own most d (tier_level (Joins word)) (operand (tier_level (left_of word)) o bytes ++ (connective_text word ++ operand (tier_level (right_of word)) o' bytes')) (raw_two word p r)
 unfolding bare_formula
-and_own {most} {o} {o'} {bytes} {bytes'} {p} {r} d h h' =
-    let room = outer_room 4 o' (d + 1) h'.room in
+two_own {most} {o} {o'} {bytes} {bytes'} {p} {r} d word h h' =
+    let left = tier_level (left_of word) in
+    let right = tier_level (right_of word) in
+    let room = outer_room right o' (d + 1) h'.room in
     record {
       room = omega (arith, room);
       line = λ at.
-          let a = operand_at d 5 o (omega arith) h at in
-          let b = operand_at (d + 1) 4 o' (omega arith) h' (at + length (operand 5 o bytes) + 1 + 3 + 1) in
-          record {
-            again = record {
-              value = f.And a.again.value b.again.value;
-              line = by _ (inl refl) (before a.again.line refl (final (by _ (inl refl) (gap 32 refl (word (codes "and") and_is room refl (gap 32 refl (final b.again.line)))))));
-              same = bare_formula-And a.again.value b.again.value ∙ ap₂ f.And a.again.same b.again.same;
-            };
-          };
-    }
-
-or_own : {most o o' : ℕ} {bytes bytes' : List ℕ} {p r : RawFormula} (d : ℕ) → Own most (inside 4 o d) o bytes p → Own most (inside 3 o' (d + 1)) o' bytes' r
-    → Own most d 3 (operand 4 o bytes ++ (codes " or " ++ operand 3 o' bytes')) (raw_or p r)
-unfolding bare_formula
-or_own {most} {o} {o'} {bytes} {bytes'} {p} {r} d h h' =
-    let room = outer_room 3 o' (d + 1) h'.room in
-    record {
-      room = omega (arith, room);
-      line = λ at.
-          let a = operand_at d 4 o (omega arith) h at in
-          let b = operand_at (d + 1) 3 o' (omega arith) h' (at + length (operand 4 o bytes) + 1 + 2 + 1) in
-          record {
-            again = record {
-              value = f.Or a.again.value b.again.value;
-              line = by _ (inl refl) (before a.again.line refl (final (by _ (inl refl) (gap 32 refl (word (codes "or") or_is room refl (gap 32 refl (final b.again.line)))))));
-              same = bare_formula-Or a.again.value b.again.value ∙ ap₂ f.Or a.again.same b.again.same;
-            };
-          };
-    }
-
-implies_own : {most o o' : ℕ} {bytes bytes' : List ℕ} {p r : RawFormula} (d : ℕ) → Own most (inside 3 o d) o bytes p → Own most (inside 2 o' (d + 1)) o' bytes' r
-    → Own most d 2 (operand 3 o bytes ++ (codes " -> " ++ operand 2 o' bytes')) (raw_implies p r)
-unfolding bare_formula
-implies_own {most} {o} {o'} {bytes} {bytes'} {p} {r} d h h' =
-    let room = outer_room 2 o' (d + 1) h'.room in
-    record {
-      room = omega (arith, room);
-      line = λ at.
-          let a = operand_at d 3 o (omega arith) h at in
-          let b = operand_at (d + 1) 2 o' (omega arith) h' (at + length (operand 3 o bytes) + 1 + 2 + 1) in
-          record {
-            again = record {
-              value = f.Implies a.again.value b.again.value;
-              line = by _ (inl refl) (before a.again.line refl (final (by _ (inl refl) (gap 32 refl (arrow room (gap 32 refl (final b.again.line)))))));
-              same = bare_formula-Implies a.again.value b.again.value ∙ ap₂ f.Implies a.again.same b.again.same;
-            };
-          };
-    }
-
-iff_own : {most o o' : ℕ} {bytes bytes' : List ℕ} {p r : RawFormula} (d : ℕ) → Own most (inside 2 o d) o bytes p → Own most (inside 2 o' (d + 1)) o' bytes' r
-    → Own most d 1 (operand 2 o bytes ++ (codes " <-> " ++ operand 2 o' bytes')) (raw_iff p r)
-unfolding bare_formula
-iff_own {most} {o} {o'} {bytes} {bytes'} {p} {r} d h h' =
-    let room = outer_room 2 o' (d + 1) h'.room in
-    record {
-      room = omega (arith, room);
-      line = λ at.
-          let a = operand_at d 2 o (omega arith) h at in
-          let b = operand_at (d + 1) 2 o' (omega arith) h' (at + length (operand 2 o bytes) + 1 + 3 + 1) in
-          record {
-            again = record {
-              value = f.Iff a.again.value b.again.value;
-              line = by _ (inl refl) (before a.again.line refl (final (by _ (inl refl) (gap 32 refl (double_arrow room (gap 32 refl (final b.again.line)))))));
-              same = bare_formula-Iff a.again.value b.again.value ∙ ap₂ f.Iff a.again.same b.again.same;
-            };
-          };
+          let a = at_tier (left_of word) (operand_at d left o (tier_small (left_of word)) h at) in
+          let b = at_tier (right_of word) (operand_at (d + 1) right o' (tier_small (right_of word)) h' (at + length (operand left o bytes) + length (connective_text word))) in
+          let rest = between word room (final b.line) in
+          by_word word (record {
+            value = f.Two word a.value b.value;
+            line = by _ (inl refl) (before a.line (opens_between word (operand right o' bytes')) (final (by _ (inl refl) rest.1)));
+            same = bare_formula-Two word a.value b.value ∙ ap₂ (f.Two word) a.same b.same;
+          });
     }
 
 -- ---- quantifiers
 
-abbrev pub which_of : Quantifier → Which
-which_of q.All = which.All
-which_of q.Some = which.Some
-
 -- behind the names of a quantifier
-behind_dot : {most d own : ℕ} {bytes : List ℕ} {p : RawFormula} (q : Which) → Own most d own bytes p → (at : ℕ) → Again most d at (more_binds q) (codes ". " ++ bytes) (SameAs p)
+behind_dot : {most d own : ℕ} {bytes : List ℕ} {p : RawFormula} (q : Quantifier) → Own most d own bytes p → (at : ℕ) → Again most d at (more_binds q) (codes ". " ++ bytes) (SameAs p)
 behind_dot {own = own} q h at =
     let a = to_level own 0 (omega arith) (h.line (at + 1 + 1)) in
     record { value = a.again.value; line = by _ (inr (inl refl)) (symbol dot_is h.room (gap 32 refl (final a.again.line))); same = a.again.same }
 
-bind_line : {most d at : ℕ} {bytes : List ℕ} {v : RawFormula} (which : Which) (x : RawName) (s : Sort) → d + 1 ≤ most → NamePrints x → opens bytes ≡ true
+bind_line : {most d at : ℕ} {bytes : List ℕ} {v : RawFormula} (which : Quantifier) (x : RawName) (s : Sort) → d + 1 ≤ most → NamePrints x → opens bytes ≡ true
     → Line most (d + 1) (at + length x.text + 1 + length (sort_text s)) (part (more_binds which) here ∷ []) bytes (v, tt)
-    → Line most d at (part (binds which) here ∷ []) (x.text ++ (codes ":" ++ (sort_text s ++ bytes))) (quantified which (record { at = at; text = x.text }) s v, tt)
+    → Line most d at (part (binds which) here ∷ []) (x.text ++ (codes ":" ++ (sort_text s ++ bytes))) (f.Bind which (record { at = at; text = x.text }) s v, tt)
 bind_line which x s room is free a = by _ (inl refl) (before (name_line x room is) refl (symbol colon_is room (before (sort_line s room) free (final a))))
 
 -- what is proved of a formula: it is read where nothing stands before it, and where a quantifier does
 pub record Reads (p : RawFormula) : Type 0 where
   pub own : (most d : ℕ) → Prints most d p → Own most d (level p) (formula_text Nothing p) p
-  pub bound : (which : Quantifier) (most d : ℕ) → Prints most d p → (at : ℕ) → Again most d at (more_binds (which_of which)) (formula_text (Binds which) p) (SameAs p)
+  pub bound : (which : Quantifier) (most d : ℕ) → Prints most d p → (at : ℕ) → Again most d at (more_binds which) (formula_text (Binds which) p) (SameAs p)
 
 opens_bound : (which : Quantifier) (p : RawFormula) → opens (formula_text (Binds which) p) ≡ true
 unfolding formula_text
@@ -253,14 +193,11 @@ opens_bound which (f.Same u v) = refl
 opens_bound which (f.Flow at kind ts) = refl
 opens_bound which (f.RcvThis at ts) = refl
 opens_bound which (raw_not p) = refl
-opens_bound which (raw_and p r) = refl
-opens_bound which (raw_or p r) = refl
-opens_bound which (raw_implies p r) = refl
-opens_bound which (raw_iff p r) = refl
-opens_bound q.All (raw_forall x s p) = refl
-opens_bound q.Some (raw_forall x s p) = refl
-opens_bound q.All (raw_exists x s p) = refl
-opens_bound q.Some (raw_exists x s p) = refl
+opens_bound which (raw_two word p r) = refl
+opens_bound q.All (raw_bind q.All x s p) = refl
+opens_bound q.Some (raw_bind q.All x s p) = refl
+opens_bound q.All (raw_bind q.Some x s p) = refl
+opens_bound q.Some (raw_bind q.Some x s p) = refl
 
 -- the room of a formula
 pub room_of : {most : ℕ} (d : ℕ) (p : RawFormula) → Prints most d p → d ≤ most
@@ -272,109 +209,72 @@ room_of d (f.Same u v) h = h.0
 room_of d (f.Flow at kind ts) h = h.0
 room_of d (f.RcvThis at ts) h = h.0
 room_of d (raw_not p) h = let e = inside_least 5 (level p) (d + 1) in let e' = room_of (inside 5 (level p) (d + 1)) p h in omega (arith, e, e')
-room_of d (raw_and p r) h = outer_room 5 (level p) d (room_of (inside 5 (level p) d) p h.0)
-room_of d (raw_or p r) h = outer_room 4 (level p) d (room_of (inside 4 (level p) d) p h.0)
-room_of d (raw_implies p r) h = outer_room 3 (level p) d (room_of (inside 3 (level p) d) p h.0)
-room_of d (raw_iff p r) h = outer_room 2 (level p) d (room_of (inside 2 (level p) d) p h.0)
-room_of d (raw_forall x s p) h = let e = room_of (d + 1) p h.1 in omega (arith, e)
-room_of d (raw_exists x s p) h = let e = room_of (d + 1) p h.1 in omega (arith, e)
+room_of d (raw_two word p r) h = let left = tier_level (left_of word) in outer_room left (level p) d (room_of (inside left (level p) d) p h.0)
+room_of d (raw_bind which x s p) h = let e = room_of (d + 1) p h.1 in omega (arith, e)
 
-forall_reads : (x : RawName) (s : Sort) (p : RawFormula) → Reads p → Reads (raw_forall x s p)
+-- the word of a quantifier and the names that it binds
+begins : {most d at : ℕ} {bytes : List ℕ} {v : RawFormula} (which : Quantifier) → d ≤ most → Line most d (at + 6 + 1) (part (binds which) here ∷ []) bytes (v, tt)
+    → Line most d at (part formula here ∷ []) (quantifier_word which ++ bytes) (v, tt)
+begins q.All room a = by _ (inl refl) (word (codes "forall") forall_is room refl (gap 32 refl (final a)))
+begins q.Some room a = by _ (inr (inl refl)) (word (codes "exists") exists_is room refl (gap 32 refl (final a)))
+
+-- behind the names of a quantifier, those of the same one or another
+behind : {most d : ℕ} {bytes : List ℕ} {p : RawFormula} (w which : Quantifier) → Own most d 0 (quantifier_word which ++ bytes) p → ((at : ℕ) → Again most d at (more_binds which) (codes ", " ++ bytes) (SameAs p))
+    → (at : ℕ) → Again most d at (more_binds w) (quantifier_text (Binds w) which ++ bytes) (SameAs p)
+behind q.All q.All own more at = more at
+behind q.Some q.Some own more at = more at
+behind q.All q.Some own more at = behind_dot q.All own at
+behind q.Some q.All own more at = behind_dot q.Some own at
+
+bind_reads : (which : Quantifier) (x : RawName) (s : Sort) (p : RawFormula) → Reads p → Reads (raw_bind which x s p)
 unfolding formula_text level Prints bare_formula
-forall_reads x s p r = record { own = λ most d h. go most d h; bound = λ w most d h at. behind w most d h at }
+bind_reads which x s p r = record { own = λ most d h. go most d h; bound = λ w most d h at. behind w which (go most d h) (more most d h) at }
   where
-    bindings : (most d : ℕ) → Prints most d (raw_forall x s p) → (at : ℕ) → Again most d at (binds which.All) (x.text ++ (codes ":" ++ (sort_text s ++ formula_text (Binds q.All) p))) (SameAs (raw_forall x s p))
+    bindings : (most d : ℕ) → Prints most d (raw_bind which x s p) → (at : ℕ) → Again most d at (binds which) (x.text ++ (codes ":" ++ (sort_text s ++ formula_text (Binds which) p))) (SameAs (raw_bind which x s p))
     bindings most d h at =
         let room = room_of (d + 1) p h.1 in
-        let a = r.bound q.All most (d + 1) h.1 (at + length x.text + 1 + length (sort_text s)) in
-        record { value = _; line = bind_line which.All x s room h.0 (opens_bound q.All p) a.line; same = bare_formula-Forall (record { at = at; text = x.text }) s a.value ∙ ap (f.Forall (bare_name x) s) a.same }
+        let a = r.bound which most (d + 1) h.1 (at + length x.text + 1 + length (sort_text s)) in
+        record { value = _; line = bind_line which x s room h.0 (opens_bound which p) a.line; same = bare_formula-Bind which (record { at = at; text = x.text }) s a.value ∙ ap (f.Bind which (bare_name x) s) a.same }
 
-    go : (most d : ℕ) → Prints most d (raw_forall x s p) → Own most d 0 (codes "forall " ++ (x.text ++ (codes ":" ++ (sort_text s ++ formula_text (Binds q.All) p)))) (raw_forall x s p)
+    go : (most d : ℕ) → Prints most d (raw_bind which x s p) → Own most d 0 (quantifier_word which ++ (x.text ++ (codes ":" ++ (sort_text s ++ formula_text (Binds which) p)))) (raw_bind which x s p)
     go most d h =
         let room = room_of (d + 1) p h.1 in
         record {
           room = omega (arith, room);
           line = λ at.
               let a = bindings most d h (at + 6 + 1) in
-              record { again = record { value = a.value; line = by _ (inl refl) (word (codes "forall") forall_is (omega (arith, room)) refl (gap 32 refl (final a.line))); same = a.same } };
+              record { again = record { value = a.value; line = begins which (omega (arith, room)) a.line; same = a.same } };
         }
 
-    behind : (w : Quantifier) (most d : ℕ) → Prints most d (raw_forall x s p) → (at : ℕ) → Again most d at (more_binds (which_of w)) (formula_text (Binds w) (raw_forall x s p)) (SameAs (raw_forall x s p))
-    behind q.All most d h at =
+    -- behind the same quantifier
+    more : (most d : ℕ) → Prints most d (raw_bind which x s p) → (at : ℕ) → Again most d at (more_binds which) (codes ", " ++ (x.text ++ (codes ":" ++ (sort_text s ++ formula_text (Binds which) p)))) (SameAs (raw_bind which x s p))
+    more most d h at =
         let room = room_of (d + 1) p h.1 in
         let a = bindings most d h (at + 1 + 1) in
         record { value = a.value; line = by _ (inl refl) (symbol comma_is (omega (arith, room)) (gap 32 refl (final a.line))); same = a.same }
-    behind q.Some most d h at = behind_dot which.Some (go most d h) at
-
-exists_reads : (x : RawName) (s : Sort) (p : RawFormula) → Reads p → Reads (raw_exists x s p)
-unfolding formula_text level Prints bare_formula
-exists_reads x s p r = record { own = λ most d h. go most d h; bound = λ w most d h at. behind w most d h at }
-  where
-    bindings : (most d : ℕ) → Prints most d (raw_exists x s p) → (at : ℕ) → Again most d at (binds which.Some) (x.text ++ (codes ":" ++ (sort_text s ++ formula_text (Binds q.Some) p))) (SameAs (raw_exists x s p))
-    bindings most d h at =
-        let room = room_of (d + 1) p h.1 in
-        let a = r.bound q.Some most (d + 1) h.1 (at + length x.text + 1 + length (sort_text s)) in
-        record { value = _; line = bind_line which.Some x s room h.0 (opens_bound q.Some p) a.line; same = bare_formula-Exists (record { at = at; text = x.text }) s a.value ∙ ap (f.Exists (bare_name x) s) a.same }
-
-    go : (most d : ℕ) → Prints most d (raw_exists x s p) → Own most d 0 (codes "exists " ++ (x.text ++ (codes ":" ++ (sort_text s ++ formula_text (Binds q.Some) p)))) (raw_exists x s p)
-    go most d h =
-        let room = room_of (d + 1) p h.1 in
-        record {
-          room = omega (arith, room);
-          line = λ at.
-              let a = bindings most d h (at + 6 + 1) in
-              record { again = record { value = a.value; line = by _ (inr (inl refl)) (word (codes "exists") exists_is (omega (arith, room)) refl (gap 32 refl (final a.line))); same = a.same } };
-        }
-
-    behind : (w : Quantifier) (most d : ℕ) → Prints most d (raw_exists x s p) → (at : ℕ) → Again most d at (more_binds (which_of w)) (formula_text (Binds w) (raw_exists x s p)) (SameAs (raw_exists x s p))
-    behind q.Some most d h at =
-        let room = room_of (d + 1) p h.1 in
-        let a = bindings most d h (at + 1 + 1) in
-        record { value = a.value; line = by _ (inl refl) (symbol comma_is (omega (arith, room)) (gap 32 refl (final a.line))); same = a.same }
-    behind q.All most d h at = behind_dot which.All (go most d h) at
 
 -- every formula that prints is read again
 pub formula_reads : (p : RawFormula) → Reads p
 unfolding formula_text level Prints
-formula_reads f.True = record { own = λ most d h. true_own h; bound = λ w most d h at. behind_dot (which_of w) (true_own h) at }
-formula_reads f.False = record { own = λ most d h. false_own h; bound = λ w most d h at. behind_dot (which_of w) (false_own h) at }
-formula_reads (f.Atom x us) = record { own = λ most d h. atom_own x us h.0 h.1.0 h.1.1; bound = λ w most d h at. behind_dot (which_of w) (atom_own x us h.0 h.1.0 h.1.1) at }
-formula_reads (f.Same u v) = record { own = λ most d h. same_own u v h.0 h.1.0 h.1.1; bound = λ w most d h at. behind_dot (which_of w) (same_own u v h.0 h.1.0 h.1.1) at }
-formula_reads (f.Flow place kind ts) = record { own = λ most d h. flow_own place kind ts h.0 h.1; bound = λ w most d h at. behind_dot (which_of w) (flow_own place kind ts h.0 h.1) at }
-formula_reads (f.RcvThis place ts) = record { own = λ most d h. packet_own place ts h.0 h.1; bound = λ w most d h at. behind_dot (which_of w) (packet_own place ts h.0 h.1) at }
+formula_reads f.True = record { own = λ most d h. true_own h; bound = λ w most d h at. behind_dot w (true_own h) at }
+formula_reads f.False = record { own = λ most d h. false_own h; bound = λ w most d h at. behind_dot w (false_own h) at }
+formula_reads (f.Atom x us) = record { own = λ most d h. atom_own x us h.0 h.1.0 h.1.1; bound = λ w most d h at. behind_dot w (atom_own x us h.0 h.1.0 h.1.1) at }
+formula_reads (f.Same u v) = record { own = λ most d h. same_own u v h.0 h.1.0 h.1.1; bound = λ w most d h at. behind_dot w (same_own u v h.0 h.1.0 h.1.1) at }
+formula_reads (f.Flow place kind ts) = record { own = λ most d h. flow_own place kind ts h.0 h.1; bound = λ w most d h at. behind_dot w (flow_own place kind ts h.0 h.1) at }
+formula_reads (f.RcvThis place ts) = record { own = λ most d h. packet_own place ts h.0 h.1; bound = λ w most d h at. behind_dot w (packet_own place ts h.0 h.1) at }
 formula_reads (raw_not p) =
     let r = formula_reads p in
     record {
       own = λ most d h. not_own d (r.own most (inside 5 (level p) (d + 1)) h);
-      bound = λ w most d h at. behind_dot (which_of w) (not_own d (r.own most (inside 5 (level p) (d + 1)) h)) at;
+      bound = λ w most d h at. behind_dot w (not_own d (r.own most (inside 5 (level p) (d + 1)) h)) at;
     }
-formula_reads (raw_and p r) =
+formula_reads (raw_two word p r) =
     let a = formula_reads p in
     let b = formula_reads r in
+    let left = tier_level (left_of word) in
+    let right = tier_level (right_of word) in
     record {
-      own = λ most d h. and_own d (a.own most (inside 5 (level p) d) h.0) (b.own most (inside 4 (level r) (d + 1)) h.1);
-      bound = λ w most d h at. behind_dot (which_of w) (and_own d (a.own most (inside 5 (level p) d) h.0) (b.own most (inside 4 (level r) (d + 1)) h.1)) at;
+      own = λ most d h. two_own d word (a.own most (inside left (level p) d) h.0) (b.own most (inside right (level r) (d + 1)) h.1);
+      bound = λ w most d h at. behind_dot w (two_own d word (a.own most (inside left (level p) d) h.0) (b.own most (inside right (level r) (d + 1)) h.1)) at;
     }
-formula_reads (raw_or p r) =
-    let a = formula_reads p in
-    let b = formula_reads r in
-    record {
-      own = λ most d h. or_own d (a.own most (inside 4 (level p) d) h.0) (b.own most (inside 3 (level r) (d + 1)) h.1);
-      bound = λ w most d h at. behind_dot (which_of w) (or_own d (a.own most (inside 4 (level p) d) h.0) (b.own most (inside 3 (level r) (d + 1)) h.1)) at;
-    }
-formula_reads (raw_implies p r) =
-    let a = formula_reads p in
-    let b = formula_reads r in
-    record {
-      own = λ most d h. implies_own d (a.own most (inside 3 (level p) d) h.0) (b.own most (inside 2 (level r) (d + 1)) h.1);
-      bound = λ w most d h at. behind_dot (which_of w) (implies_own d (a.own most (inside 3 (level p) d) h.0) (b.own most (inside 2 (level r) (d + 1)) h.1)) at;
-    }
-formula_reads (raw_iff p r) =
-    let a = formula_reads p in
-    let b = formula_reads r in
-    record {
-      own = λ most d h. iff_own d (a.own most (inside 2 (level p) d) h.0) (b.own most (inside 2 (level r) (d + 1)) h.1);
-      bound = λ w most d h at. behind_dot (which_of w) (iff_own d (a.own most (inside 2 (level p) d) h.0) (b.own most (inside 2 (level r) (d + 1)) h.1)) at;
-    }
-formula_reads (raw_forall x s p) = forall_reads x s p (formula_reads p)
-formula_reads (raw_exists x s p) = exists_reads x s p (formula_reads p)
+formula_reads (raw_bind which x s p) = bind_reads which x s p (formula_reads p)

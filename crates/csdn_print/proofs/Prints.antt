@@ -18,8 +18,9 @@ use Rattle.csdn_tree.specs.declared.syntax.RawItem.TheVariants as item
 use Rattle.csdn_tree.specs.declared.syntax.RawPattern.{RawPattern}
 use Rattle.csdn_tree.specs.declared.syntax.RawPattern.TheVariants.{Any as AnyPort, Port as OnePort}
 use Rattle.csdn_tree.specs.declared.syntax.RawRow.{RawRow}
-use Rattle.csdn_tree.specs.RawTree.{raw_not, raw_and, raw_or, raw_implies, raw_iff, raw_forall, raw_exists, raw_seq, raw_if, raw_pick}
-use Rattle.csdn_print.specs.Formulas.{level}
+use Rattle.csdn_tree.specs.RawTree.{raw_not, raw_two, raw_bind, raw_seq, raw_if, raw_pick}
+use Rattle.csdn_tree.specs.Tiers.{left_of, right_of}
+use Rattle.csdn_print.specs.Formulas.{tier_level, level}
 use Rattle.csdn_print.specs.Commands.{is_skip}
 
 abbrev pub NamePrints : RawName → Type 0
@@ -58,12 +59,8 @@ Prints most d (f.Same u v) = (d ≤ most) × (TermPrints u × TermPrints v)
 Prints most d (f.Flow at word ts) = (d ≤ most) × FlowPrints ts
 Prints most d (f.RcvThis at ts) = (d ≤ most) × PacketPrints ts
 Prints most d (raw_not p) = Prints most (inside 5 (level p) (d + 1)) p
-Prints most d (raw_and p r) = Prints most (inside 5 (level p) d) p × Prints most (inside 4 (level r) (d + 1)) r
-Prints most d (raw_or p r) = Prints most (inside 4 (level p) d) p × Prints most (inside 3 (level r) (d + 1)) r
-Prints most d (raw_implies p r) = Prints most (inside 3 (level p) d) p × Prints most (inside 2 (level r) (d + 1)) r
-Prints most d (raw_iff p r) = Prints most (inside 2 (level p) d) p × Prints most (inside 2 (level r) (d + 1)) r
-Prints most d (raw_forall x s p) = NamePrints x × Prints most (d + 1) p
-Prints most d (raw_exists x s p) = NamePrints x × Prints most (d + 1) p
+Prints most d (raw_two word p r) = Prints most (inside (tier_level (left_of word)) (level p) d) p × Prints most (inside (tier_level (right_of word)) (level r) (d + 1)) r
+Prints most d (raw_bind which x s p) = NamePrints x × Prints most (d + 1) p
 
 -- a command that is no row of commands
 unfoldable pub is_single : RawCommand → Bool

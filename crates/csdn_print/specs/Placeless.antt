@@ -18,7 +18,7 @@ use Rattle.csdn_tree.specs.declared.syntax.RawPattern.TheVariants.{Any as AnyPor
 use Rattle.csdn_tree.specs.declared.syntax.RawProgram.{RawProgram}
 use Rattle.csdn_tree.specs.declared.syntax.RawRelation.{RawRelation}
 use Rattle.csdn_tree.specs.declared.syntax.RawRow.{RawRow}
-use Rattle.csdn_tree.specs.RawTree.{raw_not, raw_and, raw_or, raw_implies, raw_iff, raw_forall, raw_exists, raw_seq, raw_if, raw_pick}
+use Rattle.csdn_tree.specs.RawTree.{raw_not, raw_two, raw_bind, raw_seq, raw_if, raw_pick}
 
 abbrev pub bare_name : RawName → RawName
 bare_name x = record { at = 0; text = x.text }
@@ -47,12 +47,8 @@ bare_formula (f.Same u v) = f.Same (bare_term u) (bare_term v)
 bare_formula (f.Flow at word ts) = f.Flow 0 word (bare_flow ts)
 bare_formula (f.RcvThis at ts) = f.RcvThis 0 (bare_packet ts)
 bare_formula (raw_not p) = f.Not (bare_formula p)
-bare_formula (raw_and p r) = f.And (bare_formula p) (bare_formula r)
-bare_formula (raw_or p r) = f.Or (bare_formula p) (bare_formula r)
-bare_formula (raw_implies p r) = f.Implies (bare_formula p) (bare_formula r)
-bare_formula (raw_iff p r) = f.Iff (bare_formula p) (bare_formula r)
-bare_formula (raw_forall x s p) = f.Forall (bare_name x) s (bare_formula p)
-bare_formula (raw_exists x s p) = f.Exists (bare_name x) s (bare_formula p)
+bare_formula (raw_two word p r) = f.Two word (bare_formula p) (bare_formula r)
+bare_formula (raw_bind which x s p) = f.Bind which (bare_name x) s (bare_formula p)
 
 unfoldable pub bare_command : RawCommand → RawCommand
 bare_command c.Skip = c.Skip

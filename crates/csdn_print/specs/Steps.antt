@@ -4,19 +4,22 @@ use Rattle.std.proofs.Common.{ap}
 use Rattle.csdn_core.specs.declared.terms.Sort.{Sort}
 use Rattle.csdn_tree.specs.declared.names.RawName.{RawName}
 use Rattle.csdn_tree.specs.declared.names.RawTerm.{RawTerm}
+use Rattle.csdn_tree.specs.declared.syntax.Connective.{Connective}
 use Rattle.csdn_tree.specs.declared.syntax.FlowWord.{FlowWord}
+use Rattle.csdn_tree.specs.declared.syntax.Quantifier.{Quantifier}
 use Rattle.csdn_tree.specs.declared.syntax.RawFlow.{RawFlow}
 use Rattle.csdn_tree.specs.declared.syntax.RawPacket.{RawPacket}
 use Rattle.csdn_tree.specs.declared.syntax.RawFormula.{RawFormula}
 use Rattle.csdn_tree.specs.declared.syntax.RawFormula.TheVariants as f
 use Rattle.csdn_tree.specs.declared.syntax.RawCommand.{RawCommand}
 use Rattle.csdn_tree.specs.declared.syntax.RawCommand.TheVariants as c
-use Rattle.csdn_tree.specs.RawTree.{Not-is, And-is, Or-is, Implies-is, Iff-is, Forall-is, Exists-is, Seq-is, If-is, Pick-is}
+use Rattle.csdn_tree.specs.RawTree.{Not-is, Two-is, Bind-is, Seq-is, If-is, Pick-is}
+use Rattle.csdn_tree.specs.declared.tiers.Tier.TheVariants.{Joins}
+use Rattle.csdn_tree.specs.Tiers.{left_of, right_of}
 use Rattle.csdn_print.specs.declared.forms.Lead.{Lead}
 use Rattle.csdn_print.specs.declared.forms.Lead.TheVariants.{Nothing, Binds}
-use Rattle.csdn_print.specs.declared.forms.Quantifier.TheVariants as q
 use Rattle.csdn_print.specs.Words.{◌·◌, sort_text, term_text, terms_text, flow_text, packet_text}
-use Rattle.csdn_print.specs.Formulas.{level, operand, lead_text, quantifier_text, flow_word, formula_text}
+use Rattle.csdn_print.specs.Formulas.{tier_level, level, operand, lead_text, quantifier_text, connective_text, flow_word, formula_text}
 use Rattle.csdn_print.specs.Commands.{inner, is_skip, block_text, otherwise_text, command_text}
 use Rattle.csdn_print.specs.Placeless.{bare_name, bare_term, bare_terms, bare_flow, bare_packet, bare_formula, bare_command}
 
@@ -48,29 +51,13 @@ pub level-Not : (p : RawFormula) → level (f.Not p) ≡ 5
 unfolding level
 level-Not p = rw Not-is refl
 
-pub level-And : (p r : RawFormula) → level (f.And p r) ≡ 4
+pub level-Two : (word : Connective) (p r : RawFormula) → level (f.Two word p r) ≡ tier_level (Joins word)
 unfolding level
-level-And p r = rw And-is refl
+level-Two word p r = rw Two-is refl
 
-pub level-Or : (p r : RawFormula) → level (f.Or p r) ≡ 3
+pub level-Bind : (which : Quantifier) (x : RawName) (s : Sort) (p : RawFormula) → level (f.Bind which x s p) ≡ 0
 unfolding level
-level-Or p r = rw Or-is refl
-
-pub level-Implies : (p r : RawFormula) → level (f.Implies p r) ≡ 2
-unfolding level
-level-Implies p r = rw Implies-is refl
-
-pub level-Iff : (p r : RawFormula) → level (f.Iff p r) ≡ 1
-unfolding level
-level-Iff p r = rw Iff-is refl
-
-pub level-Forall : (x : RawName) (s : Sort) (p : RawFormula) → level (f.Forall x s p) ≡ 0
-unfolding level
-level-Forall x s p = rw Forall-is refl
-
-pub level-Exists : (x : RawName) (s : Sort) (p : RawFormula) → level (f.Exists x s p) ≡ 0
-unfolding level
-level-Exists x s p = rw Exists-is refl
+level-Bind which x s p = rw Bind-is refl
 
 pub formula_text-True : (lead : Lead) → formula_text lead f.True ≡ lead_text lead · codes "true"
 unfolding formula_text
@@ -100,29 +87,13 @@ pub formula_text-Not : (lead : Lead) (p : RawFormula) → formula_text lead (f.N
 unfolding formula_text
 formula_text-Not lead p = rw Not-is
 
-pub formula_text-And : (lead : Lead) (p r : RawFormula) → formula_text lead (f.And p r) ≡ lead_text lead · operand 5 (level p) (formula_text Nothing p) · codes " and " · operand 4 (level r) (formula_text Nothing r)
+pub formula_text-Two : (lead : Lead) (word : Connective) (p r : RawFormula) → formula_text lead (f.Two word p r) ≡ lead_text lead · operand (tier_level (left_of word)) (level p) (formula_text Nothing p) · connective_text word · operand (tier_level (right_of word)) (level r) (formula_text Nothing r)
 unfolding formula_text
-formula_text-And lead p r = rw And-is
+formula_text-Two lead word p r = rw Two-is
 
-pub formula_text-Or : (lead : Lead) (p r : RawFormula) → formula_text lead (f.Or p r) ≡ lead_text lead · operand 4 (level p) (formula_text Nothing p) · codes " or " · operand 3 (level r) (formula_text Nothing r)
+pub formula_text-Bind : (lead : Lead) (which : Quantifier) (x : RawName) (s : Sort) (p : RawFormula) → formula_text lead (f.Bind which x s p) ≡ quantifier_text lead which · x.text · codes ":" · sort_text s · formula_text (Binds which) p
 unfolding formula_text
-formula_text-Or lead p r = rw Or-is
-
-pub formula_text-Implies : (lead : Lead) (p r : RawFormula) → formula_text lead (f.Implies p r) ≡ lead_text lead · operand 3 (level p) (formula_text Nothing p) · codes " -> " · operand 2 (level r) (formula_text Nothing r)
-unfolding formula_text
-formula_text-Implies lead p r = rw Implies-is
-
-pub formula_text-Iff : (lead : Lead) (p r : RawFormula) → formula_text lead (f.Iff p r) ≡ lead_text lead · operand 2 (level p) (formula_text Nothing p) · codes " <-> " · operand 2 (level r) (formula_text Nothing r)
-unfolding formula_text
-formula_text-Iff lead p r = rw Iff-is
-
-pub formula_text-Forall : (lead : Lead) (x : RawName) (s : Sort) (p : RawFormula) → formula_text lead (f.Forall x s p) ≡ quantifier_text lead q.All · x.text · codes ":" · sort_text s · formula_text (Binds q.All) p
-unfolding formula_text
-formula_text-Forall lead x s p = rw Forall-is
-
-pub formula_text-Exists : (lead : Lead) (x : RawName) (s : Sort) (p : RawFormula) → formula_text lead (f.Exists x s p) ≡ quantifier_text lead q.Some · x.text · codes ":" · sort_text s · formula_text (Binds q.Some) p
-unfolding formula_text
-formula_text-Exists lead x s p = rw Exists-is
+formula_text-Bind lead which x s p = rw Bind-is
 
 pub is_skip-Skip : is_skip c.Skip ≡ true
 unfolding is_skip
@@ -232,29 +203,13 @@ pub bare_formula-Not : (p : RawFormula) → bare_formula (f.Not p) ≡ f.Not (ba
 unfolding bare_formula
 bare_formula-Not p = ap bare_formula (Not-is p)
 
-pub bare_formula-And : (p r : RawFormula) → bare_formula (f.And p r) ≡ f.And (bare_formula p) (bare_formula r)
+pub bare_formula-Two : (word : Connective) (p r : RawFormula) → bare_formula (f.Two word p r) ≡ f.Two word (bare_formula p) (bare_formula r)
 unfolding bare_formula
-bare_formula-And p r = ap bare_formula (And-is p r)
+bare_formula-Two word p r = ap bare_formula (Two-is word p r)
 
-pub bare_formula-Or : (p r : RawFormula) → bare_formula (f.Or p r) ≡ f.Or (bare_formula p) (bare_formula r)
+pub bare_formula-Bind : (which : Quantifier) (x : RawName) (s : Sort) (p : RawFormula) → bare_formula (f.Bind which x s p) ≡ f.Bind which (bare_name x) s (bare_formula p)
 unfolding bare_formula
-bare_formula-Or p r = ap bare_formula (Or-is p r)
-
-pub bare_formula-Implies : (p r : RawFormula) → bare_formula (f.Implies p r) ≡ f.Implies (bare_formula p) (bare_formula r)
-unfolding bare_formula
-bare_formula-Implies p r = ap bare_formula (Implies-is p r)
-
-pub bare_formula-Iff : (p r : RawFormula) → bare_formula (f.Iff p r) ≡ f.Iff (bare_formula p) (bare_formula r)
-unfolding bare_formula
-bare_formula-Iff p r = ap bare_formula (Iff-is p r)
-
-pub bare_formula-Forall : (x : RawName) (s : Sort) (p : RawFormula) → bare_formula (f.Forall x s p) ≡ f.Forall (bare_name x) s (bare_formula p)
-unfolding bare_formula
-bare_formula-Forall x s p = ap bare_formula (Forall-is x s p)
-
-pub bare_formula-Exists : (x : RawName) (s : Sort) (p : RawFormula) → bare_formula (f.Exists x s p) ≡ f.Exists (bare_name x) s (bare_formula p)
-unfolding bare_formula
-bare_formula-Exists x s p = ap bare_formula (Exists-is x s p)
+bare_formula-Bind which x s p = ap bare_formula (Bind-is which x s p)
 
 pub bare_command-Skip : bare_command c.Skip ≡ c.Skip
 unfolding bare_command
@@ -296,8 +251,8 @@ pub bare_command-Flood : (ts : RawPacket) → bare_command (c.Flood ts) ≡ c.Fl
 unfolding bare_command
 bare_command-Flood ts = refl
 
-pub ruleset formula_steps = (level-True, level-False, level-Atom, level-Same, level-Flow, level-RcvThis, level-Not, level-And, level-Or, level-Implies, level-Iff, level-Forall, level-Exists, formula_text-True, formula_text-False, formula_text-Atom, formula_text-Same, formula_text-Flow, formula_text-RcvThis, formula_text-Not, formula_text-And, formula_text-Or, formula_text-Implies, formula_text-Iff, formula_text-Forall, formula_text-Exists)
+pub ruleset formula_steps = (level-True, level-False, level-Atom, level-Same, level-Flow, level-RcvThis, level-Not, level-Two, level-Bind, formula_text-True, formula_text-False, formula_text-Atom, formula_text-Same, formula_text-Flow, formula_text-RcvThis, formula_text-Not, formula_text-Two, formula_text-Bind)
 
 pub ruleset command_steps = (is_skip-Skip, is_skip-Seq, is_skip-If, is_skip-Pick, is_skip-Insert, is_skip-Remove, is_skip-Install, is_skip-Uninstall, is_skip-Forward, is_skip-Flood, command_text-Skip, command_text-Seq, command_text-If, command_text-Pick, command_text-Insert, command_text-Remove, command_text-Install, command_text-Uninstall, command_text-Forward, command_text-Flood)
 
-pub ruleset bare_steps = (bare_formula-True, bare_formula-False, bare_formula-Atom, bare_formula-Same, bare_formula-Flow, bare_formula-RcvThis, bare_formula-Not, bare_formula-And, bare_formula-Or, bare_formula-Implies, bare_formula-Iff, bare_formula-Forall, bare_formula-Exists, bare_command-Skip, bare_command-Seq, bare_command-If, bare_command-Pick, bare_command-Insert, bare_command-Remove, bare_command-Install, bare_command-Uninstall, bare_command-Forward, bare_command-Flood)
+pub ruleset bare_steps = (bare_formula-True, bare_formula-False, bare_formula-Atom, bare_formula-Same, bare_formula-Flow, bare_formula-RcvThis, bare_formula-Not, bare_formula-Two, bare_formula-Bind, bare_command-Skip, bare_command-Seq, bare_command-If, bare_command-Pick, bare_command-Insert, bare_command-Remove, bare_command-Install, bare_command-Uninstall, bare_command-Forward, bare_command-Flood)

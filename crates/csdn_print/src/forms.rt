@@ -2,12 +2,7 @@
 ghost use Rattle.std.specs.Prelude.{◌≡◌};
 ghost use Rattle.csdn_print.specs.Formulas as spec;
 
-/// The two quantifiers.
-#[derive(Clone, Copy)]
-pub enum Quantifier {
-    All,
-    Some,
-}
+use csdn_tree::syntax::{Connective, Quantifier};
 
 /// What a formula stands behind: nothing of its own, or the names that a quantifier binds.
 #[derive(Clone, Copy)]
@@ -37,5 +32,17 @@ pub fn quantifier_text(lead: Lead, which: Quantifier) -> &'static [u8]
         (Lead::Binds(Quantifier::Some), Quantifier::All) => b". forall ",
         (Lead::Binds(Quantifier::All), Quantifier::Some) => b". exists ",
         (Lead::Binds(Quantifier::Some), Quantifier::Some) => b", ",
+    }
+}
+
+/// The word between two formulas, with the spaces around it.
+pub fn connective_text(word: Connective) -> &'static [u8]
+    ensures { result.now ≡ spec.connective_text word }
+{
+    match word {
+        Connective::And => b" and ",
+        Connective::Or => b" or ",
+        Connective::Implies => b" -> ",
+        Connective::Iff => b" <-> ",
     }
 }

@@ -6,14 +6,29 @@ ghost use Rattle.csdn_print.specs.declared.forms.Lead.TheVariants.{Nothing, Bind
 ghost use Rattle.csdn_print.specs.Words as words;
 ghost use Rattle.csdn_print.specs.Words.{◌·◌};
 ghost use Rattle.csdn_print.specs.Formulas as spec;
+ghost use Rattle.csdn_tree.specs.Tiers.{left_of, right_of};
 
-use crate::forms::{Lead, Quantifier, lead_text, quantifier_text};
+use crate::forms::{Lead, connective_text, lead_text, quantifier_text};
 use crate::words::{put_bind, put_flow, put_packet, put_term, put_terms};
 use csdn_core::terms::Sort;
 use csdn_tree::names::{RawName, RawTerm};
-use csdn_tree::syntax::{FlowWord, RawFlow, RawFormula, RawPacket};
+use csdn_tree::syntax::{Connective, FlowWord, Quantifier, RawFlow, RawFormula, RawPacket};
+use csdn_tree::tiers::{Tier, left_of, right_of};
 use std::alloc::AllocError;
 use text_lines::put_word;
+
+/// The level that a place beside a word needs.
+fn tier_level(tier: Tier) -> u8
+    ensures { result ≡ spec.tier_level tier }
+{
+    match tier {
+        Tier::Single => 5,
+        Tier::Joins(Connective::And) => 4,
+        Tier::Joins(Connective::Or) => 3,
+        Tier::Joins(Connective::Implies) => 2,
+        Tier::Joins(Connective::Iff) => 1,
+    }
+}
 
 /// How tightly a formula holds together.
 fn level(p: &RawFormula) -> u8
@@ -27,12 +42,8 @@ fn level(p: &RawFormula) -> u8
         RawFormula::Flow(_, _, _) => 5,
         RawFormula::RcvThis(_, _) => 5,
         RawFormula::Not(_) => 5,
-        RawFormula::And(_, _) => 4,
-        RawFormula::Or(_, _) => 3,
-        RawFormula::Implies(_, _) => 2,
-        RawFormula::Iff(_, _) => 1,
-        RawFormula::Forall(_, _, _) => 0,
-        RawFormula::Exists(_, _, _) => 0,
+        RawFormula::Two(word, _, _) => tier_level(Tier::Joins(*word)),
+        RawFormula::Bind(_, _, _, _) => 0,
     }
 }
 
@@ -109,11 +120,8 @@ pub fn put_formula(out: &mut Vec<u8>, lead: Lead, p: &RawFormula) -> Result<(), 
     ensures { OnOk result (out.new.items ≡ out.old.items ++ spec.formula_text lead p.now) }
 {
     match p {
-        RawFormula::Forall(name, sort, p) => {
-            put_quantified(out, lead, Quantifier::All, name, *sort, p.get())
-        }
-        RawFormula::Exists(name, sort, p) => {
-            put_quantified(out, lead, Quantifier::Some, name, *sort, p.get())
+        RawFormula::Bind(which, name, sort, p) => {
+            put_quantified(out, lead, *which, name, *sort, p.get())
         }
         RawFormula::True => put_behind(out, lead, b"true"),
         RawFormula::False => put_behind(out, lead, b"false"),
@@ -122,10 +130,7 @@ pub fn put_formula(out: &mut Vec<u8>, lead: Lead, p: &RawFormula) -> Result<(), 
         RawFormula::Flow(_, word, flow) => put_flow_atom(out, lead, *word, flow),
         RawFormula::RcvThis(_, packet) => put_packet_atom(out, lead, packet),
         RawFormula::Not(p) => put_not(out, lead, p.get()),
-        RawFormula::And(p, r) => put_two(out, lead, 5, p.get(), b" and ", 4, r.get()),
-        RawFormula::Or(p, r) => put_two(out, lead, 4, p.get(), b" or ", 3, r.get()),
-        RawFormula::Implies(p, r) => put_two(out, lead, 3, p.get(), b" -> ", 2, r.get()),
-        RawFormula::Iff(p, r) => put_two(out, lead, 2, p.get(), b" <-> ", 2, r.get()),
+        RawFormula::Two(word, p, r) => put_two(out, lead, *word, p.get(), r.get()),
     }
 }
 
@@ -152,24 +157,23 @@ fn put_operand(out: &mut Vec<u8>, needed: u8, p: &RawFormula) -> Result<(), Allo
     }
 }
 
-/// Two operands, each where a level is needed, and the word between them.
+/// Two formulas and the word between them.
 #[cycle(formula)]
 fn put_two(
     out: &mut Vec<u8>,
     lead: Lead,
-    left: u8,
+    word: Connective,
     p: &RawFormula,
-    word: &[u8],
-    right: u8,
     r: &RawFormula,
 ) -> Result<(), AllocError>
-    ensures { OnOk result (out.new.items ≡ out.old.items ++ (spec.lead_text lead · spec.operand left (spec.level p.now) (spec.formula_text Nothing p.now)
-        · word.now · spec.operand right (spec.level r.now) (spec.formula_text Nothing r.now))) }
+    ensures { OnOk result (out.new.items ≡ out.old.items ++ (spec.lead_text lead
+        · spec.operand (spec.tier_level (left_of word)) (spec.level p.now) (spec.formula_text Nothing p.now) · spec.connective_text word
+        · spec.operand (spec.tier_level (right_of word)) (spec.level r.now) (spec.formula_text Nothing r.now))) }
 {
     put_word(out, lead_text(lead))?;
-    put_operand(out, left, p)?;
-    put_word(out, word)?;
-    put_operand(out, right, r)
+    put_operand(out, tier_level(left_of(word)), p)?;
+    put_word(out, connective_text(word))?;
+    put_operand(out, tier_level(right_of(word)), r)
 }
 
 /// A quantifier with its name, and what it binds it in.

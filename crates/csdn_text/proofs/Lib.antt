@@ -1,3 +1,4 @@
+mod Ranks
 pub mod Sets
 pub mod Tables
 pub mod Samples

@@ -3,8 +3,13 @@ use Rattle.std.proofs.Common.{ℕ, List, [], ◌∷◌, ◌++◌, refl, inl, inr
 use Rattle.csdn_tokens.specs.declared.Kind.{Kind}
 use Rattle.csdn_tokens.specs.declared.Kind.TheVariants as k
 use Rattle.csdn_tokens.specs.declared.Token.{Token}
-use Rattle.csdn_text.specs.declared.parts.Quantifier.{Quantifier}
-use Rattle.csdn_text.specs.Symbols.{Nonterminal, program, items, item, static_item, const_item, rel_item, invariant_item, invariant_kind, handler_item, handler_port, timeout_item, sorts, sort_list, more_sorts, sort, initial, rows, more_rows, row, terms, more_terms, name, term, port, formula, binds, more_binds, iff, iff_tail, implies, implies_tail, either, either_tail, both, both_tail, unary, atom, atom_rest, fact, flow, packet, block, commands, more_commands, command, branch, choice, otherwise, action, Level, here, deeper, depth_of, Symbol, token, part, Values, made, Rule}
+use Rattle.csdn_tree.specs.declared.syntax.Quantifier.{Quantifier}
+use Rattle.csdn_tree.specs.declared.syntax.Connective.{Connective}
+use Rattle.csdn_tree.specs.declared.syntax.Connective.TheVariants as w
+use Rattle.csdn_tree.specs.declared.tiers.Tier.TheVariants.{Single, Joins}
+use Rattle.csdn_tree.specs.declared.tiers.Tier.{Tier}
+use Rattle.csdn_text.specs.Symbols.{Nonterminal, program, items, item, static_item, const_item, rel_item, invariant_item, invariant_kind, handler_item, handler_port, timeout_item, sorts, sort_list, more_sorts, sort, initial, rows, more_rows, row, terms, more_terms, name, term, port, formula, binds, more_binds, tier, tail, atom, atom_rest, fact, flow, packet, block, commands, more_commands, command, branch, choice, otherwise, action, Level, here, deeper, depth_of, Symbol, token, part, Values, made, Rule}
+use Rattle.csdn_tree.specs.Tiers.{left_of}
 use Rattle.csdn_text.specs.Grammar.{rules}
 use Rattle.csdn_text.specs.Derives.{Mark, IsRule, Derives}
 use Rattle.csdn_text.specs.Derives.Derives.{nothing, one, by_rule}
@@ -71,18 +76,6 @@ a_name = ((rules name).last, inl refl, (λ d. tok k.Name here (empty d)))
 a_port : Some port
 a_port = ((rules port).last, inl refl, (λ d. tok k.Prt here (tok k.Open here (tok k.Number here (tok k.Close here (empty d))))))
 
-a_iff_tail : Some iff_tail
-a_iff_tail = ((rules iff_tail).last, inr (inl refl), empty)
-
-a_implies_tail : Some implies_tail
-a_implies_tail = ((rules implies_tail).last, inr (inl refl), empty)
-
-a_either_tail : Some either_tail
-a_either_tail = ((rules either_tail).last, inr (inl refl), empty)
-
-a_both_tail : Some both_tail
-a_both_tail = ((rules both_tail).last, inr (inl refl), empty)
-
 a_atom : Some atom
 a_atom = (first_of (rules atom).led (rules atom).last, inl refl, (λ d. tok k.True here (empty d)))
 
@@ -113,8 +106,25 @@ a_row = ((rules row).last, inl refl, (λ d. tok k.Open here (use_it a_terms (tok
 a_term : Some term
 a_term = ((rules term).last, inr (inl refl), (λ d. use_it a_name (empty d)))
 
-a_unary : Some unary
-a_unary = ((rules unary).last, inr (inl refl), (λ d. use_it a_atom (empty d)))
+a_tail : (word : Connective) → Some (tail word)
+a_tail word = ((rules (tail word)).last, inr (inl refl), empty)
+
+a_single : Some (tier Single)
+a_single = ((rules (tier Single)).last, inr (inl refl), (λ d. use_it a_atom (empty d)))
+
+-- formulas with a word between them, given what stands to its left
+joined_by : (word : Connective) → Some (tier (left_of word)) → Some (tier (Joins word))
+joined_by word left = ((rules (tier (Joins word))).last, inl refl, (λ d. use_it left (use_it (a_tail word) (empty d))))
+
+a_joins : (word : Connective) → Some (tier (Joins word))
+a_joins w.And = joined_by w.And a_single
+a_joins w.Or = joined_by w.Or (joined_by w.And a_single)
+a_joins w.Implies = joined_by w.Implies (joined_by w.Or (joined_by w.And a_single))
+a_joins w.Iff = joined_by w.Iff (joined_by w.Implies (joined_by w.Or (joined_by w.And a_single)))
+
+a_tier : (t : Tier) → Some (tier t)
+a_tier Single = a_single
+a_tier (Joins word) = a_joins word
 
 a_commands : Some commands
 a_commands = ((rules commands).last, inl refl, (λ d. use_it a_command (use_it a_more_commands (empty d))))
@@ -124,9 +134,6 @@ a_static_item = ((rules static_item).last, inl refl, (λ d. tok k.Static here (u
 
 a_rel_item : Some rel_item
 a_rel_item = ((rules rel_item).last, inl refl, (λ d. tok k.Rel here (use_it a_name (use_it a_sorts (use_it a_initial (tok k.Semicolon here (empty d)))))))
-
-a_both : Some both
-a_both = ((rules both).last, inl refl, (λ d. use_it a_unary (use_it a_both_tail (empty d))))
 
 a_atom_rest : Some atom_rest
 a_atom_rest = (first_of (rules atom_rest).led (rules atom_rest).last, inl refl, (λ d. tok k.Equals here (use_it a_term (empty d))))
@@ -149,23 +156,14 @@ a_item = (first_of (rules item).led (rules item).last, inl refl, (λ d. use_it a
 a_handler_item : Some handler_item
 a_handler_item = ((rules handler_item).last, inl refl, (λ d. tok k.PktIn here (tok k.Open here (use_it a_name (tok k.Comma here (use_it a_name (tok k.Arrow here (use_it a_name (tok k.Comma here (use_it a_handler_port (tok k.Close here (use_it a_block (empty d)))))))))))))
 
-a_either : Some either
-a_either = ((rules either).last, inl refl, (λ d. use_it a_both (use_it a_either_tail (empty d))))
-
 a_fact : Some fact
 a_fact = (first_of (rules fact).led (rules fact).last, inl refl, (λ d. tok k.Ft here (use_it a_flow (empty d))))
 
 a_program : Some program
 a_program = ((rules program).last, inl refl, (λ d. use_it a_item (use_it a_items (empty d))))
 
-a_implies : Some implies
-a_implies = ((rules implies).last, inl refl, (λ d. use_it a_either (use_it a_implies_tail (empty d))))
-
-a_iff : Some iff
-a_iff = ((rules iff).last, inl refl, (λ d. use_it a_implies (use_it a_iff_tail (empty d))))
-
 a_formula : Some formula
-a_formula = ((rules formula).last, inr (inr (inl refl)), (λ d. use_it a_iff (empty d)))
+a_formula = ((rules formula).last, inr (inr (inl refl)), (λ d. use_it (a_joins w.Iff) (empty d)))
 
 a_invariant_item : Some invariant_item
 a_invariant_item = ((rules invariant_item).last, inl refl, (λ d. use_it a_invariant_kind (use_it a_name (tok k.Colon here (use_it a_formula (tok k.Semicolon here (empty d)))))))
@@ -210,15 +208,8 @@ some_of port = a_port
 some_of formula = a_formula
 some_of (binds q) = a_binds q
 some_of (more_binds q) = a_more_binds q
-some_of iff = a_iff
-some_of iff_tail = a_iff_tail
-some_of implies = a_implies
-some_of implies_tail = a_implies_tail
-some_of either = a_either
-some_of either_tail = a_either_tail
-some_of both = a_both
-some_of both_tail = a_both_tail
-some_of unary = a_unary
+some_of (tier t) = a_tier t
+some_of (tail word) = a_tail word
 some_of atom = a_atom
 some_of atom_rest = a_atom_rest
 some_of fact = a_fact

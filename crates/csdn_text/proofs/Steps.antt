@@ -1,12 +1,16 @@
 -- How the parse of a rule is put together from the parses of its parts.
-use Rattle.std.proofs.Common.{◌≡◌, ℕ, ◌≤◌, ◌<◌, List, [], ◌∷◌, Bool, true, false, not, Result, Ok, Err, length, refl, sym, subst, arith}
+use Rattle.std.proofs.Common.{◌≡◌, ℕ, ◌≤◌, ◌<◌, List, [], ◌∷◌, Bool, true, false, not, Result, Ok, Err, Some, length, refl, sym, subst, arith}
 use Rattle.std.specs.Result.{IsErrAnd}
 use Rattle.csdn_tokens.specs.declared.Kind.{Kind}
 use Rattle.csdn_tokens.specs.declared.Token.{Token}
+use Rattle.csdn_tree.specs.declared.syntax.Connective.{Connective}
+use Rattle.csdn_tree.specs.declared.syntax.RawFormula.{RawFormula}
+use Rattle.csdn_tree.specs.declared.tiers.Tier.{Tier}
+use Rattle.csdn_tree.specs.Tiers.{right_of}
 use Rattle.csdn_text.specs.declared.TextRefusal.{TextRefusal}
 use Rattle.csdn_text.specs.declared.TextRefusal.TheVariants.{Memory, TooDeep}
-use Rattle.csdn_text.specs.Symbols.{Nonterminal, Level, here, depth_of, Symbol, token, part, Value, ValueOf, Values, made, Rule, same}
-use Rattle.csdn_text.specs.Grammar.{rules}
+use Rattle.csdn_text.specs.Symbols.{Nonterminal, tier, tail, Level, here, deeper, depth_of, Symbol, token, part, Value, ValueOf, Values, made, Rule, same}
+use Rattle.csdn_text.specs.Grammar.{kind_of, rule, rules}
 use Rattle.csdn_text.specs.Machine.{Takes, Fails, Parses, choose, pick, begins, limit, next_is, refused_at}
 use Rattle.csdn_text.specs.Machine.Takes.{done, step, down}
 use Rattle.csdn_text.specs.Machine.Fails.{memory, unexpected, deep, after_one, inside, after_rule}
@@ -135,3 +139,19 @@ not_true false is on = refl
 
 pub no_memory : {d : ℕ} {s : Symbol} {old new : List Token} {f : TextRefusal} → f ≡ Memory → Parses d s old new (Err f)
 no_memory {d} {s} {old} {new} is = subst (λ x. Parses d s old new (Err x)) (sym is) (refuses memory)
+
+-- what is parsed, under the name by which the grammar has it
+pub at_tier : {d : ℕ} {t u : Tier} {old new : List Token} {r : Result RawFormula TextRefusal} → t ≡ u → Parses d (part (tier t) here) old new r → Parses d (part (tier u) here) old new r
+at_tier {d} {t} {u} {old} {new} {r} is h = subst (λ x. Parses d (part (tier x) here) old new r) is h
+
+pub at_kind : {d : ℕ} {k l : Kind} {old new : List Token} {r : Result Token TextRefusal} → k ≡ l → Parses d (token k here) old new r → Parses d (token l here) old new r
+at_kind {d} {k} {l} {old} {new} {r} is h = subst (λ x. Parses d (token x here) old new r) is h
+
+-- whether the word of a tail comes
+pub tail_goes : {word : Connective} {k : Kind} {ts : List Token} → k ≡ kind_of word → next_is ts k ≡ true
+    → Chosen {n = tail word} (rules (tail word)).led (rules (tail word)).last ts (rule (token (kind_of word) deeper ∷ part (tier (right_of word)) deeper ∷ []) (λ _ p. Some p))
+tail_goes {word} {k} {ts} is h = this (subst (λ x. next_is ts x ≡ true) is h)
+
+pub tail_ends : {word : Connective} {k : Kind} {ts : List Token} → k ≡ kind_of word → next_is ts k ≡ false
+    → Chosen {n = tail word} (rules (tail word)).led (rules (tail word)).last ts (rules (tail word)).last
+tail_ends {word} {k} {ts} is h = other (subst (λ x. next_is ts x ≡ false) is h) last

@@ -2,7 +2,10 @@
 use Rattle.std.proofs.Common.{◌≡◌, List, [], ◌∷◌, ◌++◌, Bool, true, false, not, ◌&&◌, cond, refl}
 use Rattle.csdn_tokens.specs.declared.Kind.{Kind}
 use Rattle.csdn_tokens.specs.declared.Kind.TheVariants as k
-use Rattle.csdn_text.specs.Symbols.{Nonterminal, program, items, item, static_item, const_item, rel_item, invariant_item, invariant_kind, handler_item, handler_port, timeout_item, sorts, sort_list, more_sorts, sort, initial, rows, more_rows, row, terms, more_terms, name, term, port, formula, binds, more_binds, iff, iff_tail, implies, implies_tail, either, either_tail, both, both_tail, unary, atom, atom_rest, fact, flow, packet, block, commands, more_commands, command, branch, choice, otherwise, action, Symbol, token, part, Rule}
+use Rattle.csdn_tree.specs.declared.syntax.Connective.{Connective}
+use Rattle.csdn_tree.specs.declared.syntax.Connective.TheVariants as word
+use Rattle.csdn_tree.specs.declared.tiers.Tier.TheVariants.{Single, Joins}
+use Rattle.csdn_text.specs.Symbols.{Nonterminal, program, items, item, static_item, const_item, rel_item, invariant_item, invariant_kind, handler_item, handler_port, timeout_item, sorts, sort_list, more_sorts, sort, initial, rows, more_rows, row, terms, more_terms, name, term, port, formula, binds, more_binds, tier, tail, atom, atom_rest, fact, flow, packet, block, commands, more_commands, command, branch, choice, otherwise, action, Symbol, token, part, Rule}
 use Rattle.csdn_text.specs.Grammar.{rules}
 use Rattle.csdn_text.specs.Machine.{first}
 use Rattle.csdn_text.proofs.Sets.{within, apart}
@@ -17,13 +20,17 @@ nullable rows = true
 nullable more_rows = true
 nullable terms = true
 nullable more_terms = true
-nullable iff_tail = true
-nullable implies_tail = true
-nullable either_tail = true
-nullable both_tail = true
+nullable (tail word) = true
 nullable more_commands = true
 nullable otherwise = true
 nullable _ = false
+
+-- the kinds that can follow formulas with a word between them
+abbrev behind : Connective → List Kind
+behind word.Iff = k.Semicolon ∷ k.Close ∷ k.Begin ∷ []
+behind word.Implies = k.Both ∷ k.Semicolon ∷ k.Close ∷ k.Begin ∷ []
+behind word.Or = k.Arrow ∷ k.Both ∷ k.Semicolon ∷ k.Close ∷ k.Begin ∷ []
+behind word.And = k.Or ∷ k.Arrow ∷ k.Both ∷ k.Semicolon ∷ k.Close ∷ k.Begin ∷ []
 
 -- the kinds that can follow a nonterminal
 abbrev pub follow : Nonterminal → List Kind
@@ -54,15 +61,9 @@ follow port = k.Close ∷ k.Comma ∷ k.Equals ∷ k.And ∷ k.Or ∷ k.Arrow �
 follow formula = k.Semicolon ∷ k.Close ∷ k.Begin ∷ []
 follow (binds q) = k.Semicolon ∷ k.Close ∷ k.Begin ∷ []
 follow (more_binds q) = k.Semicolon ∷ k.Close ∷ k.Begin ∷ []
-follow iff = k.Semicolon ∷ k.Close ∷ k.Begin ∷ []
-follow iff_tail = k.Semicolon ∷ k.Close ∷ k.Begin ∷ []
-follow implies = k.Both ∷ k.Semicolon ∷ k.Close ∷ k.Begin ∷ []
-follow implies_tail = k.Both ∷ k.Semicolon ∷ k.Close ∷ k.Begin ∷ []
-follow either = k.Arrow ∷ k.Both ∷ k.Semicolon ∷ k.Close ∷ k.Begin ∷ []
-follow either_tail = k.Arrow ∷ k.Both ∷ k.Semicolon ∷ k.Close ∷ k.Begin ∷ []
-follow both = k.Or ∷ k.Arrow ∷ k.Both ∷ k.Semicolon ∷ k.Close ∷ k.Begin ∷ []
-follow both_tail = k.Or ∷ k.Arrow ∷ k.Both ∷ k.Semicolon ∷ k.Close ∷ k.Begin ∷ []
-follow unary = k.And ∷ k.Or ∷ k.Arrow ∷ k.Both ∷ k.Semicolon ∷ k.Close ∷ k.Begin ∷ []
+follow (tier Single) = k.And ∷ k.Or ∷ k.Arrow ∷ k.Both ∷ k.Semicolon ∷ k.Close ∷ k.Begin ∷ []
+follow (tier (Joins word)) = behind word
+follow (tail word) = behind word
 follow atom = k.And ∷ k.Or ∷ k.Arrow ∷ k.Both ∷ k.Semicolon ∷ k.Close ∷ k.Begin ∷ []
 follow atom_rest = k.And ∷ k.Or ∷ k.Arrow ∷ k.Both ∷ k.Semicolon ∷ k.Close ∷ k.Begin ∷ []
 follow fact = k.And ∷ k.Or ∷ k.Arrow ∷ k.Both ∷ k.Semicolon ∷ k.Close ∷ k.Begin ∷ []
@@ -152,15 +153,15 @@ all_predictive port = refl
 all_predictive formula = refl
 all_predictive (binds q) = refl
 all_predictive (more_binds q) = refl
-all_predictive iff = refl
-all_predictive iff_tail = refl
-all_predictive implies = refl
-all_predictive implies_tail = refl
-all_predictive either = refl
-all_predictive either_tail = refl
-all_predictive both = refl
-all_predictive both_tail = refl
-all_predictive unary = refl
+all_predictive (tier Single) = refl
+all_predictive (tier (Joins word.And)) = refl
+all_predictive (tier (Joins word.Or)) = refl
+all_predictive (tier (Joins word.Implies)) = refl
+all_predictive (tier (Joins word.Iff)) = refl
+all_predictive (tail word.And) = refl
+all_predictive (tail word.Or) = refl
+all_predictive (tail word.Implies) = refl
+all_predictive (tail word.Iff) = refl
 all_predictive atom = refl
 all_predictive atom_rest = refl
 all_predictive fact = refl

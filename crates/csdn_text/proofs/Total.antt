@@ -4,7 +4,9 @@ use Rattle.std.proofs.lemmas.Bool.{and_parts, and_from, ltb-true, ltb-false}
 use Rattle.csdn_tokens.specs.declared.Kind.{Kind}
 use Rattle.csdn_tokens.specs.declared.Token.{Token}
 use Rattle.csdn_text.specs.declared.TextRefusal.{TextRefusal}
-use Rattle.csdn_text.specs.Symbols.{Nonterminal, program, items, item, invariant_item, handler_port, sort_list, rows, terms, term, formula, binds, iff, implies, either, both, unary, atom, atom_rest, commands, more_commands, command, Level, depth_of, Symbol, token, part, Values, Rule, same}
+use Rattle.csdn_tree.specs.declared.syntax.Connective.TheVariants as word
+use Rattle.csdn_tree.specs.declared.tiers.Tier.TheVariants.{Single, Joins}
+use Rattle.csdn_text.specs.Symbols.{Nonterminal, program, items, item, invariant_item, handler_port, sort_list, rows, terms, term, formula, binds, tier, tail, atom, atom_rest, commands, more_commands, command, Level, depth_of, Symbol, token, part, Values, Rule, same}
 use Rattle.csdn_text.specs.Grammar.{rules}
 use Rattle.csdn_text.specs.Derives.{Mark, tokens_of, Among, Derives}
 use Rattle.csdn_text.specs.Derives.Derives.{nothing, one, by_rule}
@@ -29,11 +31,11 @@ rank terms = 2
 rank term = 1
 rank formula = 7
 rank (binds q) = 1
-rank iff = 6
-rank implies = 5
-rank either = 4
-rank both = 3
-rank unary = 2
+rank (tier Single) = 2
+rank (tier (Joins word.And)) = 3
+rank (tier (Joins word.Or)) = 4
+rank (tier (Joins word.Implies)) = 5
+rank (tier (Joins word.Iff)) = 6
 rank atom = 1
 rank atom_rest = 1
 rank more_commands = 3
@@ -54,10 +56,24 @@ are_below bound (r ∷ rs) = is_below bound r.parts && are_below bound rs
 -- each right side begins with what has a lower rank
 falls : (n : Nonterminal) → are_below (rank n) ((rules n).led ++ (rules n).last ∷ []) ≡ true
 falls program = refl
+falls (tier Single) = refl
+falls (tier (Joins word.And)) = refl
+falls (tier (Joins word.Or)) = refl
+falls (tier (Joins word.Implies)) = refl
+falls (tier (Joins word.Iff)) = refl
+falls (tail word.And) = refl
+falls (tail word.Or) = refl
+falls (tail word.Implies) = refl
+falls (tail word.Iff) = refl
 falls _ = refl
 
 rank_small : (n : Nonterminal) → ltb (rank n) 8 ≡ true
 rank_small program = refl
+rank_small (tier Single) = refl
+rank_small (tier (Joins word.And)) = refl
+rank_small (tier (Joins word.Or)) = refl
+rank_small (tier (Joins word.Implies)) = refl
+rank_small (tier (Joins word.Iff)) = refl
 rank_small _ = refl
 
 any_below : (ss : List Symbol) → is_below 8 ss ≡ true

@@ -2,11 +2,14 @@
 use Rattle.std.specs.Prelude.{List, [], ◌∷◌, Option, Some, None, true, false}
 use Rattle.csdn_core.specs.declared.terms.Sort.{Sort}
 use Rattle.csdn_core.specs.declared.terms.Sort.TheVariants as s
+use Rattle.csdn_tokens.specs.declared.Kind.{Kind}
 use Rattle.csdn_tokens.specs.declared.Kind.TheVariants as k
 use Rattle.csdn_tokens.specs.declared.Token.{Token}
 use Rattle.csdn_tree.specs.declared.names.RawName.{RawName}
 use Rattle.csdn_tree.specs.declared.names.RawNumeral.{RawNumeral}
 use Rattle.csdn_tree.specs.declared.names.RawTerm.TheVariants as t
+use Rattle.csdn_tree.specs.declared.syntax.Connective.{Connective}
+use Rattle.csdn_tree.specs.declared.syntax.Connective.TheVariants as word
 use Rattle.csdn_tree.specs.declared.syntax.FlowWord.TheVariants as w
 use Rattle.csdn_tree.specs.declared.syntax.InvariantKind.TheVariants as v
 use Rattle.csdn_tree.specs.declared.syntax.RawCommand.{RawCommand}
@@ -24,9 +27,10 @@ use Rattle.csdn_text.specs.declared.parts.AtomRest.{AtomRest}
 use Rattle.csdn_text.specs.declared.parts.AtomRest.TheVariants as r
 use Rattle.csdn_text.specs.declared.parts.FlowTerms.{FlowTerms}
 use Rattle.csdn_text.specs.declared.parts.PacketTerms.{PacketTerms}
-use Rattle.csdn_text.specs.declared.parts.Quantifier.{Quantifier}
-use Rattle.csdn_text.specs.declared.parts.Quantifier.TheVariants as q
-use Rattle.csdn_text.specs.Symbols.{Nonterminal, program, items, item, static_item, const_item, rel_item, invariant_item, invariant_kind, handler_item, handler_port, timeout_item, sorts, sort_list, more_sorts, sort, initial, rows, more_rows, row, terms, more_terms, name, term, port, formula, binds, more_binds, iff, iff_tail, implies, implies_tail, either, either_tail, both, both_tail, unary, atom, atom_rest, fact, flow, packet, block, commands, more_commands, command, branch, choice, otherwise, action, here, deeper, Symbol, token, part, Value, Makes, Rule, Rules}
+use Rattle.csdn_tree.specs.declared.syntax.Quantifier.TheVariants as q
+use Rattle.csdn_tree.specs.declared.tiers.Tier.TheVariants.{Single, Joins}
+use Rattle.csdn_tree.specs.Tiers.{left_of, right_of}
+use Rattle.csdn_text.specs.Symbols.{Nonterminal, program, items, item, static_item, const_item, rel_item, invariant_item, invariant_kind, handler_item, handler_port, timeout_item, sorts, sort_list, more_sorts, sort, initial, rows, more_rows, row, terms, more_terms, name, term, port, formula, binds, more_binds, tier, tail, atom, atom_rest, fact, flow, packet, block, commands, more_commands, command, branch, choice, otherwise, action, here, deeper, Symbol, token, part, Value, Makes, Rule, Rules}
 
 -- a right side and its value
 abbrev pub rule : {n : Nonterminal} → (parts : List Symbol) → Makes parts (Value n) → Rule n
@@ -44,10 +48,12 @@ numeral_of word number = record { at = word.at; number = number.number }
 abbrev pub timeout_of : Token → Token → RawTimeout
 timeout_of word number = record { at = word.at; seconds = number.number }
 
--- a quantifier over one name
-abbrev pub quantified : Quantifier → RawName → Sort → RawFormula → RawFormula
-quantified q.All x s body = f.Forall x s body
-quantified q.Some x s body = f.Exists x s body
+-- the kind of the word between two formulas
+abbrev pub kind_of : Connective → Kind
+kind_of word.And = k.And
+kind_of word.Or = k.Or
+kind_of word.Implies = k.Arrow
+kind_of word.Iff = k.Both
 
 -- a left side, and a right side where there is one
 abbrev pub joined : {A : Type 0} → (A → A → A) → A → Option A → A
@@ -191,51 +197,27 @@ rules port = record {
 rules formula = record {
   led = rule (token k.Forall here ∷ part (binds q.All) here ∷ []) (λ _ p. p)
       ∷ rule (token k.Exists here ∷ part (binds q.Some) here ∷ []) (λ _ p. p) ∷ [];
-  last = rule (part iff here ∷ []) (λ p. p);
+  last = rule (part (tier (Joins word.Iff)) here ∷ []) (λ p. p);
 }
 rules (binds which) = record {
   led = [];
-  last = rule (part name deeper ∷ token k.Colon deeper ∷ part sort deeper ∷ part (more_binds which) deeper ∷ []) (λ x _ s body. quantified which x s body);
+  last = rule (part name deeper ∷ token k.Colon deeper ∷ part sort deeper ∷ part (more_binds which) deeper ∷ []) (λ x _ s body. f.Bind which x s body);
 }
 rules (more_binds which) = record {
   led = rule (token k.Comma here ∷ part (binds which) here ∷ []) (λ _ p. p) ∷ [];
   last = rule (token k.Dot here ∷ part formula here ∷ []) (λ _ p. p);
 }
-rules iff = record {
-  led = [];
-  last = rule (part implies here ∷ part iff_tail here ∷ []) (λ p tail. joined f.Iff p tail);
-}
-rules iff_tail = record {
-  led = rule (token k.Both deeper ∷ part implies deeper ∷ []) (λ _ p. Some p) ∷ [];
-  last = rule [] None;
-}
-rules implies = record {
-  led = [];
-  last = rule (part either here ∷ part implies_tail here ∷ []) (λ p tail. joined f.Implies p tail);
-}
-rules implies_tail = record {
-  led = rule (token k.Arrow deeper ∷ part implies deeper ∷ []) (λ _ p. Some p) ∷ [];
-  last = rule [] None;
-}
-rules either = record {
-  led = [];
-  last = rule (part both here ∷ part either_tail here ∷ []) (λ p tail. joined f.Or p tail);
-}
-rules either_tail = record {
-  led = rule (token k.Or deeper ∷ part either deeper ∷ []) (λ _ p. Some p) ∷ [];
-  last = rule [] None;
-}
-rules both = record {
-  led = [];
-  last = rule (part unary here ∷ part both_tail here ∷ []) (λ p tail. joined f.And p tail);
-}
-rules both_tail = record {
-  led = rule (token k.And deeper ∷ part both deeper ∷ []) (λ _ p. Some p) ∷ [];
-  last = rule [] None;
-}
-rules unary = record {
-  led = rule (token k.Not deeper ∷ part unary deeper ∷ []) (λ _ p. f.Not p) ∷ [];
+rules (tier Single) = record {
+  led = rule (token k.Not deeper ∷ part (tier Single) deeper ∷ []) (λ _ p. f.Not p) ∷ [];
   last = rule (part atom here ∷ []) (λ p. p);
+}
+rules (tier (Joins word)) = record {
+  led = [];
+  last = rule (part (tier (left_of word)) here ∷ part (tail word) here ∷ []) (λ p rest. joined (f.Two word) p rest);
+}
+rules (tail word) = record {
+  led = rule (token (kind_of word) deeper ∷ part (tier (right_of word)) deeper ∷ []) (λ _ p. Some p) ∷ [];
+  last = rule [] None;
 }
 rules atom = record {
   led = rule (token k.True here ∷ []) (λ _. f.True)

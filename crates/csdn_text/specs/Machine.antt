@@ -5,8 +5,8 @@ use Rattle.csdn_tokens.specs.declared.Kind.TheVariants as k
 use Rattle.csdn_tokens.specs.declared.Token.{Token}
 use Rattle.csdn_text.specs.declared.TextRefusal.{TextRefusal}
 use Rattle.csdn_text.specs.declared.TextRefusal.TheVariants.{Memory, BadByte, BadName, BadNumber, Unexpected, TooDeep}
-use Rattle.csdn_text.specs.Symbols.{Nonterminal, program, items, item, static_item, const_item, rel_item, invariant_item, invariant_kind, handler_item, handler_port, timeout_item, sorts, sort_list, more_sorts, sort, initial, rows, more_rows, row, terms, more_terms, name, term, port, formula, binds, more_binds, iff, iff_tail, implies, implies_tail, either, either_tail, both, both_tail, unary, atom, atom_rest, fact, flow, packet, block, commands, more_commands, command, branch, choice, otherwise, action, Level, depth_of, Symbol, token, part, ValueOf, Values, made, Rule, same}
-use Rattle.csdn_text.specs.Grammar.{rules}
+use Rattle.csdn_text.specs.Symbols.{Nonterminal, program, items, item, static_item, const_item, rel_item, invariant_item, invariant_kind, handler_item, handler_port, timeout_item, sorts, sort_list, more_sorts, sort, initial, rows, more_rows, row, terms, more_terms, name, term, port, formula, binds, more_binds, tier, tail, atom, atom_rest, fact, flow, packet, block, commands, more_commands, command, branch, choice, otherwise, action, Level, depth_of, Symbol, token, part, ValueOf, Values, made, Rule, same}
+use Rattle.csdn_text.specs.Grammar.{kind_of, rules}
 
 -- where the next token stands
 abbrev pub place : List Token → ℕ
@@ -90,15 +90,8 @@ first port = k.Prt ∷ []
 first formula = k.Forall ∷ k.Exists ∷ k.Not ∷ k.True ∷ k.False ∷ k.Open ∷ k.Prt ∷ k.Name ∷ []
 first (binds q) = k.Name ∷ []
 first (more_binds q) = k.Comma ∷ k.Dot ∷ []
-first iff = in_unary
-first iff_tail = k.Both ∷ []
-first implies = in_unary
-first implies_tail = k.Arrow ∷ []
-first either = in_unary
-first either_tail = k.Or ∷ []
-first both = in_unary
-first both_tail = k.And ∷ []
-first unary = in_unary
+first (tier t) = in_unary
+first (tail word) = kind_of word ∷ []
 first atom = in_atom
 first atom_rest = k.Equals ∷ k.Dot ∷ k.Open ∷ []
 first fact = k.Ft ∷ k.Sent ∷ k.RcvThis ∷ []

@@ -8,6 +8,7 @@ use Rattle.csdn_tokens.specs.declared.Token.{Token}
 use Rattle.csdn_tree.specs.declared.names.RawName.{RawName}
 use Rattle.csdn_tree.specs.declared.names.RawNumeral.{RawNumeral}
 use Rattle.csdn_tree.specs.declared.names.RawTerm.{RawTerm}
+use Rattle.csdn_tree.specs.declared.syntax.Connective.{Connective}
 use Rattle.csdn_tree.specs.declared.syntax.InvariantKind.{InvariantKind}
 use Rattle.csdn_tree.specs.declared.syntax.RawCommand.{RawCommand}
 use Rattle.csdn_tree.specs.declared.syntax.RawFormula.{RawFormula}
@@ -19,7 +20,8 @@ use Rattle.csdn_text.specs.declared.parts.Action.{Action}
 use Rattle.csdn_text.specs.declared.parts.AtomRest.{AtomRest}
 use Rattle.csdn_text.specs.declared.parts.FlowTerms.{FlowTerms}
 use Rattle.csdn_text.specs.declared.parts.PacketTerms.{PacketTerms}
-use Rattle.csdn_text.specs.declared.parts.Quantifier.{Quantifier}
+use Rattle.csdn_tree.specs.declared.tiers.Tier.{Tier}
+use Rattle.csdn_tree.specs.declared.syntax.Quantifier.{Quantifier}
 
 -- what the grammar has a rule for
 pub data Nonterminal : Type 0 where
@@ -50,15 +52,8 @@ pub data Nonterminal : Type 0 where
   formula : Nonterminal
   binds : Quantifier → Nonterminal
   more_binds : Quantifier → Nonterminal
-  iff : Nonterminal
-  iff_tail : Nonterminal
-  implies : Nonterminal
-  implies_tail : Nonterminal
-  either : Nonterminal
-  either_tail : Nonterminal
-  both : Nonterminal
-  both_tail : Nonterminal
-  unary : Nonterminal
+  tier : Tier → Nonterminal
+  tail : Connective → Nonterminal
   atom : Nonterminal
   atom_rest : Nonterminal
   fact : Nonterminal
@@ -102,15 +97,8 @@ Value port = RawNumeral
 Value formula = RawFormula
 Value (binds q) = RawFormula
 Value (more_binds q) = RawFormula
-Value iff = RawFormula
-Value iff_tail = Option RawFormula
-Value implies = RawFormula
-Value implies_tail = Option RawFormula
-Value either = RawFormula
-Value either_tail = Option RawFormula
-Value both = RawFormula
-Value both_tail = Option RawFormula
-Value unary = RawFormula
+Value (tier t) = RawFormula
+Value (tail word) = Option RawFormula
 Value atom = RawFormula
 Value atom_rest = AtomRest
 Value fact = AtomRest

@@ -6,11 +6,10 @@ ghost use Rattle.csdn_text.specs.declared.TextRefusal.TheVariants.{Memory};
 ghost use Rattle.csdn_text.specs.Grammar as grammar;
 
 use crate::TextRefusal;
-use crate::parts::Quantifier;
 use csdn_core::terms::Sort;
 use csdn_tokens::Token;
 use csdn_tree::names::RawName;
-use csdn_tree::syntax::{RawCommand, RawFormula};
+use csdn_tree::syntax::{Connective, Quantifier, RawCommand, RawFormula};
 use sqlite_items::{Boxed, Items};
 use std::alloc::{AllocError, Global};
 
@@ -31,48 +30,16 @@ pub fn negated(alloc: Global, inner: RawFormula) -> Result<RawFormula, TextRefus
     Ok(RawFormula::Not(Boxed::new(alloc, inner)?))
 }
 
-/// `left and right`. The one refusal is `Memory`.
-pub fn conjoined(
+/// Two formulas with a word between them. The one refusal is `Memory`.
+pub fn joined(
     alloc: Global,
+    word: Connective,
     left: RawFormula,
     right: RawFormula,
 ) -> Result<RawFormula, TextRefusal>
-    ensures { MatchResult result (λ p. p ≡ f.And left right) (λ e. e ≡ Memory) }
+    ensures { MatchResult result (λ p. p ≡ f.Two word left right) (λ e. e ≡ Memory) }
 {
-    Ok(RawFormula::And(Boxed::new(alloc, left)?, Boxed::new(alloc, right)?))
-}
-
-/// `left or right`. The one refusal is `Memory`.
-pub fn disjoined(
-    alloc: Global,
-    left: RawFormula,
-    right: RawFormula,
-) -> Result<RawFormula, TextRefusal>
-    ensures { MatchResult result (λ p. p ≡ f.Or left right) (λ e. e ≡ Memory) }
-{
-    Ok(RawFormula::Or(Boxed::new(alloc, left)?, Boxed::new(alloc, right)?))
-}
-
-/// `left -> right`. The one refusal is `Memory`.
-pub fn implied(
-    alloc: Global,
-    left: RawFormula,
-    right: RawFormula,
-) -> Result<RawFormula, TextRefusal>
-    ensures { MatchResult result (λ p. p ≡ f.Implies left right) (λ e. e ≡ Memory) }
-{
-    Ok(RawFormula::Implies(Boxed::new(alloc, left)?, Boxed::new(alloc, right)?))
-}
-
-/// `left <-> right`. The one refusal is `Memory`.
-pub fn equated(
-    alloc: Global,
-    left: RawFormula,
-    right: RawFormula,
-) -> Result<RawFormula, TextRefusal>
-    ensures { MatchResult result (λ p. p ≡ f.Iff left right) (λ e. e ≡ Memory) }
-{
-    Ok(RawFormula::Iff(Boxed::new(alloc, left)?, Boxed::new(alloc, right)?))
+    Ok(RawFormula::Two(word, Boxed::new(alloc, left)?, Boxed::new(alloc, right)?))
 }
 
 /// `forall name:sort. body` or `exists name:sort. body`. The one refusal is `Memory`.
@@ -83,13 +50,9 @@ pub fn quantified(
     sort: Sort,
     body: RawFormula,
 ) -> Result<RawFormula, TextRefusal>
-    ensures { MatchResult result (λ p. p ≡ grammar.quantified which name sort body) (λ e. e ≡ Memory) }
+    ensures { MatchResult result (λ p. p ≡ f.Bind which name sort body) (λ e. e ≡ Memory) }
 {
-    let body = Boxed::new(alloc, body)?;
-    match which {
-        Quantifier::All => Ok(RawFormula::Forall(name, sort, body)),
-        Quantifier::Some => Ok(RawFormula::Exists(name, sort, body)),
-    }
+    Ok(RawFormula::Bind(which, name, sort, Boxed::new(alloc, body)?))
 }
 
 /// A command, and all that follow it. The one refusal is `Memory`.

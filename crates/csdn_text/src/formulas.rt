@@ -1,15 +1,17 @@
 //! Formulas.
 ghost use Rattle.std.specs.Prelude.{◌≡◌, ◌+◌, ◌≤◌, length, OnOk};
-ghost use Rattle.csdn_text.specs.Symbols.{here, part, formula, binds, more_binds, iff, implies, either, both, unary, atom, atom_rest, fact};
+ghost use Rattle.csdn_tree.specs.declared.tiers.Tier.TheVariants.{Single, Joins};
+ghost use Rattle.csdn_text.specs.Symbols.{here, part, formula, binds, more_binds, tier, tier as at_tier, atom, atom_rest, fact};
 ghost use Rattle.csdn_text.specs.Machine.{Parses, limit};
 
 use crate::TextRefusal;
-use crate::build::{conjoined, disjoined, equated, implied, negated, quantified};
+use crate::build::{joined, negated, quantified};
 use crate::parser::Parser;
-use crate::parts::{AtomRest, Quantifier};
+use crate::parts::{AtomRest, kind_of};
 use csdn_tokens::Kind;
 use csdn_tree::names::RawTerm;
-use csdn_tree::syntax::{FlowWord, RawFormula};
+use csdn_tree::syntax::{Connective, FlowWord, Quantifier, RawFormula};
+use csdn_tree::tiers::{Tier, left_of, right_of};
 use std::alloc::Global;
 
 impl<'a> Parser<'a> {
@@ -29,7 +31,7 @@ impl<'a> Parser<'a> {
             let whole = self.binds(alloc, Quantifier::Some, depth)?;
             Ok(whole)
         } else {
-            let whole = self.iff(alloc, depth)?;
+            let whole = self.joins(alloc, Connective::Iff, depth)?;
             Ok(whole)
         }
     }
@@ -77,71 +79,44 @@ impl<'a> Parser<'a> {
         }
     }
 
-    /// Formulas with at most one `<->` between them.
+    /// A formula where no word may join two, or where this one may.
     #[cycle(formula)]
-    pub fn iff(&mut self, alloc: Global, depth: usize) -> Result<RawFormula, TextRefusal>
+    pub fn tier(
+        &mut self,
+        alloc: Global,
+        tier: Tier,
+        depth: usize,
+    ) -> Result<RawFormula, TextRefusal>
         requires { depth ≤ limit }
-        ensures parses { Parses depth (part iff here) self.old self.new result }
+        ensures parses { Parses depth (part (at_tier tier) here) self.old self.new result }
         ensures shorter { OnOk result (length self.new + 1 ≤ length self.old) }
     {
-        let left = self.implies(alloc, depth)?;
-        if !self.next_is(Kind::Both) {
-            return Ok(left);
+        match tier {
+            Tier::Single => self.unary(alloc, depth),
+            Tier::Joins(word) => self.joins(alloc, word, depth),
         }
-        self.take(Kind::Both, depth + 1)?;
-        let right = self.implies(alloc, depth + 1)?;
-        let whole = equated(alloc, left, right)?;
-        Ok(whole)
     }
 
-    /// Formulas with `->` between them, which is right-associative.
+    /// Formulas with this word between them, or one without it. The word is right-associative, but `<->` stands once.
     #[cycle(formula)]
-    pub fn implies(&mut self, alloc: Global, depth: usize) -> Result<RawFormula, TextRefusal>
+    pub fn joins(
+        &mut self,
+        alloc: Global,
+        word: Connective,
+        depth: usize,
+    ) -> Result<RawFormula, TextRefusal>
         requires { depth ≤ limit }
-        ensures parses { Parses depth (part implies here) self.old self.new result }
+        ensures parses { Parses depth (part (tier (Joins word)) here) self.old self.new result }
         ensures shorter { OnOk result (length self.new + 1 ≤ length self.old) }
     {
-        let left = self.either(alloc, depth)?;
-        if !self.next_is(Kind::Arrow) {
+        let left = self.tier(alloc, left_of(word), depth)?;
+        let kind = kind_of(word);
+        if !self.next_is(kind) {
             return Ok(left);
         }
-        self.take(Kind::Arrow, depth + 1)?;
-        let right = self.implies(alloc, depth + 1)?;
-        let whole = implied(alloc, left, right)?;
-        Ok(whole)
-    }
-
-    /// Formulas with `or` between them, which is right-associative.
-    #[cycle(formula)]
-    pub fn either(&mut self, alloc: Global, depth: usize) -> Result<RawFormula, TextRefusal>
-        requires { depth ≤ limit }
-        ensures parses { Parses depth (part either here) self.old self.new result }
-        ensures shorter { OnOk result (length self.new + 1 ≤ length self.old) }
-    {
-        let left = self.both(alloc, depth)?;
-        if !self.next_is(Kind::Or) {
-            return Ok(left);
-        }
-        self.take(Kind::Or, depth + 1)?;
-        let right = self.either(alloc, depth + 1)?;
-        let whole = disjoined(alloc, left, right)?;
-        Ok(whole)
-    }
-
-    /// Formulas with `and` between them, which is right-associative.
-    #[cycle(formula)]
-    pub fn both(&mut self, alloc: Global, depth: usize) -> Result<RawFormula, TextRefusal>
-        requires { depth ≤ limit }
-        ensures parses { Parses depth (part both here) self.old self.new result }
-        ensures shorter { OnOk result (length self.new + 1 ≤ length self.old) }
-    {
-        let left = self.unary(alloc, depth)?;
-        if !self.next_is(Kind::And) {
-            return Ok(left);
-        }
-        self.take(Kind::And, depth + 1)?;
-        let right = self.both(alloc, depth + 1)?;
-        let whole = conjoined(alloc, left, right)?;
+        self.take(kind, depth + 1)?;
+        let right = self.tier(alloc, right_of(word), depth + 1)?;
+        let whole = joined(alloc, word, left, right)?;
         Ok(whole)
     }
 
@@ -149,7 +124,7 @@ impl<'a> Parser<'a> {
     #[cycle(formula)]
     pub fn unary(&mut self, alloc: Global, depth: usize) -> Result<RawFormula, TextRefusal>
         requires { depth ≤ limit }
-        ensures parses { Parses depth (part unary here) self.old self.new result }
+        ensures parses { Parses depth (part (tier Single) here) self.old self.new result }
         ensures shorter { OnOk result (length self.new + 1 ≤ length self.old) }
     {
         if self.next_is(Kind::Not) {

@@ -77,8 +77,8 @@ const LONGEST: usize = 65536;
 /// ```rust
 /// let raw = parse(alloc, b"safety A: p() -> q() -> r();")?;
 /// match raw.items.get(0) {
-///     Some(RawItem::Invariant(_, name, RawFormula::Implies(_, right))) => {
-///         assert!(rt; name.at == 7 && matches!(right.get(), RawFormula::Implies(_, _)));
+///     Some(RawItem::Invariant(_, name, RawFormula::Two(Connective::Implies, _, right))) => {
+///         assert!(rt; name.at == 7 && matches!(right.get(), RawFormula::Two(Connective::Implies, _, _)));
 ///     }
 ///     _ => assert!(rt; false),
 /// }

@@ -2,14 +2,20 @@
 ghost use Rattle.std.specs.Prelude.{◌≡◌};
 ghost use Rattle.csdn_text.specs.Grammar as grammar;
 
+use csdn_tokens::Kind;
 use csdn_tree::names::{RawName, RawTerm, RawTerms};
-use csdn_tree::syntax::{FlowWord, RawCommand, RawFlow, RawFormula, RawPacket};
+use csdn_tree::syntax::{Connective, FlowWord, RawCommand, RawFlow, RawFormula, RawPacket};
 
-/// Whether a name is bound by `forall` or by `exists`.
-#[derive(Clone, Copy)]
-pub enum Quantifier {
-    All,
-    Some,
+/// The kind of the word between two formulas.
+pub fn kind_of(word: Connective) -> Kind
+    ensures { result ≡ grammar.kind_of word }
+{
+    match word {
+        Connective::And => Kind::And,
+        Connective::Or => Kind::Or,
+        Connective::Implies => Kind::Arrow,
+        Connective::Iff => Kind::Both,
+    }
 }
 
 /// `(source -> target, ingress -> egress)`.

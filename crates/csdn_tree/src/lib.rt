@@ -6,3 +6,4 @@
 
 pub mod names;
 pub mod syntax;
+pub mod tiers;

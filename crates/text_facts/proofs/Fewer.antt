@@ -8,7 +8,7 @@ use Rattle.csdn_tree.specs.declared.syntax.RawCommand.TheVariants as c
 use Rattle.csdn_tree.specs.declared.syntax.RawRow.{RawRow}
 use Rattle.csdn_tree.specs.declared.syntax.RawItem.{RawItem}
 use Rattle.csdn_tree.specs.declared.syntax.RawItem.TheVariants as item
-use Rattle.csdn_tree.specs.RawTree.{raw_not, raw_and, raw_or, raw_implies, raw_iff, raw_forall, raw_exists, raw_seq, raw_if, raw_pick}
+use Rattle.csdn_tree.specs.RawTree.{raw_not, raw_two, raw_bind, raw_seq, raw_if, raw_pick}
 use Rattle.csdn_tree.specs.Within.{Within, CommandWithin, RowsWithin, port_place, ItemWithin, ItemsWithin}
 use Rattle.csdn_tree.proofs.Ends.{terms_end}
 use Rattle.csdn_tree.specs.Binders.{binders, command_binders, item_binders, items_binders}
@@ -22,12 +22,8 @@ formula_fewer (f.Same t u) a b h = omega (arith, terms_end a b (t ∷ u ∷ []) 
 formula_fewer (f.Flow at word w) a b h = omega (arith, h.0, h.1, terms_end (at + 1) b (w.source ∷ w.target ∷ w.ingress ∷ w.egress ∷ []) h.2)
 formula_fewer (f.RcvThis at w) a b h = omega (arith, h.0, h.1, terms_end (at + 1) b (w.source ∷ w.target ∷ w.ingress ∷ []) h.2)
 formula_fewer (raw_not p) a b h = formula_fewer p a b h
-formula_fewer (raw_and p q) a b h = omega (arith, formula_fewer p a h.0 h.1, formula_fewer q h.0 b h.2)
-formula_fewer (raw_or p q) a b h = omega (arith, formula_fewer p a h.0 h.1, formula_fewer q h.0 b h.2)
-formula_fewer (raw_implies p q) a b h = omega (arith, formula_fewer p a h.0 h.1, formula_fewer q h.0 b h.2)
-formula_fewer (raw_iff p q) a b h = omega (arith, formula_fewer p a h.0 h.1, formula_fewer q h.0 b h.2)
-formula_fewer (raw_forall name sort p) a b h = omega (arith, h.0, formula_fewer p (name.at + 1) b h.1)
-formula_fewer (raw_exists name sort p) a b h = omega (arith, h.0, formula_fewer p (name.at + 1) b h.1)
+formula_fewer (raw_two k p q) a b h = omega (arith, formula_fewer p a h.0 h.1, formula_fewer q h.0 b h.2)
+formula_fewer (raw_bind which name sort p) a b h = omega (arith, h.0, formula_fewer p (name.at + 1) b h.1)
 
 command_fewer : (x : RawCommand) (a b : ℕ) → CommandWithin a x b → a + command_binders x ≤ b
 unfolding CommandWithin command_binders

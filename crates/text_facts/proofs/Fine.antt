@@ -10,11 +10,13 @@ use Rattle.csdn_tokens.specs.declared.Token.{Token}
 use Rattle.csdn_tree.specs.declared.names.RawName.{RawName}
 use Rattle.csdn_tree.specs.declared.names.RawTerm.{RawTerm}
 use Rattle.csdn_tree.specs.declared.names.RawTerm.TheVariants as t
+use Rattle.csdn_tree.specs.declared.syntax.Connective.{Connective}
+use Rattle.csdn_tree.specs.declared.syntax.Quantifier.{Quantifier}
 use Rattle.csdn_tree.specs.declared.syntax.RawFormula.{RawFormula}
 use Rattle.csdn_tree.specs.declared.syntax.RawFormula.TheVariants as f
 use Rattle.csdn_tree.specs.declared.syntax.RawCommand.{RawCommand}
 use Rattle.csdn_tree.specs.declared.syntax.RawCommand.TheVariants as c
-use Rattle.csdn_tree.specs.RawTree.{Not-is, And-is, Or-is, Implies-is, Iff-is, Forall-is, Exists-is, Seq-is, If-is, Pick-is}
+use Rattle.csdn_tree.specs.RawTree.{Not-is, Two-is, Bind-is, Seq-is, If-is, Pick-is}
 use Rattle.csdn_tree.specs.Numerals.{term_numerals, terms_numerals, formula_numerals, command_numerals, port_numerals, rows_numerals, item_numerals, items_numerals}
 use Rattle.csdn_tree.specs.FromText.{item_names, items_names, KeepsStatics, HasSeconds}
 use Rattle.csdn_text.specs.declared.parts.Action.{Action}
@@ -23,10 +25,9 @@ use Rattle.csdn_text.specs.declared.parts.AtomRest.{AtomRest}
 use Rattle.csdn_text.specs.declared.parts.AtomRest.TheVariants as r
 use Rattle.csdn_text.specs.declared.parts.FlowTerms.{FlowTerms}
 use Rattle.csdn_text.specs.declared.parts.PacketTerms.{PacketTerms}
-use Rattle.csdn_text.specs.declared.parts.Quantifier.{Quantifier}
-use Rattle.csdn_text.specs.declared.parts.Quantifier.TheVariants as q
-use Rattle.csdn_text.specs.Symbols.{Nonterminal, program, items, item, static_item, const_item, rel_item, invariant_item, invariant_kind, handler_item, handler_port, timeout_item, sorts, sort_list, more_sorts, sort, initial, rows, more_rows, row, terms, more_terms, name, term, port, formula, binds, more_binds, iff, iff_tail, implies, implies_tail, either, either_tail, both, both_tail, unary, atom, atom_rest, fact, flow, packet, block, commands, more_commands, command, branch, choice, otherwise, action, Symbol, token, part, Value, Values, made, Rule}
-use Rattle.csdn_text.specs.Grammar.{joined, quantified, atom_of, command_of}
+use Rattle.csdn_tree.specs.declared.tiers.Tier.TheVariants.{Single, Joins}
+use Rattle.csdn_text.specs.Symbols.{Nonterminal, program, items, item, static_item, const_item, rel_item, invariant_item, invariant_kind, handler_item, handler_port, timeout_item, sorts, sort_list, more_sorts, sort, initial, rows, more_rows, row, terms, more_terms, name, term, port, formula, binds, more_binds, tier, tail, atom, atom_rest, fact, flow, packet, block, commands, more_commands, command, branch, choice, otherwise, action, Symbol, token, part, Value, Values, made, Rule}
+use Rattle.csdn_text.specs.Grammar.{joined, atom_of, command_of}
 use Rattle.csdn_text.specs.Derives.{Mark, IsRule, Derives}
 use Rattle.csdn_text.specs.Derives.Derives.{nothing, one, by_rule}
 use Rattle.text_facts.proofs.Tokens.{IsFine, AreFine}
@@ -107,15 +108,8 @@ Fine port x = IsNumeral x.number
 Fine formula p = FormulaFine p
 Fine (binds which) p = FormulaFine p
 Fine (more_binds which) p = FormulaFine p
-Fine iff p = FormulaFine p
-Fine iff_tail p = FineIf p
-Fine implies p = FormulaFine p
-Fine implies_tail p = FineIf p
-Fine either p = FormulaFine p
-Fine either_tail p = FineIf p
-Fine both p = FormulaFine p
-Fine both_tail p = FineIf p
-Fine unary p = FormulaFine p
+Fine (tier t) p = FormulaFine p
+Fine (tail word) p = FineIf p
 Fine atom p = FormulaFine p
 Fine atom_rest x = RestFine x
 Fine fact x = RestFine x
@@ -142,42 +136,17 @@ fine_not : (p : RawFormula) → FormulaFine p → FormulaFine (f.Not p)
 unfolding formula_numerals
 fine_not p h = rw Not-is h
 
-fine_and : (p q : RawFormula) → FormulaFine p → FormulaFine q → FormulaFine (f.And p q)
+fine_two : (word : Connective) (p q : RawFormula) → FormulaFine p → FormulaFine q → FormulaFine (f.Two word p q)
 unfolding formula_numerals
-fine_and p q h k = rw And-is (two (formula_numerals p) (formula_numerals q) h k)
+fine_two word p q h k = rw Two-is (two (formula_numerals p) (formula_numerals q) h k)
 
-fine_or : (p q : RawFormula) → FormulaFine p → FormulaFine q → FormulaFine (f.Or p q)
+joined_two : (word : Connective) (p : RawFormula) (rest : Option RawFormula) → FormulaFine p → FineIf rest → FormulaFine (joined (f.Two word) p rest)
+joined_two word p None h k = h
+joined_two word p (Some q) h k = fine_two word p q h k
+
+quantified_fine : (which : Quantifier) (x : RawName) (s : Sort) (p : RawFormula) → FormulaFine p → FormulaFine (f.Bind which x s p)
 unfolding formula_numerals
-fine_or p q h k = rw Or-is (two (formula_numerals p) (formula_numerals q) h k)
-
-fine_implies : (p q : RawFormula) → FormulaFine p → FormulaFine q → FormulaFine (f.Implies p q)
-unfolding formula_numerals
-fine_implies p q h k = rw Implies-is (two (formula_numerals p) (formula_numerals q) h k)
-
-fine_iff : (p q : RawFormula) → FormulaFine p → FormulaFine q → FormulaFine (f.Iff p q)
-unfolding formula_numerals
-fine_iff p q h k = rw Iff-is (two (formula_numerals p) (formula_numerals q) h k)
-
-joined_and : (p : RawFormula) (tail : Option RawFormula) → FormulaFine p → FineIf tail → FormulaFine (joined f.And p tail)
-joined_and p None h k = h
-joined_and p (Some q) h k = fine_and p q h k
-
-joined_or : (p : RawFormula) (tail : Option RawFormula) → FormulaFine p → FineIf tail → FormulaFine (joined f.Or p tail)
-joined_or p None h k = h
-joined_or p (Some q) h k = fine_or p q h k
-
-joined_implies : (p : RawFormula) (tail : Option RawFormula) → FormulaFine p → FineIf tail → FormulaFine (joined f.Implies p tail)
-joined_implies p None h k = h
-joined_implies p (Some q) h k = fine_implies p q h k
-
-joined_iff : (p : RawFormula) (tail : Option RawFormula) → FormulaFine p → FineIf tail → FormulaFine (joined f.Iff p tail)
-joined_iff p None h k = h
-joined_iff p (Some q) h k = fine_iff p q h k
-
-quantified_fine : (which : Quantifier) (x : RawName) (s : Sort) (p : RawFormula) → FormulaFine p → FormulaFine (quantified which x s p)
-unfolding formula_numerals
-quantified_fine q.All x s p h = rw Forall-is h
-quantified_fine q.Some x s p h = rw Exists-is h
+quantified_fine which x s p h = rw Bind-is h
 
 atom_fine : (x : RawName) (rest : AtomRest) → RestFine rest → FormulaFine (atom_of x rest)
 unfolding formula_numerals
@@ -297,29 +266,14 @@ keeps (binds which) r (inr (a)) = absurd a
 keeps (more_binds which) r (inl e) = subst (Keeps (more_binds which)) e (λ us g. g.1.0)
 keeps (more_binds which) r (inr (inl e)) = subst (Keeps (more_binds which)) e (λ us g. g.1.0)
 keeps (more_binds which) r (inr (inr (a))) = absurd a
-keeps iff r (inl e) = subst (Keeps iff) e (λ us g. joined_iff us.0 us.1.0 g.0 g.1.0)
-keeps iff r (inr (a)) = absurd a
-keeps iff_tail r (inl e) = subst (Keeps iff_tail) e (λ us g. g.1.0)
-keeps iff_tail r (inr (inl e)) = subst (Keeps iff_tail) e (λ us g. tt)
-keeps iff_tail r (inr (inr (a))) = absurd a
-keeps implies r (inl e) = subst (Keeps implies) e (λ us g. joined_implies us.0 us.1.0 g.0 g.1.0)
-keeps implies r (inr (a)) = absurd a
-keeps implies_tail r (inl e) = subst (Keeps implies_tail) e (λ us g. g.1.0)
-keeps implies_tail r (inr (inl e)) = subst (Keeps implies_tail) e (λ us g. tt)
-keeps implies_tail r (inr (inr (a))) = absurd a
-keeps either r (inl e) = subst (Keeps either) e (λ us g. joined_or us.0 us.1.0 g.0 g.1.0)
-keeps either r (inr (a)) = absurd a
-keeps either_tail r (inl e) = subst (Keeps either_tail) e (λ us g. g.1.0)
-keeps either_tail r (inr (inl e)) = subst (Keeps either_tail) e (λ us g. tt)
-keeps either_tail r (inr (inr (a))) = absurd a
-keeps both r (inl e) = subst (Keeps both) e (λ us g. joined_and us.0 us.1.0 g.0 g.1.0)
-keeps both r (inr (a)) = absurd a
-keeps both_tail r (inl e) = subst (Keeps both_tail) e (λ us g. g.1.0)
-keeps both_tail r (inr (inl e)) = subst (Keeps both_tail) e (λ us g. tt)
-keeps both_tail r (inr (inr (a))) = absurd a
-keeps unary r (inl e) = subst (Keeps unary) e (λ us g. fine_not us.1.0 g.1.0)
-keeps unary r (inr (inl e)) = subst (Keeps unary) e (λ us g. g.0)
-keeps unary r (inr (inr (a))) = absurd a
+keeps (tier Single) r (inl e) = subst (Keeps (tier Single)) e (λ us g. fine_not us.1.0 g.1.0)
+keeps (tier Single) r (inr (inl e)) = subst (Keeps (tier Single)) e (λ us g. g.0)
+keeps (tier Single) r (inr (inr (a))) = absurd a
+keeps (tier (Joins word)) r (inl e) = subst (Keeps (tier (Joins word))) e (λ us g. joined_two word us.0 us.1.0 g.0 g.1.0)
+keeps (tier (Joins word)) r (inr (a)) = absurd a
+keeps (tail word) r (inl e) = subst (Keeps (tail word)) e (λ us g. g.1.0)
+keeps (tail word) r (inr (inl e)) = subst (Keeps (tail word)) e (λ us g. tt)
+keeps (tail word) r (inr (inr (a))) = absurd a
 keeps atom r (inl e) = subst (Keeps atom) e (λ us g. tt)
 keeps atom r (inr (inl e)) = subst (Keeps atom) e (λ us g. tt)
 keeps atom r (inr (inr (inl e))) = subst (Keeps atom) e (λ us g. g.1.0)

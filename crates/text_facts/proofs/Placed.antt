@@ -5,12 +5,14 @@ use Rattle.csdn_core.specs.declared.terms.Sort.{Sort}
 use Rattle.csdn_tokens.specs.declared.Token.{Token}
 use Rattle.csdn_tree.specs.declared.names.RawName.{RawName}
 use Rattle.csdn_tree.specs.declared.names.RawTerm.{RawTerm}
+use Rattle.csdn_tree.specs.declared.syntax.Connective.{Connective}
+use Rattle.csdn_tree.specs.declared.syntax.Quantifier.{Quantifier}
 use Rattle.csdn_tree.specs.declared.syntax.RawFormula.{RawFormula}
 use Rattle.csdn_tree.specs.declared.syntax.RawFormula.TheVariants as f
 use Rattle.csdn_tree.specs.declared.syntax.RawCommand.{RawCommand}
 use Rattle.csdn_tree.specs.declared.syntax.RawCommand.TheVariants as c
 use Rattle.csdn_tree.specs.Places.{place}
-use Rattle.csdn_tree.specs.RawTree.{Not-is, And-is, Or-is, Implies-is, Iff-is, Forall-is, Exists-is, Seq-is, If-is, Pick-is}
+use Rattle.csdn_tree.specs.RawTree.{Not-is, Two-is, Bind-is, Seq-is, If-is, Pick-is}
 use Rattle.csdn_tree.specs.Within.{TermsWithin, Within, CommandWithin, RowsWithin, port_place, ItemWithin, ItemsWithin}
 use Rattle.csdn_text.specs.declared.parts.Action.{Action}
 use Rattle.csdn_text.specs.declared.parts.Action.TheVariants as a
@@ -18,10 +20,9 @@ use Rattle.csdn_text.specs.declared.parts.AtomRest.{AtomRest}
 use Rattle.csdn_text.specs.declared.parts.AtomRest.TheVariants as r
 use Rattle.csdn_text.specs.declared.parts.FlowTerms.{FlowTerms}
 use Rattle.csdn_text.specs.declared.parts.PacketTerms.{PacketTerms}
-use Rattle.csdn_text.specs.declared.parts.Quantifier.{Quantifier}
-use Rattle.csdn_text.specs.declared.parts.Quantifier.TheVariants as q
-use Rattle.csdn_text.specs.Symbols.{Nonterminal, program, items, item, static_item, const_item, rel_item, invariant_item, invariant_kind, handler_item, handler_port, timeout_item, sorts, sort_list, more_sorts, sort, initial, rows, more_rows, row, terms, more_terms, name, term, port, formula, binds, more_binds, iff, iff_tail, implies, implies_tail, either, either_tail, both, both_tail, unary, atom, atom_rest, fact, flow, packet, block, commands, more_commands, command, branch, choice, otherwise, action, Symbol, token, part, Value, Values, made, Rule}
-use Rattle.csdn_text.specs.Grammar.{joined, quantified, atom_of, command_of}
+use Rattle.csdn_tree.specs.declared.tiers.Tier.TheVariants.{Single, Joins}
+use Rattle.csdn_text.specs.Symbols.{Nonterminal, program, items, item, static_item, const_item, rel_item, invariant_item, invariant_kind, handler_item, handler_port, timeout_item, sorts, sort_list, more_sorts, sort, initial, rows, more_rows, row, terms, more_terms, name, term, port, formula, binds, more_binds, tier, tail, atom, atom_rest, fact, flow, packet, block, commands, more_commands, command, branch, choice, otherwise, action, Symbol, token, part, Value, Values, made, Rule}
+use Rattle.csdn_text.specs.Grammar.{joined, atom_of, command_of}
 use Rattle.csdn_text.specs.Derives.{Mark, IsRule, Derives}
 use Rattle.csdn_text.specs.Derives.Derives.{nothing, one, by_rule}
 use Rattle.text_facts.proofs.Tokens.{Rise}
@@ -85,15 +86,8 @@ Placed port x from to = (from ≤ x.at) × (x.at < to)
 Placed formula p from to = Within from p to
 Placed (binds which) p from to = Within from p to
 Placed (more_binds which) p from to = Within from p to
-Placed iff p from to = Within from p to
-Placed iff_tail p from to = WithinIf from p to
-Placed implies p from to = Within from p to
-Placed implies_tail p from to = WithinIf from p to
-Placed either p from to = Within from p to
-Placed either_tail p from to = WithinIf from p to
-Placed both p from to = Within from p to
-Placed both_tail p from to = WithinIf from p to
-Placed unary p from to = Within from p to
+Placed (tier t) p from to = Within from p to
+Placed (tail word) p from to = WithinIf from p to
 Placed atom p from to = Within from p to
 Placed atom_rest x from to = RestWithin from x to
 Placed fact x from to = RestWithin from x to
@@ -120,46 +114,21 @@ within_not : (p : RawFormula) (a b : ℕ) → Within a p b → Within a (f.Not p
 unfolding Within
 within_not p a b h = rw Not-is h
 
-within_and : (p q : RawFormula) (a m b : ℕ) → Within a p m → Within m q b → Within a (f.And p q) b
+within_two : (word : Connective) (p q : RawFormula) (a m b : ℕ) → Within a p m → Within m q b → Within a (f.Two word p q) b
 unfolding Within
-within_and p q a m b h k = rw And-is (m, h, k)
+within_two word p q a m b h k = rw Two-is (m, h, k)
 
-within_or : (p q : RawFormula) (a m b : ℕ) → Within a p m → Within m q b → Within a (f.Or p q) b
-unfolding Within
-within_or p q a m b h k = rw Or-is (m, h, k)
-
-within_implies : (p q : RawFormula) (a m b : ℕ) → Within a p m → Within m q b → Within a (f.Implies p q) b
-unfolding Within
-within_implies p q a m b h k = rw Implies-is (m, h, k)
-
-within_iff : (p q : RawFormula) (a m b : ℕ) → Within a p m → Within m q b → Within a (f.Iff p q) b
-unfolding Within
-within_iff p q a m b h k = rw Iff-is (m, h, k)
-
-joined_and : (p : RawFormula) (tail : Option RawFormula) (a m b : ℕ) → Within a p m → WithinIf m tail b → Within a (joined f.And p tail) b
-joined_and p None a m b h k = widen_formula p a m a b (le_refl a) k h
-joined_and p (Some q) a m b h k = within_and p q a m b h k
-
-joined_or : (p : RawFormula) (tail : Option RawFormula) (a m b : ℕ) → Within a p m → WithinIf m tail b → Within a (joined f.Or p tail) b
-joined_or p None a m b h k = widen_formula p a m a b (le_refl a) k h
-joined_or p (Some q) a m b h k = within_or p q a m b h k
-
-joined_implies : (p : RawFormula) (tail : Option RawFormula) (a m b : ℕ) → Within a p m → WithinIf m tail b → Within a (joined f.Implies p tail) b
-joined_implies p None a m b h k = widen_formula p a m a b (le_refl a) k h
-joined_implies p (Some q) a m b h k = within_implies p q a m b h k
-
-joined_iff : (p : RawFormula) (tail : Option RawFormula) (a m b : ℕ) → Within a p m → WithinIf m tail b → Within a (joined f.Iff p tail) b
-joined_iff p None a m b h k = widen_formula p a m a b (le_refl a) k h
-joined_iff p (Some q) a m b h k = within_iff p q a m b h k
+joined_two : (word : Connective) (p : RawFormula) (rest : Option RawFormula) (a m b : ℕ) → Within a p m → WithinIf m rest b → Within a (joined (f.Two word) p rest) b
+joined_two word p None a m b h k = widen_formula p a m a b (le_refl a) k h
+joined_two word p (Some q) a m b h k = within_two word p q a m b h k
 
 widen_if : (p : Option RawFormula) (a b c d : ℕ) → c ≤ a → b ≤ d → WithinIf a p b → WithinIf c p d
 widen_if None a b c d l r h = omega (arith, l, r, h)
 widen_if (Some p) a b c d l r h = widen_formula p a b c d l r h
 
-quantified_within : (which : Quantifier) (x : RawName) (s : Sort) (p : RawFormula) (a b : ℕ) → a ≤ x.at → Within (x.at + 1) p b → Within a (quantified which x s p) b
+quantified_within : (which : Quantifier) (x : RawName) (s : Sort) (p : RawFormula) (a b : ℕ) → a ≤ x.at → Within (x.at + 1) p b → Within a (f.Bind which x s p) b
 unfolding Within
-quantified_within q.All x s p a b h k = rw Forall-is (h, k)
-quantified_within q.Some x s p a b h k = rw Exists-is (h, k)
+quantified_within which x s p a b h k = rw Bind-is (h, k)
 
 widen_rest : (x : AtomRest) (a b c d : ℕ) → c ≤ a → b ≤ d → RestWithin a x b → RestWithin c x d
 widen_rest (r.Row ts) a b c d l r h = widen_terms ts a b c d l r h
@@ -286,29 +255,14 @@ keeps (binds which) r (inr (a)) = absurd a
 keeps (more_binds which) r (inl e) = subst (Keeps (more_binds which)) e (λ us from to g. widen_formula us.1.0 (us.0.at + 1) (g.1.0) from to (omega (arith, g.0, g.1.2)) (omega (arith, g.0, g.1.2)) g.1.1)
 keeps (more_binds which) r (inr (inl e)) = subst (Keeps (more_binds which)) e (λ us from to g. widen_formula us.1.0 (us.0.at + 1) (g.1.0) from to (omega (arith, g.0, g.1.2)) (omega (arith, g.0, g.1.2)) g.1.1)
 keeps (more_binds which) r (inr (inr (a))) = absurd a
-keeps iff r (inl e) = subst (Keeps iff) e (λ us from to g. joined_iff us.0 us.1.0 from (g.0) to g.1 (widen_if us.1.0 (g.0) (g.2.0) (g.0) to (le_refl (g.0)) (omega (arith, g.2.2)) g.2.1))
-keeps iff r (inr (a)) = absurd a
-keeps iff_tail r (inl e) = subst (Keeps iff_tail) e (λ us from to g. widen_formula us.1.0 (us.0.at + 1) (g.1.0) from to (omega (arith, g.0, g.1.2)) (omega (arith, g.0, g.1.2)) g.1.1)
-keeps iff_tail r (inr (inl e)) = subst (Keeps iff_tail) e (λ us from to g. g)
-keeps iff_tail r (inr (inr (a))) = absurd a
-keeps implies r (inl e) = subst (Keeps implies) e (λ us from to g. joined_implies us.0 us.1.0 from (g.0) to g.1 (widen_if us.1.0 (g.0) (g.2.0) (g.0) to (le_refl (g.0)) (omega (arith, g.2.2)) g.2.1))
-keeps implies r (inr (a)) = absurd a
-keeps implies_tail r (inl e) = subst (Keeps implies_tail) e (λ us from to g. widen_formula us.1.0 (us.0.at + 1) (g.1.0) from to (omega (arith, g.0, g.1.2)) (omega (arith, g.0, g.1.2)) g.1.1)
-keeps implies_tail r (inr (inl e)) = subst (Keeps implies_tail) e (λ us from to g. g)
-keeps implies_tail r (inr (inr (a))) = absurd a
-keeps either r (inl e) = subst (Keeps either) e (λ us from to g. joined_or us.0 us.1.0 from (g.0) to g.1 (widen_if us.1.0 (g.0) (g.2.0) (g.0) to (le_refl (g.0)) (omega (arith, g.2.2)) g.2.1))
-keeps either r (inr (a)) = absurd a
-keeps either_tail r (inl e) = subst (Keeps either_tail) e (λ us from to g. widen_formula us.1.0 (us.0.at + 1) (g.1.0) from to (omega (arith, g.0, g.1.2)) (omega (arith, g.0, g.1.2)) g.1.1)
-keeps either_tail r (inr (inl e)) = subst (Keeps either_tail) e (λ us from to g. g)
-keeps either_tail r (inr (inr (a))) = absurd a
-keeps both r (inl e) = subst (Keeps both) e (λ us from to g. joined_and us.0 us.1.0 from (g.0) to g.1 (widen_if us.1.0 (g.0) (g.2.0) (g.0) to (le_refl (g.0)) (omega (arith, g.2.2)) g.2.1))
-keeps both r (inr (a)) = absurd a
-keeps both_tail r (inl e) = subst (Keeps both_tail) e (λ us from to g. widen_formula us.1.0 (us.0.at + 1) (g.1.0) from to (omega (arith, g.0, g.1.2)) (omega (arith, g.0, g.1.2)) g.1.1)
-keeps both_tail r (inr (inl e)) = subst (Keeps both_tail) e (λ us from to g. g)
-keeps both_tail r (inr (inr (a))) = absurd a
-keeps unary r (inl e) = subst (Keeps unary) e (λ us from to g. within_not us.1.0 from to (widen_formula us.1.0 (us.0.at + 1) (g.1.0) from to (omega (arith, g.0, g.1.2)) (omega (arith, g.0, g.1.2)) g.1.1))
-keeps unary r (inr (inl e)) = subst (Keeps unary) e (λ us from to g. widen_formula us.0 from (g.0) from to (omega (arith, g.2)) (omega (arith, g.2)) g.1)
-keeps unary r (inr (inr (a))) = absurd a
+keeps (tier Single) r (inl e) = subst (Keeps (tier Single)) e (λ us from to g. within_not us.1.0 from to (widen_formula us.1.0 (us.0.at + 1) (g.1.0) from to (omega (arith, g.0, g.1.2)) (omega (arith, g.0, g.1.2)) g.1.1))
+keeps (tier Single) r (inr (inl e)) = subst (Keeps (tier Single)) e (λ us from to g. widen_formula us.0 from (g.0) from to (omega (arith, g.2)) (omega (arith, g.2)) g.1)
+keeps (tier Single) r (inr (inr (a))) = absurd a
+keeps (tier (Joins word)) r (inl e) = subst (Keeps (tier (Joins word))) e (λ us from to g. joined_two word us.0 us.1.0 from (g.0) to g.1 (widen_if us.1.0 (g.0) (g.2.0) (g.0) to (le_refl (g.0)) (omega (arith, g.2.2)) g.2.1))
+keeps (tier (Joins word)) r (inr (a)) = absurd a
+keeps (tail word) r (inl e) = subst (Keeps (tail word)) e (λ us from to g. widen_formula us.1.0 (us.0.at + 1) (g.1.0) from to (omega (arith, g.0, g.1.2)) (omega (arith, g.0, g.1.2)) g.1.1)
+keeps (tail word) r (inr (inl e)) = subst (Keeps (tail word)) e (λ us from to g. g)
+keeps (tail word) r (inr (inr (a))) = absurd a
 keeps atom r (inl e) = subst (Keeps atom) e (λ us from to g. (omega (arith, g.0, g.1)))
 keeps atom r (inr (inl e)) = subst (Keeps atom) e (λ us from to g. (omega (arith, g.0, g.1)))
 keeps atom r (inr (inr (inl e))) = subst (Keeps atom) e (λ us from to g. widen_formula us.1.0 (us.0.at + 1) (g.1.0) from to (omega (arith, g.0, g.1.2.0, g.1.2.1)) (omega (arith, g.0, g.1.2.0, g.1.2.1)) g.1.1)

@@ -13,7 +13,7 @@ use Rattle.csdn_tree.specs.declared.syntax.RawRow.{RawRow}
 use Rattle.csdn_tree.specs.declared.syntax.RawItem.{RawItem}
 use Rattle.csdn_tree.specs.declared.syntax.RawItem.TheVariants as item
 use Rattle.csdn_tree.specs.Places.{place}
-use Rattle.csdn_tree.specs.RawTree.{raw_not, raw_and, raw_or, raw_implies, raw_iff, raw_forall, raw_exists, raw_seq, raw_if, raw_pick}
+use Rattle.csdn_tree.specs.RawTree.{raw_not, raw_two, raw_bind, raw_seq, raw_if, raw_pick}
 use Rattle.csdn_tree.specs.Within.{TermsWithin, Within, CommandWithin, RowsWithin, port_place, ItemWithin, ItemsWithin}
 
 pub widen_terms : (ts : List RawTerm) (a b c d : ℕ) → c ≤ a → b ≤ d → TermsWithin a ts b → TermsWithin c ts d
@@ -30,12 +30,8 @@ widen_formula (f.Same t u) a b c d l r h = widen_terms (t ∷ u ∷ []) a b c d 
 widen_formula (f.Flow at word w) a b c d l r h = (omega (arith, l, h.0), h.1, widen_terms (w.source ∷ w.target ∷ w.ingress ∷ w.egress ∷ []) (at + 1) b (at + 1) d (le_refl (at + 1)) r h.2)
 widen_formula (f.RcvThis at w) a b c d l r h = (omega (arith, l, h.0), h.1, widen_terms (w.source ∷ w.target ∷ w.ingress ∷ []) (at + 1) b (at + 1) d (le_refl (at + 1)) r h.2)
 widen_formula (raw_not p) a b c d l r h = widen_formula p a b c d l r h
-widen_formula (raw_and p q) a b c d l r h = (h.0, widen_formula p a h.0 c h.0 l (le_refl h.0) h.1, widen_formula q h.0 b h.0 d (le_refl h.0) r h.2)
-widen_formula (raw_or p q) a b c d l r h = (h.0, widen_formula p a h.0 c h.0 l (le_refl h.0) h.1, widen_formula q h.0 b h.0 d (le_refl h.0) r h.2)
-widen_formula (raw_implies p q) a b c d l r h = (h.0, widen_formula p a h.0 c h.0 l (le_refl h.0) h.1, widen_formula q h.0 b h.0 d (le_refl h.0) r h.2)
-widen_formula (raw_iff p q) a b c d l r h = (h.0, widen_formula p a h.0 c h.0 l (le_refl h.0) h.1, widen_formula q h.0 b h.0 d (le_refl h.0) r h.2)
-widen_formula (raw_forall name sort p) a b c d l r h = (omega (arith, l, h.0), widen_formula p (name.at + 1) b (name.at + 1) d (le_refl (name.at + 1)) r h.1)
-widen_formula (raw_exists name sort p) a b c d l r h = (omega (arith, l, h.0), widen_formula p (name.at + 1) b (name.at + 1) d (le_refl (name.at + 1)) r h.1)
+widen_formula (raw_two k p q) a b c d l r h = (h.0, widen_formula p a h.0 c h.0 l (le_refl h.0) h.1, widen_formula q h.0 b h.0 d (le_refl h.0) r h.2)
+widen_formula (raw_bind which name sort p) a b c d l r h = (omega (arith, l, h.0), widen_formula p (name.at + 1) b (name.at + 1) d (le_refl (name.at + 1)) r h.1)
 
 abbrev flow_terms : RawFlow → List RawTerm
 flow_terms w = Name w.switch ∷ w.source ∷ w.target ∷ w.ingress ∷ w.egress ∷ []

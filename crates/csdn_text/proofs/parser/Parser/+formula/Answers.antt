@@ -1,6 +1,6 @@
 use Rattle.std.proofs.Common.{refl, sym, ◌∙◌}
 use Rattle.csdn_text.specs.Machine.Takes.{done}
-use Rattle.csdn_text.proofs.Steps.{last, this, other, by, not_by, then_token, then, then_by, no_token, no_part, no_part_by, after_token, after_part, exit, no_memory}
+use Rattle.csdn_text.proofs.Steps.{last, this, other, by, not_by, then_token, then, then_by, no_token, no_part, no_part_by, after_token, after_part, exit, no_memory, at_tier, at_kind, tail_goes, tail_ends}
 use Rattle.csdn_text.proofs.parser.Parser.+formula.Goals as goal
 
 pub formula-returns-in_err-take-clause-parses : goal.formula-returns-in_err-take-clause-parses
@@ -63,77 +63,23 @@ more_binds-returns-in_err-whole-2-clause-parses t c = exit _ c.from_residual-in_
 pub more_binds-returns-in_ok-whole-2-clause-parses : goal.more_binds-returns-in_ok-whole-2-clause-parses
 more_binds-returns-in_ok-whole-2-clause-parses t c = by (other (sym c.next_is.ensures ∙ c.if-next_is.false) last) (then_token c.in_ok-take-2.ensures.parses (then c.in_ok-whole-2.ensures.parses done)) refl
 
-pub iff-returns-in_err-left-clause-parses : goal.iff-returns-in_err-left-clause-parses
-iff-returns-in_err-left-clause-parses t c = exit _ c.from_residual.ensures.1 (not_by last (no_part c.in_err-left.ensures.parses))
+pub joins-returns-in_err-left-clause-parses : goal.joins-returns-in_err-left-clause-parses
+joins-returns-in_err-left-clause-parses t c = exit _ c.from_residual.ensures.1 (not_by last (no_part (at_tier c.left_of.ensures c.in_err-left.ensures.parses)))
 
-pub iff-returns-then-not-next_is-clause-parses : goal.iff-returns-then-not-next_is-clause-parses
-iff-returns-then-not-next_is-clause-parses t c = by last (then c.in_ok-left.ensures.parses (then_by (other (sym c.next_is.ensures ∙ c.if-not-next_is.true) last) done done)) refl
+pub joins-returns-then-not-next_is-clause-parses : goal.joins-returns-then-not-next_is-clause-parses
+joins-returns-then-not-next_is-clause-parses t c = by last (then (at_tier c.left_of.ensures c.in_ok-left.ensures.parses) (then_by (tail_ends c.kind_of-kind.ensures (sym c.next_is.ensures ∙ c.if-not-next_is.true)) done done)) refl
 
-pub iff-returns-in_err-take-clause-parses : goal.iff-returns-in_err-take-clause-parses
-iff-returns-in_err-take-clause-parses t c = exit _ c.from_residual-in_err-take.ensures.1 (not_by last (after_part c.in_ok-left.ensures.parses (no_part_by (this (sym c.next_is.ensures ∙ c.if-not-next_is.false)) (no_token c.in_err-take.ensures.parses))))
+pub joins-returns-in_err-take-clause-parses : goal.joins-returns-in_err-take-clause-parses
+joins-returns-in_err-take-clause-parses t c = exit _ c.from_residual-in_err-take.ensures.1 (not_by last (after_part (at_tier c.left_of.ensures c.in_ok-left.ensures.parses) (no_part_by (tail_goes c.kind_of-kind.ensures (sym c.next_is.ensures ∙ c.if-not-next_is.false)) (no_token (at_kind c.kind_of-kind.ensures c.in_err-take.ensures.parses)))))
 
-pub iff-returns-in_err-right-clause-parses : goal.iff-returns-in_err-right-clause-parses
-iff-returns-in_err-right-clause-parses t c = exit _ c.from_residual-in_err-right.ensures.1 (not_by last (after_part c.in_ok-left.ensures.parses (no_part_by (this (sym c.next_is.ensures ∙ c.if-not-next_is.false)) (after_token c.in_ok-take.ensures.parses (no_part c.in_err-right.ensures.parses)))))
+pub joins-returns-in_err-right-clause-parses : goal.joins-returns-in_err-right-clause-parses
+joins-returns-in_err-right-clause-parses t c = exit _ c.from_residual-in_err-right.ensures.1 (not_by last (after_part (at_tier c.left_of.ensures c.in_ok-left.ensures.parses) (no_part_by (tail_goes c.kind_of-kind.ensures (sym c.next_is.ensures ∙ c.if-not-next_is.false)) (after_token (at_kind c.kind_of-kind.ensures c.in_ok-take.ensures.parses) (no_part (at_tier c.right_of.ensures c.in_err-right.ensures.parses))))))
 
-pub iff-returns-in_err-whole-clause-parses : goal.iff-returns-in_err-whole-clause-parses
-iff-returns-in_err-whole-clause-parses t c = exit _ c.from_residual-in_err-whole.ensures.1 (no_memory c.in_err-whole.ensures)
+pub joins-returns-in_err-whole-clause-parses : goal.joins-returns-in_err-whole-clause-parses
+joins-returns-in_err-whole-clause-parses t c = exit _ c.from_residual-in_err-whole.ensures.1 (no_memory c.in_err-whole.ensures)
 
-pub iff-returns-clause-parses : goal.iff-returns-clause-parses
-iff-returns-clause-parses t c = by last (then c.in_ok-left.ensures.parses (then_by (this (sym c.next_is.ensures ∙ c.if-not-next_is.false)) (then_token c.in_ok-take.ensures.parses (then c.in_ok-right.ensures.parses done)) done)) (sym c.in_ok-whole.ensures)
-
-pub implies-returns-in_err-left-clause-parses : goal.implies-returns-in_err-left-clause-parses
-implies-returns-in_err-left-clause-parses t c = exit _ c.from_residual.ensures.1 (not_by last (no_part c.in_err-left.ensures.parses))
-
-pub implies-returns-then-not-next_is-clause-parses : goal.implies-returns-then-not-next_is-clause-parses
-implies-returns-then-not-next_is-clause-parses t c = by last (then c.in_ok-left.ensures.parses (then_by (other (sym c.next_is.ensures ∙ c.if-not-next_is.true) last) done done)) refl
-
-pub implies-returns-in_err-take-clause-parses : goal.implies-returns-in_err-take-clause-parses
-implies-returns-in_err-take-clause-parses t c = exit _ c.from_residual-in_err-take.ensures.1 (not_by last (after_part c.in_ok-left.ensures.parses (no_part_by (this (sym c.next_is.ensures ∙ c.if-not-next_is.false)) (no_token c.in_err-take.ensures.parses))))
-
-pub implies-returns-in_err-right-clause-parses : goal.implies-returns-in_err-right-clause-parses
-implies-returns-in_err-right-clause-parses t c = exit _ c.from_residual-in_err-right.ensures.1 (not_by last (after_part c.in_ok-left.ensures.parses (no_part_by (this (sym c.next_is.ensures ∙ c.if-not-next_is.false)) (after_token c.in_ok-take.ensures.parses (no_part c.in_err-right.ensures.parses)))))
-
-pub implies-returns-in_err-whole-clause-parses : goal.implies-returns-in_err-whole-clause-parses
-implies-returns-in_err-whole-clause-parses t c = exit _ c.from_residual-in_err-whole.ensures.1 (no_memory c.in_err-whole.ensures)
-
-pub implies-returns-clause-parses : goal.implies-returns-clause-parses
-implies-returns-clause-parses t c = by last (then c.in_ok-left.ensures.parses (then_by (this (sym c.next_is.ensures ∙ c.if-not-next_is.false)) (then_token c.in_ok-take.ensures.parses (then c.in_ok-right.ensures.parses done)) done)) (sym c.in_ok-whole.ensures)
-
-pub either-returns-in_err-left-clause-parses : goal.either-returns-in_err-left-clause-parses
-either-returns-in_err-left-clause-parses t c = exit _ c.from_residual.ensures.1 (not_by last (no_part c.in_err-left.ensures.parses))
-
-pub either-returns-then-not-next_is-clause-parses : goal.either-returns-then-not-next_is-clause-parses
-either-returns-then-not-next_is-clause-parses t c = by last (then c.in_ok-left.ensures.parses (then_by (other (sym c.next_is.ensures ∙ c.if-not-next_is.true) last) done done)) refl
-
-pub either-returns-in_err-take-clause-parses : goal.either-returns-in_err-take-clause-parses
-either-returns-in_err-take-clause-parses t c = exit _ c.from_residual-in_err-take.ensures.1 (not_by last (after_part c.in_ok-left.ensures.parses (no_part_by (this (sym c.next_is.ensures ∙ c.if-not-next_is.false)) (no_token c.in_err-take.ensures.parses))))
-
-pub either-returns-in_err-right-clause-parses : goal.either-returns-in_err-right-clause-parses
-either-returns-in_err-right-clause-parses t c = exit _ c.from_residual-in_err-right.ensures.1 (not_by last (after_part c.in_ok-left.ensures.parses (no_part_by (this (sym c.next_is.ensures ∙ c.if-not-next_is.false)) (after_token c.in_ok-take.ensures.parses (no_part c.in_err-right.ensures.parses)))))
-
-pub either-returns-in_err-whole-clause-parses : goal.either-returns-in_err-whole-clause-parses
-either-returns-in_err-whole-clause-parses t c = exit _ c.from_residual-in_err-whole.ensures.1 (no_memory c.in_err-whole.ensures)
-
-pub either-returns-clause-parses : goal.either-returns-clause-parses
-either-returns-clause-parses t c = by last (then c.in_ok-left.ensures.parses (then_by (this (sym c.next_is.ensures ∙ c.if-not-next_is.false)) (then_token c.in_ok-take.ensures.parses (then c.in_ok-right.ensures.parses done)) done)) (sym c.in_ok-whole.ensures)
-
-pub both-returns-in_err-left-clause-parses : goal.both-returns-in_err-left-clause-parses
-both-returns-in_err-left-clause-parses t c = exit _ c.from_residual.ensures.1 (not_by last (no_part c.in_err-left.ensures.parses))
-
-pub both-returns-then-not-next_is-clause-parses : goal.both-returns-then-not-next_is-clause-parses
-both-returns-then-not-next_is-clause-parses t c = by last (then c.in_ok-left.ensures.parses (then_by (other (sym c.next_is.ensures ∙ c.if-not-next_is.true) last) done done)) refl
-
-pub both-returns-in_err-take-clause-parses : goal.both-returns-in_err-take-clause-parses
-both-returns-in_err-take-clause-parses t c = exit _ c.from_residual-in_err-take.ensures.1 (not_by last (after_part c.in_ok-left.ensures.parses (no_part_by (this (sym c.next_is.ensures ∙ c.if-not-next_is.false)) (no_token c.in_err-take.ensures.parses))))
-
-pub both-returns-in_err-right-clause-parses : goal.both-returns-in_err-right-clause-parses
-both-returns-in_err-right-clause-parses t c = exit _ c.from_residual-in_err-right.ensures.1 (not_by last (after_part c.in_ok-left.ensures.parses (no_part_by (this (sym c.next_is.ensures ∙ c.if-not-next_is.false)) (after_token c.in_ok-take.ensures.parses (no_part c.in_err-right.ensures.parses)))))
-
-pub both-returns-in_err-whole-clause-parses : goal.both-returns-in_err-whole-clause-parses
-both-returns-in_err-whole-clause-parses t c = exit _ c.from_residual-in_err-whole.ensures.1 (no_memory c.in_err-whole.ensures)
-
-pub both-returns-clause-parses : goal.both-returns-clause-parses
-both-returns-clause-parses t c = by last (then c.in_ok-left.ensures.parses (then_by (this (sym c.next_is.ensures ∙ c.if-not-next_is.false)) (then_token c.in_ok-take.ensures.parses (then c.in_ok-right.ensures.parses done)) done)) (sym c.in_ok-whole.ensures)
+pub joins-returns-clause-parses : goal.joins-returns-clause-parses
+joins-returns-clause-parses t c = by last (then (at_tier c.left_of.ensures c.in_ok-left.ensures.parses) (then_by (tail_goes c.kind_of-kind.ensures (sym c.next_is.ensures ∙ c.if-not-next_is.false)) (then_token (at_kind c.kind_of-kind.ensures c.in_ok-take.ensures.parses) (then (at_tier c.right_of.ensures c.in_ok-right.ensures.parses) done)) done)) (sym c.in_ok-whole.ensures)
 
 pub unary-returns-in_err-take-clause-parses : goal.unary-returns-in_err-take-clause-parses
 unary-returns-in_err-take-clause-parses t c = exit _ c.from_residual.ensures.1 (not_by (this (sym c.next_is.ensures ∙ c.if-next_is.true)) (no_token c.in_err-take.ensures.parses))
