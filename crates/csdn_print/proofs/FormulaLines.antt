@@ -116,16 +116,16 @@ pub record FormulaAt (most d at needed : ℕ) (bytes : List ℕ) (p : RawFormula
   pub again : ReadAt most d at needed bytes p
 
 -- what may stand to the left of a word may stand without it
-alone : {most d at : ℕ} {bytes : List ℕ} {p : RawFormula} (word : Connective) → Again most d at (tier (left_of word)) bytes (SameAs p) → Again most d at (tier (Joins word)) bytes (SameAs p)
-alone {bytes = bytes} word a = record { value = a.value; line = by _ (inl refl) (along (append-nil bytes) (before a.line refl (final (by _ (inr (inl refl)) nil)))); same = a.same }
+alone : {most d at : ℕ} {bytes : List ℕ} (word : Connective) (p : RawFormula) → Again most d at (tier (left_of word)) bytes (SameAs p) → Again most d at (tier (Joins word)) bytes (SameAs p)
+alone {bytes = bytes} word p a = record { value = a.value; line = by _ (inl refl) (along (append-nil bytes) (before a.line refl (final (by _ (inr (inl refl)) nil)))); same = a.same }
 
 -- a formula may stand where a level less is needed
 lower : {most d at : ℕ} {bytes : List ℕ} {p : RawFormula} (n : ℕ) → FormulaAt most d at (suc n) bytes p → FormulaAt most d at n bytes p
 lower zero a = record { again = record { value = a.again.value; line = by _ (inr (inr (inl refl))) (final a.again.line); same = a.again.same } }
-lower (suc zero) a = record { again = alone w.Iff a.again }
-lower (suc (suc zero)) a = record { again = alone w.Implies a.again }
-lower (suc (suc (suc zero))) a = record { again = alone w.Or a.again }
-lower (suc (suc (suc (suc zero)))) a = record { again = alone w.And a.again }
+lower {p = p} (suc zero) a = record { again = alone w.Iff p a.again }
+lower {p = p} (suc (suc zero)) a = record { again = alone w.Implies p a.again }
+lower {p = p} (suc (suc (suc zero))) a = record { again = alone w.Or p a.again }
+lower {p = p} (suc (suc (suc (suc zero)))) a = record { again = alone w.And p a.again }
 lower (suc (suc (suc (suc (suc n))))) a = record { again = a.again }
 
 -- .. and where some levels less are
@@ -183,9 +183,13 @@ opens_between w.Or bytes = refl
 opens_between w.Implies bytes = refl
 opens_between w.Iff bytes = refl
 
+-- at a place that is the same
+moved : {most d : ℕ} {ss : List Symbol} {bytes : List ℕ} {vs : Values ss} (a b : ℕ) → a ≡ b → Line most d a ss bytes vs → Line most d b ss bytes vs
+moved {most} {d} {ss} {bytes} {vs} a b e h = subst (λ n. Line most d n ss bytes vs) e h
+
 pub between : {most d at : ℕ} {ss : List Symbol} {bytes : List ℕ} {vs : Values ss} (word : Connective) → d + 1 ≤ most → Line most d (at + length (connective_text word)) ss bytes vs
     → (t : Token) × Line most d at (token (kind_of word) deeper ∷ ss) (connective_text word ++ bytes) (t, vs)
-between w.And room a = (_, gap 32 refl (word (codes "and") and_is room refl (gap 32 refl a)))
-between w.Or room a = (_, gap 32 refl (word (codes "or") or_is room refl (gap 32 refl a)))
-between w.Implies room a = (_, gap 32 refl (arrow room (gap 32 refl a)))
-between w.Iff room a = (_, gap 32 refl (double_arrow room (gap 32 refl a)))
+between {at = at} w.And room a = (_, gap 32 refl (word (codes "and") and_is room refl (gap 32 refl (moved (at + 5) (at + 1 + 3 + 1) (omega arith) a))))
+between {at = at} w.Or room a = (_, gap 32 refl (word (codes "or") or_is room refl (gap 32 refl (moved (at + 4) (at + 1 + 2 + 1) (omega arith) a))))
+between {at = at} w.Implies room a = (_, gap 32 refl (arrow room (gap 32 refl (moved (at + 4) (at + 1 + 2 + 1) (omega arith) a))))
+between {at = at} w.Iff room a = (_, gap 32 refl (double_arrow room (gap 32 refl (moved (at + 5) (at + 1 + 3 + 1) (omega arith) a))))
