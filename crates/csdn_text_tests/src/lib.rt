@@ -4,7 +4,7 @@
 #[cfg(test)]
 mod tests {
     use csdn_text::parse;
-    use csdn_tree::syntax::{RawCommand, RawFormula, RawItem, RawProgram};
+    use csdn_tree::syntax::{Connective, RawCommand, RawFormula, RawItem, RawProgram};
     use std::alloc::{AllocError, Global};
     use std::process::Abort;
     use std::test::Fail;
@@ -216,8 +216,8 @@ mod tests {
     /// Whether an invariant, with its name at byte 7, is an implication of an implication.
     fn is_nested_to_the_right(raw: &RawProgram) -> bool {
         match raw.items.get(0) {
-            Some(RawItem::Invariant(_, name, RawFormula::Implies(_, right))) => {
-                name.at == 7 && matches!(right.get(), RawFormula::Implies(_, _))
+            Some(RawItem::Invariant(_, name, RawFormula::Two(Connective::Implies, _, right))) => {
+                name.at == 7 && matches!(right.get(), RawFormula::Two(Connective::Implies, _, _))
             }
             _ => false,
         }
