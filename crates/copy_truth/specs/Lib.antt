@@ -1,3 +1,4 @@
 pub mod Said
 pub mod Judged
 pub mod Early
+pub mod Breaking

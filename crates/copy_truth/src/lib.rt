@@ -3,6 +3,8 @@
 //! [`judging::judge`] judges the copies of a formula. `specs/` says what they are, on the definitions of decision_laws.
 #![tactic(auto)]
 
+pub mod breaking;
+pub mod candidates;
 pub mod early;
 pub mod facts;
 pub mod judging;
