@@ -1,6 +1,5 @@
 -- The members of a `forall` that may be false.
-use Rattle.std.specs.Prelude.{◌≡◌, ℕ, ◌<◌, ◌==◌, Bool, true, false, not, ◌||◌, nat_lt}
-use Rattle.std.specs.Int.{bit_at}
+use Rattle.std.specs.Prelude.{◌≡◌, ℕ, ◌<◌, true, false}
 use Rattle.csdn_core.specs.declared.terms.Sort.{Sort}
 use Rattle.csdn_core.specs.declared.terms.VarId.{VarId}
 use Rattle.fol_forms.specs.Forms.{Form}
@@ -8,11 +7,8 @@ use Rattle.decision_laws.specs.Copies.{Scope}
 use Rattle.ground_inst.specs.Walk.{ways_of}
 use Rattle.copy_truth.specs.declared.candidates.Candidates.{Candidates}
 use Rattle.copy_truth.specs.declared.reading.Reading.{Reading}
+use Rattle.copy_truth.specs.Candidates.{has_place}
 use Rattle.copy_truth.specs.Judged.{judged_bound}
-
--- whether the constant at a place is among these
-abbrev pub has_place : Candidates → ℕ → Bool
-has_place c place = not (nat_lt place 128) || bit_at c.bits place == 1
 
 -- where its variable stands for another constant, the copies of a body are true
 abbrev pub AreCandidates : Reading → Form → VarId → Sort → Scope → Candidates → Type 0

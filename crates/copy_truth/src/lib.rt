@@ -5,10 +5,10 @@
 
 pub mod breaking;
 pub mod candidates;
-pub mod early;
 pub mod facts;
 pub mod judging;
 pub mod needing;
 pub mod opened;
 pub mod reading;
+pub mod rows;
 pub mod tuples;
