@@ -8,6 +8,7 @@ mod OnceLaws
 mod WholeFound
 mod OpenSteps
 mod TupleLaws
+mod JoinLaws
 mod ReadLaws
 mod OpenWhole
 mod AddLaws

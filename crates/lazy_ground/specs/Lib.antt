@@ -6,3 +6,4 @@ pub mod Found
 pub mod Tuples
 pub mod Whole
 pub mod Opened
+pub mod Joins
