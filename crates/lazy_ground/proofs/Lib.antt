@@ -1,6 +1,7 @@
 mod FindLaws
 mod FreeLaws
 mod LookSteps
+mod PassSteps
 mod NamedLaws
 pub mod Agree
 mod EqualityAtoms

@@ -7,3 +7,4 @@ pub mod Tuples
 pub mod Whole
 pub mod Opened
 pub mod Joins
+pub mod Members
