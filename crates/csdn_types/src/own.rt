@@ -93,6 +93,22 @@ pub fn forward(scope: &Scope, own: &OwnTerms, raw: &RawFlow) -> Result<Terms, So
     Ok(flow_row(switch, source, target, ingress, egress))
 }
 
+/// The terms of what the switch does.
+pub fn switch_terms(
+    scope: &Scope,
+    own: &OwnTerms,
+    word: SwitchWord,
+    raw: &RawFlow,
+) -> Result<Terms, SortRefusal>
+    ensures { Answers (switch_faults word own.now scope.now raw.now) (term_of scope.now (Name raw.now.switch) ∷ flow_of scope.now raw.now) result }
+{
+    match word {
+        SwitchWord::Install => install(scope, own, raw),
+        SwitchWord::Uninstall => install(scope, own, raw),
+        SwitchWord::Forward => forward(scope, own, raw),
+    }
+}
+
 /// The packet that `flood` sends: the handler's own switch, source, destination and ingress port. Refused is the first
 /// term, from left to right, that is unknown, of another sort, or not the handler's own (`NotAllowed`).
 #[tactic(auto, using(crate::proofs::First::first_steps))]
