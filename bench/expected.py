@@ -713,13 +713,17 @@ CALLS = [
     b"frames s",
     b"replay p n j 1 s",
     b"make 2 m",
+    b"run p n",
+    b"run --workers 1 --sessions 1 --port 7000 --history 9 --strengthen 0 --instances 100 p n",
 ]
-WORDS = [it.encode() for it in "check show eval conditions trace clauses frames replay make run p n j s log q --log --strengthen --instances --workers 0 1 2 9 10 01 60 61 4294967295 4294967296 9007199254740992 9007199254740993 -1 --".split()] + [b"", b" ", b"\xff", "é".encode(), b"--help"]
+WORDS = [it.encode() for it in "check show eval conditions trace clauses frames replay make run p n j s log q --log --strengthen --instances --workers --sessions --port --history 0 1 2 9 10 01 60 61 64 65 65535 65536 1048576 1048577 4194304 4194305 4294967295 4294967296 9007199254740992 9007199254740993 -1 --".split()] + [b"", b" ", b"\xff", "é".encode(), b"--help"]
+SIZES = {b"--strengthen": (0, 9), b"--instances": (1, 1 << 53)}
 OPTIONS = {
-    b"check": {b"--strengthen": (0, 9), b"--instances": (1, 1 << 53), b"--log": None},
-    b"conditions": {b"--strengthen": (0, 9), b"--instances": (1, 1 << 53)},
+    b"check": {**SIZES, b"--log": None},
+    b"conditions": SIZES,
+    b"run": {**SIZES, b"--workers": (1, 64), b"--sessions": (1, 1 << 20), b"--port": (1, 65535), b"--history": (1, 1 << 22)},
 }
-OPERANDS = {b"check": 1, b"show": 1, b"conditions": 1, b"trace": 3, b"clauses": 1, b"frames": 1}
+OPERANDS = {b"check": 1, b"show": 1, b"conditions": 1, b"trace": 3, b"clauses": 1, b"frames": 1, b"run": 2}
 
 
 def is_form(words):
@@ -753,9 +757,12 @@ def is_form(words):
 LAST = re.compile(
     rb"(yes level \d|end|no network|(safety|topology|trans) \w+ (true|false)|hypothesis \w+|goal \w+|\d+ \w.*|[^\n]+: (accepted|not accepted|model.*|refuted)|(out|s) .*"
     rb"|.* refused at \d+: \w+|.* refused line \d+(: \w+)?|.* refused: (TooLong|state|not servable)|entry \d+: (stranger|not enabled|full)|ask \d+: differs|end .* ignored \d+"
-    rb"|missing .*|read fault .*|\}|.*;|unknown level .*|)\Z",
+    rb"|missing .*|read fault .*|\}|.*;|unknown level .*|[^\n]* breaks \w+|listen fault|)\Z",
     re.S,
 )
+
+
+UNSERVED = re.compile(rb"yes level \d\nvericon-journal 1\nend\nlisten fault\n\Z")
 
 
 def words_differ(given, status, text):
@@ -766,31 +773,11 @@ def words_differ(given, status, text):
         return None if status == 6 and given[0] == b"eval" and len(given) == 5 else f"usage, status {status}"
     # a name of a file may be any text
     last = text[:-1] if text.startswith((b"missing ", b"read fault ")) else text[:-1].split(b"\n")[-1]
-    if not 0 <= status <= 8 or status in (6, 7) or not LAST.match(last) or text and not text.endswith(b"\n"):
+    if not 0 <= status <= 9 or status in (6, 7) or not LAST.match(last) or text and not text.endswith(b"\n"):
         return f"status {status}, {text[-200:]!r}"
     if (status == 5) != (last.startswith(b"missing ") or last.startswith(b"read fault ")):
         return f"status {status}, {last!r}"
+    # a program that is accepted finds its port taken (again.c); no other call listens
+    if (status == 9) != (UNSERVED.match(text) is not None) or given[0] == b"run" and status == 0:
+        return f"status {status}, {text[-200:]!r}"
     return None
-
-
-# ------------------------------------------------------------------ deciding
-
-DECIDED = {
-    0: re.compile(rb"yes level 0\n\Z"),
-    1: re.compile(rb"counterexample level 0 condition \d+ (init 0 \w+|(step|trans) \w+ (pktIn|pktFlow|expire))\nvericon-net 1\n(sw|ho|pr).*\nend\n\Z", re.S),
-    2: re.compile(rb"unknown level 0 condition \d+ [\w ]+: (nodes|outside|instances \d+)\n\Z"),
-    3: PROGRAM_REFUSED,
-    4: re.compile(rb"no network\n\Z"),
-}
-
-
-def decided_differs(given, status, text):
-    if given[0] == "eval":
-        return None if status == 0 and text.endswith(b"hypothesis true\ngoal false\n") else f"condition {given[3]!r} isn't broken: {text[-200:]!r}"
-    if given[0] == "log":
-        return only(0, b"yes level 0\n")(status, text)
-    if given[0] == "clauses":
-        lines = text.split(b"\n")[:-1]
-        return None if status == 0 and all(it.endswith(b": accepted") for it in lines) else f"the log isn't accepted: {text[-200:]!r}"
-    form = DECIDED.get(status)
-    return None if form and form.match(text) else f"status {status}, {text[:200]!r}"

@@ -1,7 +1,7 @@
 #!/usr/bin/env python3
 """fuzz.py [--count N] [--seed S] [READER..]: N inputs (1,000,000) for each reader of the built program, or for those named, made by
-changing worked ones. Each answer is held against what the formats say of that input (expected.py), so a crash, a call of more than ten seconds,
-and a line or a status that is not to be are found; an input whose answer is of a new form is changed further.
+changing worked ones. Each answer is held against what the formats say of that input (expected.py), so a crash, a call of more than ten seconds
+of the processor, and a line or a status that is not to be are found; an input whose answer is of a new form is changed further.
 
 The program's `main` is called again and again in one process (again.c): some 10,000 to 40,000 calls a second. For each reader there is a line
 with the number of inputs, of the forms of answers, and of the answers with each status. What was found is written to found-READER-N, and ends the
@@ -20,6 +20,8 @@ import sys
 import tempfile
 import time
 
+import decided
+import drawn
 import expected
 
 HERE = os.path.dirname(os.path.abspath(__file__))
@@ -96,7 +98,7 @@ class Program:
         os.close(self.back)
         code = self.process.wait()
         self.begin()
-        return "hang" if code == -signal.SIGALRM else f"ended with {code}"
+        return "hang" if code in (-signal.SIGALRM, -signal.SIGPROF) else f"ended with {code}"
 
     def close(self):
         os.close(self.to)
@@ -173,7 +175,7 @@ class Tally:
         name = f"found-{self.reader.name}-{self.found}"
         if self.found <= 20:
             with open(name, "wb") as it:
-                it.write(given if isinstance(given, bytes) else b"\0".join(part if isinstance(part, bytes) else part.encode() for part in given))
+                it.write(given if isinstance(given, bytes) else b"\0".join(part if isinstance(part, bytes) else str(part).encode() for part in given))
             print(f"{self.reader.name}: {name}: {why}", flush=True)
 
     def take(self, given, answer, seeds):
@@ -213,7 +215,7 @@ def fuzz(reader, library, count, seed):
     taken = time.perf_counter() - since
     program.close()
     statuses = ", ".join(f"status {status}: {number}" for status, number in sorted(tally.statuses.items()))
-    print(f"{reader.name}: {tally.count} inputs in {taken:.0f} s, {len(tally.forms)} forms, {statuses}; found {tally.found}", flush=True)
+    print(f"{reader.name}: {tally.count} inputs in {taken:.0f} s, {len(tally.forms)} forms, {statuses}{reader.said()}; found {tally.found}", flush=True)
     return tally.found
 
 
@@ -234,6 +236,10 @@ class Reader:
 
     def call(self, given):
         return self.words, [(self.file, given)]
+
+    def said(self):
+        """What is said behind the statuses."""
+        return ""
 
 
 class Words:
@@ -268,36 +274,55 @@ class Words:
     def next(self, given, answer, chance):
         return []
 
+    def said(self):
+        return ""
+
 
 class Decided:
-    """Programs that are checked. A counterexample is to break its condition, and a log is to be accepted."""
+    """Programs that are checked, changed ones and drawn ones. What is answered is held against decided.py; a counterexample is to break its
+    condition by `eval` too, a log is to be accepted, and what z3 finds broken without an answer is to be what can't be decided."""
 
     name = "decided"
     fixed = {}
-    seeds = [("check", it) for it in expected.PROGRAMS]
-    differs = staticmethod(expected.decided_differs)
+
+    def __init__(self):
+        self.seeds = [("check", it, 0) for it in expected.PROGRAMS]
+        self.account = decided.Account()
+        self.differs, self.said = self.account.differs, self.account.said
 
     def change(self, chance, seeds):
-        programs = [it for it in seeds if it[0] == "check"]
-        return "check", change(chance, [chance.choice(programs)[1]], expected.PROGRAM_TOKENS)
+        level = int(chance.random() < 0.02)
+        if chance.random() < 0.5:
+            return "drawn", drawn.draw(chance), level
+        programs = [it for it in seeds if it[0] in ("check", "drawn")]
+        return "check", change(chance, [chance.choice(programs)[1]], expected.PROGRAM_TOKENS), level
 
     def call(self, given):
         words, program = given[0], given[1]
+        level = b"%d" % given[2]
         if words == "eval":
-            return [b"eval", b"p", b"n", b"0", given[3]], [(b"p", program), (b"n", given[2])]
+            return [b"eval", b"p", b"n", level, given[4]], [(b"p", program), (b"n", given[3])]
         if words == "clauses":
             return [b"clauses", b"l"], []
+        options = [b"--instances", b"16384", b"--strengthen", level]
+        if words == "conditions":
+            return [b"conditions", *options, b"p"], [(b"p", program)]
         log = [b"--log", b"l"] if words == "log" else []
-        return [b"check", b"--instances", b"4096", *log, b"p"], [(b"p", program)]
+        return [b"check", *options, *log, b"p"], [(b"p", program)]
 
     def next(self, given, answer, chance):
         status, text = answer
-        if given[0] != "check" or chance.random() < 0.5:
+        if given[0] not in ("check", "drawn"):
             return []
+        program = given[1]
+        level, doubtful = self.account.doubtful.pop(program, (0, []))
+        more = [("conditions", program, level, doubtful)] if doubtful else []
+        if chance.random() < 0.5:
+            return more
         if status == 1:
             first, _, case = text.partition(b"\n")
-            return [("eval", given[1], case, first.split(b" ")[4])]
-        return [("log", given[1]), ("clauses", given[1])] if status == 0 else []
+            return [*more, ("eval", program, given[2], case, first.split(b" ")[4])]
+        return [*more, ("log", program, given[2]), ("clauses", program, given[2])] if status == 0 else more
 
 
 def readers():

@@ -1,6 +1,6 @@
 #!/usr/bin/env python3
-"""refusals.py [ROW..]: refuses each allocation of the built program in turn, and each of its opens, reads and writes, over worked
-calls, and holds each answer against the whole one.
+"""refusals.py [--kind KIND].. [ROW..]: refuses each allocation of the built program in turn, and each of its opens, reads and writes, over worked
+calls, and holds each answer against the whole one. Rows and kinds of refusals that aren't named are all.
 
 A process of its own is forked at each call that is to be refused (refuse.c), so that no run begins anew. It goes on with the
 refusal to its end:
@@ -19,6 +19,7 @@ session that ends by `memory`, `read fault` or `write fault`, with a front of th
 Prints a line for each call of the program and each kind of refusal, with the number of refusals and what they were answered by.
 Ends with status 1 where one of them was answered otherwise.
 """
+import argparse
 import os
 import re
 import socket
@@ -122,7 +123,7 @@ def refuse(library, program, folder, words, kind, status):
     return lines[:-1], {name: int(count) for name, count in counts.items()}
 
 
-def tell(library, call, program=VERICON, kinds=KINDS):
+def tell(library, call, program, kinds):
     """Prints the lines of a call. The answer says whether all was as it is to be."""
     name, words, files, status, begins = call
     good = True
@@ -171,7 +172,7 @@ def speak(port, process):
     """What the program says to a switch that sends its stream and closes; nothing where nobody listens any more."""
     while process.poll() is None:
         try:
-            with socket.create_connection(("127.0.0.1", port), 10) as link:
+            with socket.create_connection(("127.0.0.1", port), 300) as link:
                 link.sendall(STREAM)
                 link.shutdown(socket.SHUT_WR)
                 heard = b""
@@ -191,7 +192,7 @@ def serve(library, folder, kind, number):
     given = {**os.environ, "LD_PRELOAD": library, "REFUSE": kind, "REFUSE_AT": str(number), "REFUSE_FROM": "listen"}
     process = subprocess.Popen([VERICON, *RUN, "--port", str(port), "p", "n"], cwd=folder, env=given, stdout=subprocess.PIPE, stderr=subprocess.PIPE)
     heard = speak(port, process)
-    out, said = process.communicate(timeout=60)
+    out, said = process.communicate(timeout=600)
     found = re.search(rb"calls=(\d+)", said)
     return process.returncode, out, heard, int(found[1]) if found else 0
 
@@ -204,26 +205,26 @@ def is_served(answer, whole, kind):
         return False
     if (status, out) == (wanted, text):
         return kind != "memory"
+    front = text[: text.index(b"session 1 ")]
     found = SESSION_LINE.search(out)
     if found:
         # the journal is a front of the whole one
-        front = text[: text.index(b"session 1 ")]
         entries = text[text.index(b"vericon-journal") : -len(b"end\n")]
         rest = out[found.end() :].removesuffix(b"listen fault\n" if status == 9 else b"")
         is_front = out.startswith(front) and rest.endswith(b"end\n") and entries.startswith(rest[:-4])
         return is_front and ((status, found[1]) in RUN_ENDS[kind] or (status, b"") in RUN_ENDS[kind] and found[1] == b"closed")
-    if status == 9:
-        return (9, b"") in RUN_ENDS[kind] and out == text[: text.index(b"session 1 ")] + b"vericon-journal 1\nend\nlisten fault\n"
-    return (status, b"") in RUN_ENDS[kind] and text.startswith(out)
+    # nobody was served
+    told = front + b"vericon-journal 1\nend\n" + (b"listen fault\n" if status == 9 else b"")
+    return (status, b"") in RUN_ENDS[kind] and (out == told or status != 9 and front.startswith(out))
 
 
-def tell_run(library):
+def tell_run(library, kinds):
     good = True
     with tempfile.TemporaryDirectory() as folder:
         for file, held in (("p", KEPT), ("n", TWO)):
             with open(os.path.join(folder, file), "w") as it:
                 it.write(held)
-        for kind in RUN_ENDS:
+        for kind in kinds:
             whole = serve(library, folder, kind, 0)
             if whole[0] != 0 or len(whole[2]) != 204:
                 print(f"run: without a refusal {whole}")
@@ -244,14 +245,19 @@ def tell_run(library):
 
 
 def main():
-    wanted = sys.argv[1:]
+    told = argparse.ArgumentParser()
+    told.add_argument("--kind", action="append", choices=list(RUN_ENDS), default=[])
+    told.add_argument("rows", nargs="*")
+    told = told.parse_args()
+    wanted = lambda name: not told.rows or name in told.rows
+    kinds_of = lambda kinds: [it for it in kinds if not told.kind or it[0] in told.kind]
     with tempfile.TemporaryDirectory() as work:
         library = build(work)
-        told = [tell(library, call) for call in CALLS if not wanted or call[0] in wanted]
-        told += [tell(library, call, TRIAL, TRIAL_KINDS) for call in TRIALS if not wanted or call[0] in wanted]
-        if not wanted or "run" in wanted:
-            told.append(tell_run(library))
-    sys.exit(0 if all(told) else 1)
+        good = [tell(library, call, VERICON, kinds_of(KINDS)) for call in CALLS if wanted(call[0])]
+        good += [tell(library, call, TRIAL, kinds_of(TRIAL_KINDS)) for call in TRIALS if wanted(call[0])]
+        if wanted("run"):
+            good.append(tell_run(library, [it for it in RUN_ENDS if not told.kind or it in told.kind]))
+    sys.exit(0 if all(good) else 1)
 
 
 main()

@@ -479,14 +479,18 @@ class Case:
         return self.is_true(f[1], env) == self.is_true(f[2], env)
 
 
-def judge(program, n, index, text):
+def judged(program, n, index, text):
+    """Whether the hypothesis of a condition is true in a network with its state, and whether its goal is."""
     case = Case(program, text)
     hypotheses = program.hypotheses(n)
-    for i, (kind, names, goal) in enumerate(program.conditions(n)):
-        if i == index:
-            holds = all(case.is_true(f, {}) for name in names for f in hypotheses[name])
-            word = lambda b: "true" if b else "false"
-            print(f"hypothesis {word(holds)}\ngoal {word(case.is_true(goal, {}))}")
+    _, names, goal = list(program.conditions(n))[index]
+    return all(case.is_true(f, {}) for name in names for f in hypotheses[name]), case.is_true(goal, {})
+
+
+def judge(program, n, index, text):
+    word = lambda b: "true" if b else "false"
+    holds, goal = judged(program, n, index, text)
+    print(f"hypothesis {word(holds)}\ngoal {word(goal)}")
 
 
 def main(words):

@@ -3,10 +3,10 @@ use Rattle.std.specs.Prelude.{◌≡◌, ℕ, Bool, List, [], ◌∷◌, ◌++�
 use Rattle.std.specs.List.{list_all}
 use Rattle.clause_log.specs.Refutations.{Step}
 use Rattle.text_lines.specs.Machine.{reading}
+use Rattle.text_lines.specs.declared.read.LineRefusal.{LineRefusal}
+use Rattle.text_lines.specs.declared.read.LineRefusal.TheVariants.{Line, Memory}
 use Rattle.log_text.specs.LogText.{log_format}
 use Rattle.log_text.specs.declared.block.Block.{Block}
-use Rattle.log_text.specs.declared.read.LogRefusal.{LogRefusal}
-use Rattle.log_text.specs.declared.read.LogRefusal.TheVariants.{Line, Memory}
 use Rattle.clause_listing.specs.declared.listing.Listing.{Listing}
 use Rattle.clause_listing.specs.Answers.{IsSaid, passes}
 
@@ -27,9 +27,9 @@ pub record IsListing (bytes text : List ℕ) (good : Bool) : Type 0 where
   pub passed : good ≡ all_pass blocks
 
 -- a listing of the text, or its first bad line, unless memory ran out
-abbrev pub Lists : List ℕ → Result Listing LogRefusal → Type 0
+abbrev pub Lists : List ℕ → Result Listing (LineRefusal (Unit {0})) → Type 0
 Lists bytes (Ok l) = IsListing bytes l.text.items l.all_accepted
-Lists bytes (Err (Line n)) = reading log_format bytes ≡ Err (record { number = n; reason = tt })
+Lists bytes (Err (Line n why)) = reading log_format bytes ≡ Err (record { number = n; reason = tt })
 Lists bytes (Err Memory) = Unit {0}
 
 -- the block with this log

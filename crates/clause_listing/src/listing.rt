@@ -5,9 +5,9 @@ ghost use Rattle.clause_listing.specs.Answers.{IsSaid, passes};
 ghost use Rattle.clause_listing.specs.Listings.{AreListed, Lists, all_pass};
 
 use crate::print::{put_answer, put_verdict};
-use log_text::{Block, LogRefusal, read_log};
+use log_text::{Block, read_log};
 use std::alloc::{AllocError, Global};
-use text_lines::put_word;
+use text_lines::{LineRefusal, put_word};
 
 /// The listing of a log text.
 #[derive(Debug, Drop)]
@@ -50,12 +50,12 @@ fn list_blocks(alloc: Global, blocks: &[Block]) -> Result<Listing, AllocError>
 
 /// Checks the log of each block of the text, and solves the clauses of each block without one: a line for each block
 /// (docs/COMMANDS.md, "clauses"). Refused as by `read_log`.
-pub fn list_clauses(alloc: Global, bytes: &[u8]) -> Result<Listing, LogRefusal>
+pub fn list_clauses(alloc: Global, bytes: &[u8]) -> Result<Listing, LineRefusal<()>>
     ensures { Lists bytes.now result }
 {
     let blocks = read_log(alloc, bytes)?;
     match list_blocks(alloc, blocks.as_slice()) {
         Ok(listing) => Ok(listing),
-        Err(_) => Err(LogRefusal::Memory),
+        Err(_) => Err(LineRefusal::Memory),
     }
 }

@@ -2,8 +2,9 @@
 use csdn_read::ProgramRefusal;
 use csdn_step::StepRefusal;
 use fol_forms::refusal::FormRefusal;
-use net_text::NetTextRefusal;
+use net_text::NetWhy;
 use std::alloc::AllocError;
+use text_lines::LineRefusal;
 use thiserror::Error;
 
 /// Why a trial has no outcome.
@@ -14,7 +15,7 @@ pub enum Trouble {
     #[error("the text is no program: {0}")]
     Program(#[from] ProgramRefusal),
     #[error("there is no network: {0}")]
-    Net(#[from] NetTextRefusal),
+    Net(#[from] LineRefusal<NetWhy>),
     #[error("an event was refused: {0}")]
     Event(#[from] StepRefusal),
     #[error("a condition has no formula: {0}")]

@@ -1,4 +1,5 @@
 mod ReadLaws
+mod SetLaws
 mod JudgeSteps
 mod EarlySteps
 pub mod OpenTuples

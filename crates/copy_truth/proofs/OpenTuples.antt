@@ -1,6 +1,6 @@
 -- Terms with open variables, and true tuples.
 use Rattle.std.proofs.Common.{◌≡◌, ◌∙◌, ℕ, suc, ◌+◌, ◌-◌, ◌<◌, ◌≤◌, ◌==◌, length, Bool, true, false, not, ◌&&◌, ◌||◌, Option, Some, List, [], ◌∷◌, map, refl, sym, ap, subst, arith, cond, inl, inr, nat_lt, lt-ltb, ltb-true, get_or, take, drop, eqb, eqb-true, eq-eqb, if◌then◌else◌}
-use Rattle.std.proofs.lemmas.Bool.{and_from, cases_Bool, false_from_ne_true, false≢true, or_left, or_right}
+use Rattle.std.proofs.lemmas.Bool.{and_from, and_parts, cases_Bool, false_from_ne_true, false≢true, or_cases, or_left, or_right}
 use Rattle.std.specs.List.Sorted.{IsNonDecreasing}
 use Rattle.general_facts.proofs.Lists.{rest_is}
 use Rattle.csdn_core.specs.Members.{IsIn}
@@ -10,6 +10,8 @@ use Rattle.csdn_core.specs.declared.terms.Sort.{Sort}
 use Rattle.csdn_core.specs.declared.terms.Term.{Term}
 use Rattle.csdn_core.specs.declared.terms.Term.TheVariants.{Const, Port, Var}
 use Rattle.clause_log.specs.Literals.{truths}
+use Rattle.copy_truth.specs.declared.candidates.Candidates.{Candidates}
+use Rattle.copy_truth.specs.declared.opened.Variable.{Variable}
 use Rattle.fol_forms.specs.Forms.{Atom}
 use Rattle.decision_laws.specs.Copies.{AreBelow, Scope, Tuple, nothing, place, place_sort}
 use Rattle.decision_laws.specs.Numbers.{tuple_count, tuple_number, tuple_of}
@@ -21,9 +23,10 @@ use Rattle.ground_inst.specs.Walk.{Ways, ways_of}
 use Rattle.ground_inst.specs.declared.facts.UsedRelation.{UsedRelation}
 use Rattle.copy_truth.specs.declared.opened.TheConstants.{OPEN}
 use Rattle.copy_truth.specs.declared.reading.Reading.{Reading}
-use Rattle.copy_truth.specs.Early.{AreColumns, Fits, HoldsAnyhow, IsColumn, is_known, is_variable, may_be, may_be_atom, used_in}
+use Rattle.copy_truth.specs.Early.{AreColumns, AreNoneElsewhere, Fits, HoldsElsewhere, IsColumn, at_constant, is_known, is_this, is_variable, may_be, may_be_atom, place_of_variable, used_in}
+use Rattle.copy_truth.specs.Judged.{judged_copies}
 use Rattle.copy_truth.specs.Said.{said_by}
-use Rattle.copy_truth.proofs.EarlySteps.{same_place}
+use Rattle.copy_truth.proofs.EarlySteps.{fits_at, is_open, same_place}
 
 -- the relation that is used
 
@@ -47,10 +50,6 @@ place_used n (u ∷ us) none r w xs e =
 
 pub true_in : (x : ℕ) (ts : List ℕ) → truths ts x ≡ true → IsIn x ts
 true_in x ts e = (let w = any_gives (λ t. eqb t x) ts e in subst (λ z. IsIn z ts) (eqb-true w.0 x w.2) w.1)
-
-is_open : (b : Bool) → not b ≡ false → b ≡ true
-is_open true e = refl
-is_open false e = absurd (false≢true (sym e))
 
 module _ (m : Ways) (env : Scope) where
   pub column_open : (t : Term) (s : Sort) → place_sort m.voc env t ≡ s → place m.voc env t ≡ OPEN → is_variable t ≡ true → IsColumn m env t s
@@ -90,10 +89,9 @@ module _ (m : Ways) (env : Scope) where
     may_be_these (t ∷ ts) = and_from (place m.voc env t == OPEN || place m.voc env t == place m.voc full t) (may_be m.voc env ts (map (place m.voc full) ts)) (may_be_one t) (may_be_these ts)
 
     -- an atom that is numbered as these constants say may be it
-    may_be_numbered : (u : UsedRelation) (ts : List Term) (x : ℕ) → AreColumns m env ts u.sorts → x ≡ suc (u.before + tuple_number m.count u.sorts (map (place m.voc full) ts)) → may_be_atom m env u ts x ≡ true
-    may_be_numbered u ts x h e =
+    may_be_numbered : (u : UsedRelation) (ts : List Term) (x : ℕ) → AreBelow m.count u.sorts (map (place m.voc full) ts) → x ≡ suc (u.before + tuple_number m.count u.sorts (map (place m.voc full) ts)) → may_be_atom m env u ts x ≡ true
+    may_be_numbered u ts x below e =
         let xs = map (place m.voc full) ts in
-        let below = columns_below ts u.sorts h in
         let small = tuple_number-below m.count u.sorts xs below in
         let k : x - u.before - 1 ≡ tuple_number m.count u.sorts xs = omega (arith, e) in
         let low : u.before < x = omega (arith, e) in
@@ -108,15 +106,82 @@ module _ (r : Reading) (env : Scope) (rel : Pred) (u : UsedRelation) (ts : List 
   unfolding num_of
   number_is xs = ap suc (place_used (ways_of r.names).count r.names.facts.now.relations r.names.facts.now.count rel u xs is)
 
-  pub none_anyhow : AreColumns (ways_of r.names) env ts u.sorts → ((t : ℕ) → IsIn t r.trues.now → may_be_atom (ways_of r.names) env u ts t ≡ false) → HoldsAnyhow r (Atom false rel ts) env
+  none_at : (here full : Scope) (base : Sort → ℕ) → AreColumns (ways_of r.names) env ts u.sorts → Fits (ways_of r.names).count env full → Fits (ways_of r.names).count here full → ((t : ℕ) → IsIn t r.trues.now → may_be_atom (ways_of r.names) here u ts t ≡ false) → judged_copies r (Atom false rel ts) full base ≡ true
   unfolding said_by
-  none_anyhow h none full base fits =
+  none_at here full base h fits fits_here none =
       let xs = map (place (ways_of r.names).voc full) ts in
       let x = num_of r.names.facts.now (Tuple rel xs) in
+      let below = columns_below (ways_of r.names) env full fits ts u.sorts h in
       elim (cases_Bool (truths r.trues.now x)) [
-        | inl t ↦ absurd (false≢true (sym (none x (true_in x r.trues.now t)) ∙ may_be_numbered (ways_of r.names) env full fits u ts x h (number_is xs)))
+        | inl t ↦ absurd (false≢true (sym (none x (true_in x r.trues.now t)) ∙ may_be_numbered (ways_of r.names) here full fits_here u ts x below (number_is xs)))
         | inr f ↦ ap not f
       ]
+
+  pub rows_elsewhere : (x : Variable) (within missed : Candidates) → AreColumns (ways_of r.names) env ts u.sorts → AreNoneElsewhere (ways_of r.names) env x within missed u ts r.trues.now → HoldsElsewhere r (Atom false rel ts) env x within missed
+  rows_elsewhere x within missed h none full base fits at =
+      let p = find_or nothing full x.var.0 in
+      none_at (at_constant x p.1 env) full base h fits (fits_at (ways_of r.names).count env full x.var.0 x.sort fits at.sort at.below) (none p.1 at.inside at.outside)
+
+-- A variable that is open is bound to a constant.
+
+module _ (voc : Vocabulary) (env : Scope) (x : Variable) (k : ℕ) (open' : is_known voc env (Var x.var) ≡ false) where
+  may_by : (b : Bool) (q : ℕ) (o p : Sort × ℕ) → (b ≡ true → (o.1 == OPEN) ≡ true) → ((cond b p o).1 == OPEN || (cond b p o).1 == q) ≡ true → (o.1 == OPEN || o.1 == q) ≡ true
+  may_by true q o p f h = or_left (o.1 == OPEN) (o.1 == q) (f refl)
+  may_by false q o p f h = h
+
+  may_still : (t : Term) (q : ℕ) → (place voc (at_constant x k env) t == OPEN || place voc (at_constant x k env) t == q) ≡ true → (place voc env t == OPEN || place voc env t == q) ≡ true
+  may_still (Var v) q h =
+      may_by (v.0 == x.var.0) q (find_or nothing env v.0) (x.sort, k) (λ t. subst (λ w. ((find_or nothing env w).1 == OPEN) ≡ true) (sym (eqb-true v.0 x.var.0 t)) (is_open ((find_or nothing env x.var.0).1 == OPEN) open')) h
+  may_still (Const c) q h = h
+  may_still (Port n) q h = h
+
+  may_be_still : (ts : List Term) (qs : List ℕ) → may_be voc (at_constant x k env) ts qs ≡ true → may_be voc env ts qs ≡ true
+  may_be_still [] [] h = refl
+  may_be_still [] (q ∷ qs) h = h
+  may_be_still (t ∷ ts) [] h = h
+  may_be_still (t ∷ ts) (q ∷ qs) h =
+      let parts = and_parts (place voc (at_constant x k env) t == OPEN || place voc (at_constant x k env) t == q) (may_be voc (at_constant x k env) ts qs) h in
+      and_from (place voc env t == OPEN || place voc env t == q) (may_be voc env ts qs) (may_still t q parts.0) (may_be_still ts qs parts.1)
+
+-- where a tuple has another constant for the variable, the atom is not this one
+module _ (voc : Vocabulary) (env : Scope) (x : Variable) (k : ℕ) (small : k < 128) where
+  stands_here : (b : Bool) (q : ℕ) (o : Sort × ℕ) → b ≡ true → ((cond b (x.sort, k) o).1 == OPEN || (cond b (x.sort, k) o).1 == q) ≡ true → k ≡ q
+  stands_here true q o e h =
+      elim (or_cases (k == OPEN) (k == q) h) [ inl t ↦ absurd (omega (arith, small, eqb-true k OPEN t)) | inr t ↦ eqb-true k q t ]
+  stands_here false q o e h = absurd (false≢true e)
+
+  this_place : (t : Term) (q : ℕ) → is_this x.var t ≡ true → (place voc (at_constant x k env) t == OPEN || place voc (at_constant x k env) t == q) ≡ true → k ≡ q
+  this_place (Var v) q e h = stands_here (v.0 == x.var.0) q (find_or nothing env v.0) e h
+  this_place (Const c) q e h = absurd (false≢true e)
+  this_place (Port n) q e h = absurd (false≢true e)
+
+  place_by : (b : Bool) (q p : ℕ) (o : Option ℕ) → (if b then Some q else o) ≡ Some p → (b ≡ true → k ≡ q) → (o ≡ Some p → k ≡ p) → k ≡ p
+  place_by true q p o e f g = f refl ∙ (let same : q ≡ p = cc in same)
+  place_by false q p o e f g = g e
+
+  pub column_is : (ts : List Term) (qs : List ℕ) (p : ℕ) → place_of_variable x.var ts qs ≡ Some p → may_be voc (at_constant x k env) ts qs ≡ true → k ≡ p
+  column_is [] qs p e h = absurd cc
+  column_is (t ∷ ts) [] p e h = absurd cc
+  column_is (t ∷ ts) (q ∷ qs) p e h =
+      let parts = and_parts (place voc (at_constant x k env) t == OPEN || place voc (at_constant x k env) t == q) (may_be voc (at_constant x k env) ts qs) h in
+      place_by (is_this x.var t) q p (place_of_variable x.var ts qs) e (λ i. this_place t q i parts.0) (λ i. column_is ts qs p i parts.1)
+
+module _ (m : Ways) (env : Scope) (x : Variable) (u : UsedRelation) (ts : List Term) (t k : ℕ) where
+  pub none_still : is_known m.voc env (Var x.var) ≡ false → may_be_atom m env u ts t ≡ false → may_be_atom m (at_constant x k env) u ts t ≡ false
+  none_still open' h =
+      let inside = nat_lt u.before t && nat_lt (t - u.before - 1) (tuple_count m.count u.sorts) in
+      let xs = tuple_of m.count u.sorts (t - u.before - 1) in
+      false_from_ne_true (may_be_atom m (at_constant x k env) u ts t)
+      (λ e. let parts = and_parts inside (may_be m.voc (at_constant x k env) ts xs) e in
+      false≢true (sym h ∙ and_from inside (may_be m.voc env ts xs) parts.0 (may_be_still m.voc env x k open' ts xs parts.1)))
+
+  pub none_beside : (n p : ℕ) → k < 128 → n ≡ t - u.before - 1 → place_of_variable x.var ts (tuple_of m.count u.sorts n) ≡ Some p → (k == p) ≡ false → may_be_atom m (at_constant x k env) u ts t ≡ false
+  none_beside n p small e is other =
+      let inside = nat_lt u.before t && nat_lt (t - u.before - 1) (tuple_count m.count u.sorts) in
+      let xs = tuple_of m.count u.sorts (t - u.before - 1) in
+      false_from_ne_true (may_be_atom m (at_constant x k env) u ts t)
+      (λ h. let parts = and_parts inside (may_be m.voc (at_constant x k env) ts xs) h in
+      false≢true (sym other ∙ eq-eqb k p (column_is m.voc env x k small ts xs p (subst (λ z. place_of_variable x.var ts (tuple_of m.count u.sorts z) ≡ Some p) e is) parts.1)))
 
 -- no terms stand for some constants
 pub none_there : (voc : Vocabulary) (env : Scope) (n : Sort → ℕ) (ts : List Term) (ss : List Sort) (k : ℕ) → length ts < 1 → 1 ≤ length ss → false ≡ may_be voc env ts (tuple_of n ss k)

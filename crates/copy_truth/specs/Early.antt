@@ -1,17 +1,27 @@
--- Copies that are true whatever constants some variables stand for.
+-- Copies that are true whatever constants some variables stand for, and another stands for none of some.
 use Rattle.std.specs.Prelude.{◌≡◌, ℕ, ◌-◌, ◌<◌, ◌==◌, Bool, true, false, not, ◌&&◌, ◌||◌, nat_lt, List, [], ◌∷◌, Option, Some, None, if◌then◌else◌}
 use Rattle.csdn_core.specs.declared.terms.Sort.{Sort}
 use Rattle.csdn_core.specs.declared.terms.Pred.{Pred}
 use Rattle.csdn_core.specs.declared.terms.Term.{Term}
 use Rattle.csdn_core.specs.declared.terms.Term.TheVariants.{Const, Port, Var}
 use Rattle.csdn_core.specs.Network.{same_pred}
-use Rattle.fol_forms.specs.Forms.{Form}
+use Rattle.csdn_core.specs.declared.terms.VarId.{VarId}
+use Rattle.csdn_core.specs.Members.{IsIn}
+use Rattle.std.specs.List.{list_all}
+use Rattle.fol_forms.specs.Forms.{Form, Atom, Same}
 use Rattle.decision_laws.specs.Vocabulary.{Vocabulary, find_or}
 use Rattle.decision_laws.specs.Copies.{Scope, nothing, place, place_sort}
 use Rattle.decision_laws.specs.Numbers.{tuple_count, tuple_of}
 use Rattle.ground_inst.specs.Walk.{Ways, ways_of}
 use Rattle.ground_inst.specs.declared.facts.UsedRelation.{UsedRelation}
 use Rattle.copy_truth.specs.declared.opened.TheConstants.{OPEN}
+use Rattle.copy_truth.specs.declared.opened.Variable.{Variable}
+use Rattle.copy_truth.specs.declared.candidates.Candidates.{Candidates}
+use Rattle.copy_truth.specs.declared.facts.Leaf.{Leaf}
+use Rattle.copy_truth.specs.declared.facts.Leaf.TheVariants as leaf
+use Rattle.copy_truth.specs.declared.rows.Fit.{Fit}
+use Rattle.copy_truth.specs.declared.rows.Fit.TheVariants as fit
+use Rattle.copy_truth.specs.Candidates.{has_place}
 use Rattle.copy_truth.specs.declared.reading.Reading.{Reading}
 use Rattle.copy_truth.specs.Judged.{judged_copies}
 
@@ -28,9 +38,33 @@ pub record Stands (n : Sort → ℕ) (p q : Sort × ℕ) : Type 0 where
 abbrev pub Fits : (Sort → ℕ) → Scope → Scope → Type 0
 Fits n env full = (v : ℕ) → Stands n (find_or nothing env v) (find_or nothing full v)
 
--- the copies of a form are true, whatever constants open variables stand for
-abbrev pub HoldsAnyhow : Reading → Form → Scope → Type 0
-HoldsAnyhow r f env = (full : Scope) (base : Sort → ℕ) → Fits (ways_of r.names).count env full → judged_copies r f full base ≡ true
+-- the constant that a variable stands for is one of some, but none of others
+pub record IsElsewhere (n : Sort → ℕ) (s : Sort) (within missed : Candidates) (p : Sort × ℕ) : Type 0 where
+  pub sort : p.0 ≡ s
+  pub below : p.1 < n s
+  pub inside : has_place within p.1 ≡ true
+  pub outside : has_place missed p.1 ≡ false
+
+-- the copies of a form are true, whatever constants open variables stand for, where this one stands for one of some constants, but
+-- for none of others
+abbrev pub HoldsElsewhere : Reading → Form → Scope → Variable → Candidates → Candidates → Type 0
+HoldsElsewhere r f env x within missed =
+    (full : Scope) (base : Sort → ℕ) → Fits (ways_of r.names).count env full → IsElsewhere (ways_of r.names).count x.sort within missed (find_or nothing full x.var.0) → judged_copies r f full base ≡ true
+
+-- a variable is bound to a constant
+abbrev pub at_constant : Variable → ℕ → Scope → Scope
+at_constant x k env = (x.var.0, (x.sort, k)) ∷ env
+
+-- Leaves: atoms and equations.
+
+abbrev pub leaf_form : Bool → Leaf → Form
+leaf_form sign (leaf.Tuple r ts) = Atom sign r ts.now
+leaf_form sign (leaf.Equation t u) = Same sign t u
+
+-- whether each term of a leaf stands for a constant
+abbrev pub is_known_leaf : Vocabulary → Scope → Leaf → Bool
+is_known_leaf voc env (leaf.Tuple r ts) = list_all (is_known voc env) ts.now
+is_known_leaf voc env (leaf.Equation t u) = is_known voc env t && is_known voc env u
 
 -- Atoms with open variables.
 
@@ -62,6 +96,29 @@ may_be voc env (t ∷ ts) (p ∷ ps) = (place voc env t == OPEN || place voc env
 abbrev pub may_be_atom : Ways → Scope → UsedRelation → List Term → ℕ → Bool
 may_be_atom m env u ts t =
     (nat_lt u.before t && nat_lt (t - u.before - 1) (tuple_count m.count u.sorts)) && may_be m.voc env ts (tuple_of m.count u.sorts (t - u.before - 1))
+
+-- where a variable stands for one of some constants, but for none of others, no atom of a list may be one of the relation
+abbrev pub AreNoneElsewhere : Ways → Scope → Variable → Candidates → Candidates → UsedRelation → List Term → List ℕ → Type 0
+AreNoneElsewhere m env x within missed u ts atoms =
+    (k : ℕ) → has_place within k ≡ true → has_place missed k ≡ false → (t : ℕ) → IsIn t atoms → may_be_atom m (at_constant x k env) u ts t ≡ false
+
+-- whether a row fits where the variable stands for the constant at a place
+abbrev pub fits_at : Fit → ℕ → Bool
+fits_at fit.Nowhere k = false
+fits_at (fit.At place) k = k == place
+fits_at fit.Anywhere k = true
+
+-- whether a term is this variable
+abbrev pub is_this : VarId → Term → Bool
+is_this v (Var u) = u.0 == v.0
+is_this v (Const c) = false
+is_this v (Port k) = false
+
+-- the first of these places at which the terms have this variable
+abbrev pub place_of_variable : VarId → List Term → List ℕ → Option ℕ
+place_of_variable v [] ps = None
+place_of_variable v (t ∷ ts) [] = None
+place_of_variable v (t ∷ ts) (p ∷ ps) = if is_this v t then Some p else place_of_variable v ts ps
 
 -- the first of these that is the relation
 abbrev pub used_in : List UsedRelation → Pred → Option UsedRelation

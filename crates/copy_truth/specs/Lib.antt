@@ -1,3 +1,5 @@
 pub mod Said
 pub mod Judged
+pub mod Candidates
 pub mod Early
+pub mod Breaking

@@ -1,14 +1,25 @@
 //! What a fact with a sign is, where the facts are what is said of them.
 #![tactic(auto)]
 
-ghost use Rattle.std.specs.Prelude.{◌≡◌, IfOk};
+ghost use Rattle.std.specs.Prelude.{◌≡◌, ℕ, IfOk, OnOk};
 ghost use Rattle.ground_inst.specs.Walk.{equation_fact, scope, tuple_fact, ways_of};
-ghost use Rattle.copy_truth.specs.Judged.{said_signed};
+ghost use Rattle.csdn_core.specs.declared.terms.Sort.{Sort as AnySort};
+ghost use Rattle.copy_truth.specs.Early.{at_constant, is_known_leaf as is_known_there, leaf_form};
+ghost use Rattle.copy_truth.specs.Judged.{judged_bound, judged_copies, said_signed};
 
+use crate::opened::{Variable, are_known, is_known};
 use crate::reading::{Reading, is_true};
 use csdn_core::terms::{Pred, Term, Terms};
-use ground_inst::places::{Binding, equation_literal, tuple_literal};
+use ground_inst::places::{Binding, Names, equation_literal, tuple_literal};
+use ground_inst::walk::bind;
 use std::alloc::AllocError;
+
+/// An atom, or an equation of two terms.
+#[derive(Clone, Copy)]
+pub enum Leaf<'a> {
+    Tuple(Pred, &'a Terms),
+    Equation(Term, Term),
+}
 
 /// Whether the atom over the constants that its terms stand for is true, or for the sign `false` its negation.
 pub fn judge_tuple(
@@ -36,4 +47,57 @@ pub fn judge_equation(
 {
     let l = equation_literal(&r.names, env, sign, t, u)?;
     Ok(is_true(r.trues, l))
+}
+
+/// Whether each term of a leaf stands for a constant, and is no open variable.
+pub fn is_known_leaf(names: &Names, env: &[Binding], leaf: &Leaf) -> bool
+    ensures { result ≡ is_known_there (ways_of names.now).voc (scope env.now) leaf.now }
+{
+    match leaf {
+        Leaf::Tuple(_, terms) => are_known(names, env, terms.as_slice()),
+        Leaf::Equation(t, u) => is_known(names, env, *t) && is_known(names, env, *u),
+    }
+}
+
+/// Whether a leaf is true, or for the sign `false` its negation.
+pub fn judge_leaf(r: &Reading, sign: bool, leaf: &Leaf, env: &[Binding]) -> Result<bool, AllocError>
+    ensures { IfOk result (λ b. (base : AnySort → ℕ) → b ≡ judged_copies r.now (leaf_form sign leaf.now) (scope env.now) base) }
+{
+    match leaf {
+        Leaf::Tuple(relation, terms) => judge_tuple(r, sign, *relation, terms, env),
+        Leaf::Equation(t, u) => judge_equation(r, sign, *t, *u, env),
+    }
+}
+
+/// The same, a variable standing for this constant.
+pub fn judge_leaf_at(
+    r: &Reading,
+    sign: bool,
+    leaf: &Leaf,
+    binding: Binding,
+    env: &mut Vec<Binding>,
+) -> Result<bool, AllocError>
+    ensures value { IfOk result (λ b. (base : AnySort → ℕ) → b ≡ judged_bound r.now (leaf_form sign leaf.now) binding (scope env.old.items) base) }
+    ensures env { OnOk result (env.new.items ≡ env.old.items) }
+{
+    bind(env, binding)?;
+    let value = judge_leaf(r, sign, leaf, env)?;
+    env.pop();
+    Ok(value)
+}
+
+/// Whether each term of a leaf would stand for a constant, if this variable stood for the first one.
+pub fn is_known_leaf_at(
+    names: &Names,
+    leaf: &Leaf,
+    x: Variable,
+    env: &mut Vec<Binding>,
+) -> Result<bool, AllocError>
+    ensures value { IfOk result (λ b. b ≡ is_known_there (ways_of names.now).voc (at_constant x 0 (scope env.old.items)) leaf.now) }
+    ensures env { OnOk result (env.new.items ≡ env.old.items) }
+{
+    bind(env, x.at(0))?;
+    let known = is_known_leaf(names, env, leaf);
+    env.pop();
+    Ok(known)
 }

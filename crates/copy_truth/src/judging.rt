@@ -1,13 +1,15 @@
 //! What the copies of a part of a sentence are, where the facts are what is said of them.
 #![tactic(auto)]
 
-ghost use Rattle.std.specs.Prelude.{◌≡◌, IfOk, OnOk};
+ghost use Rattle.std.specs.Prelude.{◌≡◌, ◌<◌, IfOk, OnOk};
 ghost use Rattle.fol_forms.specs.Counts.{count_of};
 ghost use Rattle.fol_forms.specs.Forms.{And, ForAll, ForSome, Or, normal_form};
-ghost use Rattle.ground_inst.specs.Walk.{scope};
+ghost use Rattle.ground_inst.specs.Walk.{scope, ways_of};
+ghost use Rattle.copy_truth.specs.Breaking.{AreCandidates};
 ghost use Rattle.copy_truth.specs.Judged.{judged_bound, judged_copies};
 
-use crate::early::is_sure;
+use crate::breaking::member_candidates;
+use crate::candidates::Candidates;
 use crate::facts::{judge_equation, judge_tuple};
 use crate::needing::past;
 use crate::reading::Reading;
@@ -108,6 +110,28 @@ fn judge_at(
 }
 
 #[cycle(judge)]
+// The same, given the constants at which they may be false.
+fn judge_member(
+    r: &Reading,
+    candidates: Candidates,
+    member: Binding,
+    formula: &Formula,
+    sign: bool,
+    env: &mut Vec<Binding>,
+    base: Counts,
+) -> Result<bool, AllocError>
+    requires candidates { AreCandidates r.now (normal_form sign formula.now) member.var member.sort (scope env.now.items) candidates }
+    requires below { member.place < (ways_of r.now.names).count member.sort }
+    ensures value { IfOk result (λ b. b ≡ judged_bound r.now (normal_form sign formula.now) member (scope env.old.items) (count_of base)) }
+    ensures env { OnOk result (env.new.items ≡ env.old.items) }
+{
+    if !candidates.has(member.place) {
+        return Ok(true);
+    }
+    judge_at(r, member, formula, sign, env, base)
+}
+
+#[cycle(judge)]
 // Whether the copies of a body are true for each constant of a sort.
 fn judge_all(
     r: &Reading,
@@ -121,13 +145,11 @@ fn judge_all(
     ensures value { IfOk result (λ b. b ≡ judged_copies r.now (ForAll var sort (normal_form sign formula.now)) (scope env.old.items) (count_of base)) }
     ensures env { OnOk result (env.new.items ≡ env.old.items) }
 {
-    let sure = is_sure(r, var, sort, formula, sign, env)?;
-    if sure {
-        return Ok(true);
-    }
+    let candidates = member_candidates(r, var, sort, formula, sign, env)?;
     let count = r.names.facts.counts.of(sort);
     'places: for place in 0..count {
-        let value = judge_at(r, Binding { var, sort, place }, formula, sign, env, base)?;
+        let member = Binding { var, sort, place };
+        let value = judge_member(r, candidates, member, formula, sign, env, base)?;
         if !value {
             return Ok(false);
         }

@@ -3,10 +3,12 @@
 //! [`judging::judge`] judges the copies of a formula. `specs/` says what they are, on the definitions of decision_laws.
 #![tactic(auto)]
 
-pub mod early;
+pub mod breaking;
+pub mod candidates;
 pub mod facts;
 pub mod judging;
 pub mod needing;
 pub mod opened;
 pub mod reading;
+pub mod rows;
 pub mod tuples;

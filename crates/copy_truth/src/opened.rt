@@ -4,13 +4,44 @@
 ghost use Rattle.std.specs.Prelude.{◌≡◌, ◌==◌, true, not};
 ghost use Rattle.std.specs.List.{list_all};
 ghost use Rattle.ground_inst.specs.Walk.{scope, ways_of};
-ghost use Rattle.copy_truth.specs.Early.{AreColumns, IsColumn, is_known as is_known_there, is_variable as is_variable_there};
+ghost use Rattle.copy_truth.specs.Early.{AreColumns, IsColumn, is_known as is_known_there, is_this as is_this_there, is_variable as is_variable_there};
 
-use csdn_core::terms::{Sort, Term};
+use csdn_core::terms::{Sort, Term, VarId};
 use ground_inst::places::{Binding, Names, place_of, sort_of};
 
 /// The place of an open variable, at which no constant stands.
 pub const OPEN: u64 = 0xffff_ffff_ffff_ffff;
+
+/// A variable of a sort.
+#[derive(Clone, Copy)]
+pub struct Variable {
+    pub var: VarId,
+    pub sort: Sort,
+}
+
+impl Variable {
+    /// The variable, standing for the constant at a place.
+    pub fn at(self, place: u64) -> Binding
+        ensures { result ≡ record { var = self.var; sort = self.sort; place = place } }
+    {
+        Binding {
+            var: self.var,
+            sort: self.sort,
+            place,
+        }
+    }
+}
+
+/// Whether a term is this variable.
+pub fn is_this(var: VarId, term: Term) -> bool
+    ensures { result ≡ is_this_there var term }
+{
+    match term {
+        Term::Var(other) => other.0 == var.0,
+        Term::Const(_) => false,
+        Term::Port(_) => false,
+    }
+}
 
 /// Whether a term stands for a constant, and is no open variable.
 pub fn is_known(names: &Names, env: &[Binding], term: Term) -> bool

@@ -1,17 +1,16 @@
-//! Whether a true tuple may be one of an atom with open variables.
+//! Tuples, and atoms with open variables.
 #![tactic(auto)]
 
-ghost use Rattle.std.specs.Prelude.{◌≡◌, ◌+◌, ◌<◌, ◌==◌, ◌||◌, ◌∷◌, ℕ, true, false, IfOk, option_copied};
-ghost use Rattle.csdn_core.specs.Members.{IsIn};
+ghost use Rattle.std.specs.Prelude.{◌≡◌, ◌+◌, ◌<◌, ◌==◌, ◌||◌, ◌∷◌, true, IfOk, option_copied};
 ghost use Rattle.fol_forms.specs.Counts.{count_of};
 ghost use Rattle.decision_laws.specs.Copies.{place};
 ghost use Rattle.decision_laws.specs.Numbers.{tuple_count as count_of_tuples, tuple_of};
 ghost use Rattle.ground_inst.specs.Walk.{scope, ways_of};
-ghost use Rattle.copy_truth.specs.Early.{may_be as may_be_there, may_be_atom as may_be_atom_there, used_in};
+ghost use Rattle.copy_truth.specs.Early.{may_be as may_be_there, may_be_atom as may_be_atom_there, place_of_variable as place_of_variable_there, used_in};
 
-use crate::opened::OPEN;
-use clause_log::Valuation;
-use csdn_core::terms::{Pred, Sort, Term};
+use crate::opened::{OPEN, is_this};
+use csdn_core::terms::{Pred, Sort, Term, VarId};
+use fol_forms::instances::Counts;
 use ground_inst::facts::{Facts, UsedRelation, tuple_count};
 use ground_inst::places::{Binding, Names, place_of};
 use std::alloc::AllocError;
@@ -84,8 +83,51 @@ fn may_go_on(
     may_be(names, env, others, rest, number / count)
 }
 
-// Whether an atom of a relation, of so many tuples, over terms may be this one.
-fn may_be_atom(
+#[cycle(place_of)]
+/// The place of the constant that a tuple of a number has where the terms first have a variable.
+pub fn place_of_variable(
+    counts: &Counts,
+    var: VarId,
+    terms: &[Term],
+    sorts: &[Sort],
+    number: u64,
+) -> Result<Option<u64>, AllocError>
+    ensures { IfOk result (λ p. p ≡ place_of_variable_there var terms.now (tuple_of (count_of counts.now) sorts.now number)) }
+{
+    match terms {
+        [] => Ok(None),
+        [term, others @ ..] => match sorts {
+            [] => Ok(None),
+            [sort, rest @ ..] => place_behind(counts, var, *term, others, *sort, rest, number),
+        },
+    }
+}
+
+#[cycle(place_of)]
+// The same of a first term and others.
+fn place_behind(
+    counts: &Counts,
+    var: VarId,
+    term: Term,
+    others: &[Term],
+    sort: Sort,
+    rest: &[Sort],
+    number: u64,
+) -> Result<Option<u64>, AllocError>
+    ensures { IfOk result (λ p. p ≡ place_of_variable_there var (term ∷ others.now) (tuple_of (count_of counts.now) (sort ∷ rest.now) number)) }
+{
+    let count = counts.of(sort);
+    if count == 0 {
+        return Err(AllocError);
+    }
+    if is_this(var, term) {
+        return Ok(Some(number % count));
+    }
+    place_of_variable(counts, var, others, rest, number / count)
+}
+
+/// Whether an atom of a relation, of so many tuples, over terms may be this one.
+pub fn may_be_atom(
     names: &Names,
     env: &[Binding],
     used: &UsedRelation,
@@ -106,33 +148,9 @@ fn may_be_atom(
     may_be(names, env, terms, used.sorts.as_slice(), number)
 }
 
-// Whether an atom stands behind those of a relation of so many tuples.
-fn is_behind(used: &UsedRelation, count: u64, atom: u64) -> bool
+/// Whether an atom stands behind those of a relation of so many tuples.
+pub fn is_behind(used: &UsedRelation, count: u64, atom: u64) -> bool
     ensures { result ≡ true → used.now.before + count < atom }
 {
     atom > used.before && atom - used.before > count
-}
-
-/// Whether an atom of a relation over terms can be none of the true ones. It looks at the true ones up to the last of the relation's.
-pub fn is_none_of(
-    trues: &Valuation,
-    names: &Names,
-    env: &[Binding],
-    used: &UsedRelation,
-    terms: &[Term],
-) -> Result<bool, AllocError>
-    ensures { IfOk result (λ b. b ≡ true → (t : ℕ) → IsIn t trues.now → may_be_atom_there (ways_of names.now) (scope env.now) used.now terms.now t ≡ false) }
-{
-    let count = tuple_count(&names.facts.counts, used.sorts.as_slice())?;
-    let mut rest = trues.true_atoms();
-    'atoms: while let [atom, more @ ..] = rest {
-        if is_behind(used, count, *atom) {
-            return Ok(true);
-        }
-        if may_be_atom(names, env, used, terms, count, *atom)? {
-            return Ok(false);
-        }
-        rest = more;
-    }
-    Ok(true)
 }

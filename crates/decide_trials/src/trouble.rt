@@ -2,8 +2,9 @@
 use csdn_read::ProgramRefusal;
 use fol_forms::refusal::FormRefusal;
 use net_structs::read::NetRefusal;
-use net_text::NetTextRefusal;
+use net_text::NetWhy;
 use std::alloc::AllocError;
+use text_lines::LineRefusal;
 use thiserror::Error;
 
 /// Why a trial has no outcome.
@@ -16,7 +17,7 @@ pub enum Trouble {
     #[error("there is no network: {0}")]
     Net(#[from] NetRefusal),
     #[error("the text of a case is no network: {0}")]
-    NetText(#[from] NetTextRefusal),
+    NetText(#[from] LineRefusal<NetWhy>),
     #[error("a condition has no formula: {0}")]
     Form(#[from] FormRefusal),
     #[error("a formula binds too many variables at once")]

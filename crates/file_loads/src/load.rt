@@ -14,11 +14,12 @@ use crate::read::{FileKind, Load, read_file};
 use csdn_core::program::Program;
 use csdn_read::{ProgramRefusal, read_program, read_tree};
 use csdn_tree::syntax::RawProgram;
-use journal_text::{JournalRefusal, Notes, read_journal};
+use journal_text::{Notes, read_journal};
 use net_listing::network_refusal_line;
 use net_structs::case::Case;
-use net_text::{NetTextRefusal, NetWhy, read_net};
+use net_text::{NetWhy, read_net};
 use std::alloc::{AllocError, Global};
+use text_lines::LineRefusal;
 use vericon_edge::files::Files;
 
 // The program that bytes spell.
@@ -101,11 +102,11 @@ pub(crate) fn case_of(
 {
     match read_net(alloc, program, bytes) {
         Ok(case) => Ok(Load::Loaded(case)),
-        Err(NetTextRefusal::Line { number, why }) => {
+        Err(LineRefusal::Line { number, why }) => {
             let outcome = bad_line(alloc, name, number, why)?;
             Ok(Load::Refused(outcome))
         }
-        Err(NetTextRefusal::Memory) => Err(AllocError),
+        Err(LineRefusal::Memory) => Err(AllocError),
     }
 }
 
@@ -132,11 +133,11 @@ fn notes_of(alloc: Global, name: &str, bytes: &[u8]) -> Result<Load<Notes>, Allo
 {
     match read_journal(alloc, bytes) {
         Ok(notes) => Ok(Load::Loaded(notes)),
-        Err(JournalRefusal::Line { number }) => {
+        Err(LineRefusal::Line { number, .. }) => {
             let outcome = refused_line(alloc, name, number)?;
             Ok(Load::Refused(outcome))
         }
-        Err(JournalRefusal::Memory) => Err(AllocError),
+        Err(LineRefusal::Memory) => Err(AllocError),
     }
 }
 

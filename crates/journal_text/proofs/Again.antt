@@ -5,7 +5,7 @@ use Rattle.std.specs.List.{list_all, list_any}
 use Rattle.std.proofs.lemmas.Bool.{and_parts, and_from, leb-true}
 use Rattle.std.proofs.Math.Bool.{or-true}
 use Rattle.text_lines.specs.Text.{lines_left}
-use Rattle.text_lines.specs.Machine.{run, after_step, reading}
+use Rattle.text_lines.specs.Machine.{goes_to, run, after_step, reading}
 use Rattle.text_lines.specs.Printed.{is_word, is_line, are_lines, numbered}
 use Rattle.text_lines.proofs.PrintedLaws.{words_joined, lines_printed, word_decimal, number_again}
 use Rattle.csdn_history.specs.declared.entry.Entry.{Entry}
@@ -14,9 +14,10 @@ use Rattle.journal_text.specs.declared.note.Note.{Note}
 use Rattle.journal_text.specs.declared.note.Note.TheVariants.{Kept, Flow}
 use Rattle.journal_text.specs.declared.note.Version.{Version}
 use Rattle.journal_text.specs.declared.note.Version.TheVariants.{First, Second}
-use Rattle.journal_text.specs.declared.read.Place.TheVariants as place
+use Rattle.journal_text.specs.declared.read.JournalPlace.{JournalPlace}
+use Rattle.journal_text.specs.declared.read.JournalPlace.TheVariants as place
 use Rattle.journal_text.specs.Notes.{most, most_seat, header_of, has_ends, join_of, packet_of, expire_of, flow_of, note_of}
-use Rattle.journal_text.specs.JournalText.{State, journal_format, step, goes_to, entry_words, note_words, is_end_of_rules, version_of, header, end, journal_lines, journal_text, are_elements, is_entry, is_note, are_notes}
+use Rattle.journal_text.specs.JournalText.{journal_format, step, entry_words, note_words, is_end_of_rules, version_of, header, end, journal_lines, journal_text, are_elements, is_entry, is_note, are_notes}
 
 element : (n : ℕ) → leb n most ≡ true → n ≤ most
 element n h = leb-true n most h
@@ -198,36 +199,30 @@ fitting notes = by (list_any is_end_of_rules notes) refl
 -- ---- and all of them
 
 -- reading the lines from a state gives v, whatever their numbers
-abbrev Ends : ℕ → List Note → List (List (List ℕ)) → State → Type 0
+abbrev Ends : ℕ → List Note → List (List (List ℕ)) → JournalPlace → Type 0
 Ends past v ls s = (at : ℕ) → run journal_format past (numbered at ls) s ≡ Ok v
 
-abbrev inside : Version → List Note → State
-inside version notes = record { place = place.Inside version; notes = notes }
-
-abbrev ended : List Note → State
-ended notes = record { place = place.Ended; notes = notes }
-
 -- one line of which the step is known
-line_ends : (past : ℕ) (v : List Note) (ws : List (List ℕ)) (ls : List (List (List ℕ))) (s t : State) → is_line ws ≡ true → step s.place s.notes ws ≡ Ok t → Ends past v ls t → Ends past v (ws ∷ ls) s
+line_ends : (past : ℕ) (v : List Note) (ws : List (List ℕ)) (ls : List (List (List ℕ))) (s t : JournalPlace) → is_line ws ≡ true → step s ws ≡ Ok t → Ends past v ls t → Ends past v (ws ∷ ls) s
 line_ends past v ws ls s t line e k at =
-    ap (λ xs. after_step at (step s.place s.notes xs) (run journal_format past (numbered (at + 1) ls))) (words_joined ws line)
+    ap (λ xs. after_step at (step s xs) (run journal_format past (numbered (at + 1) ls))) (words_joined ws line)
     ∙ ap (λ r. after_step at r (run journal_format past (numbered (at + 1) ls))) e ∙ k (at + 1)
 
-note_step : (version : Version) (done : List Note) (note : Note) → step (place.Inside version) done (note_words note) ≡ goes_to (note_of version (note_words note)) (λ x. inside version (done ++ x ∷ []))
+note_step : (version : Version) (done : List Note) (note : Note) → step (place.Inside version done) (note_words note) ≡ goes_to (note_of version (note_words note)) (λ x. place.Inside version (done ++ x ∷ []))
 note_step version done (Kept (Join seat session s)) = refl
 note_step version done (Kept (Packet seat session s a b i)) = refl
 note_step version done (Kept (Expire seat session s a b i cookie)) = refl
 note_step version done (Flow s a b i o) = refl
 
 module _ (version : Version) where
-  notes_end : (past : ℕ) (done notes : List Note) → list_all (fits version) notes ≡ true → are_notes notes ≡ true → Ends past (done ++ notes) (map note_words notes ++ end ∷ []) (inside version done)
-  notes_end past done [] f h = line_ends past (done ++ []) end [] (inside version done) (ended done) refl refl (λ at. ap Ok (sym (append-nil done)))
+  notes_end : (past : ℕ) (done notes : List Note) → list_all (fits version) notes ≡ true → are_notes notes ≡ true → Ends past (done ++ notes) (map note_words notes ++ end ∷ []) (place.Inside version done)
+  notes_end past done [] f h = line_ends past (done ++ []) end [] (place.Inside version done) (place.Ended done) refl refl (λ at. ap Ok (sym (append-nil done)))
   notes_end past done (note ∷ notes) f h =
       let p = and_parts (is_note note) (are_notes notes) h in
       let q = and_parts (fits version note) (list_all (fits version) notes) f in
-      line_ends past (done ++ note ∷ notes) (note_words note) (map note_words notes ++ end ∷ []) (inside version done) (inside version (done ++ note ∷ [])) (note_line note p.0)
-      (note_step version done note ∙ ap (λ o. goes_to o (λ x. inside version (done ++ x ∷ []))) (note_again version note q.0 p.0))
-      (subst (λ v. Ends past v (map note_words notes ++ end ∷ []) (inside version (done ++ note ∷ []))) (append_assoc done (note ∷ []) notes) (notes_end past (done ++ note ∷ []) notes q.1 p.1))
+      line_ends past (done ++ note ∷ notes) (note_words note) (map note_words notes ++ end ∷ []) (place.Inside version done) (place.Inside version (done ++ note ∷ [])) (note_line note p.0)
+      (note_step version done note ∙ ap (λ o. goes_to o (λ x. place.Inside version (done ++ x ∷ []))) (note_again version note q.0 p.0))
+      (subst (λ v. Ends past v (map note_words notes ++ end ∷ []) (place.Inside version (done ++ note ∷ []))) (append_assoc done (note ∷ []) notes) (notes_end past (done ++ note ∷ []) notes q.1 p.1))
 
 note_lines : (notes : List Note) → are_notes notes ≡ true → are_lines (map note_words notes ++ end ∷ []) ≡ true
 note_lines [] h = refl
@@ -242,6 +237,6 @@ pub journal_again : (notes : List Note) → are_notes notes ≡ true → reading
 journal_again notes h =
     let past = (lines_left 1 (journal_text notes)).past in
     let version = version_of notes in
-    let first : step place.Header [] (header version) ≡ Ok (inside version []) = ap (λ o. goes_to o (λ v. inside v [])) (header_again version) in
+    let first : step place.Header (header version) ≡ Ok (place.Inside version []) = ap (λ o. goes_to o (λ v. place.Inside v [])) (header_again version) in
     ap (λ ls. run journal_format past ls journal_format.start) (lines_printed 1 (journal_lines notes) (all_lines notes h))
-    ∙ line_ends past notes (header version) (map note_words notes ++ end ∷ []) journal_format.start (inside version []) (header_line version) first (notes_end version past [] notes (fitting notes) h) 1
+    ∙ line_ends past notes (header version) (map note_words notes ++ end ∷ []) journal_format.start (place.Inside version []) (header_line version) first (notes_end version past [] notes (fitting notes) h) 1

@@ -1,8 +1,8 @@
 -- Texts of journals: the machine over their lines, how notes are spelled, and which notes have a text.
-use Rattle.std.specs.Prelude.{ℕ, Bool, true, false, ◌&&◌, nat_le, if◌then◌else◌, List, [], ◌∷◌, ◌++◌, Option, Some, None, Result, Ok, Err, codes, decimal, map}
+use Rattle.std.specs.Prelude.{ℕ, Bool, true, false, ◌&&◌, nat_le, if◌then◌else◌, List, [], ◌∷◌, ◌++◌, Result, Ok, Err, codes, decimal, map}
 use Rattle.std.specs.List.{flat_map, list_all, list_any}
 use Rattle.text_lines.specs.Text.{words}
-use Rattle.text_lines.specs.Machine.{Format}
+use Rattle.text_lines.specs.Machine.{Format, goes_to}
 use Rattle.text_lines.specs.Printed.{line_text}
 use Rattle.csdn_history.specs.declared.entry.Entry.{Entry}
 use Rattle.csdn_history.specs.declared.entry.Entry.TheVariants.{Join, Packet, Expire}
@@ -10,39 +10,30 @@ use Rattle.journal_text.specs.declared.note.Note.{Note}
 use Rattle.journal_text.specs.declared.note.Note.TheVariants.{Kept, Flow}
 use Rattle.journal_text.specs.declared.note.Version.{Version}
 use Rattle.journal_text.specs.declared.note.Version.TheVariants.{First, Second}
-use Rattle.journal_text.specs.declared.read.Place.{Place}
-use Rattle.journal_text.specs.declared.read.Place.TheVariants as place
+use Rattle.journal_text.specs.declared.read.JournalPlace.{JournalPlace}
+use Rattle.journal_text.specs.declared.read.JournalPlace.TheVariants as place
 use Rattle.journal_text.specs.Notes.{most, most_seat, header_of, note_of, is_end}
 
 -- ---- the machine
 
--- where in the text one is, and the notes before it
-pub record State : Type 0 where
-  pub place : Place
-  pub notes : List Note
-
-abbrev pub goes_to : {A : Type 0} → Option A → (A → State) → Result State (Unit {0})
-goes_to None f = Err tt
-goes_to (Some x) f = Ok (f x)
-
 -- the header, then a line for each note, then `end`
-abbrev pub step : Place → List Note → List (List ℕ) → Result State (Unit {0})
-step place.Header notes ws = goes_to (header_of ws) (λ version. record { place = place.Inside version; notes = notes })
-step (place.Inside version) notes ws =
-    if is_end ws then Ok (record { place = place.Ended; notes = notes })
-    else goes_to (note_of version ws) (λ note. record { place = place.Inside version; notes = notes ++ note ∷ [] })
-step place.Ended notes ws = Err tt
+abbrev pub step : JournalPlace → List (List ℕ) → Result JournalPlace (Unit {0})
+step place.Header ws = goes_to (header_of ws) (λ version. place.Inside version [])
+step (place.Inside version notes) ws =
+    if is_end ws then Ok (place.Ended notes)
+    else goes_to (note_of version ws) (λ note. place.Inside version (notes ++ note ∷ []))
+step (place.Ended notes) ws = Err tt
 
-abbrev pub finish : Place → List Note → Result (List Note) (Unit {0})
-finish place.Header notes = Err tt
-finish (place.Inside version) notes = Err tt
-finish place.Ended notes = Ok notes
+abbrev pub finish : JournalPlace → Result (List Note) (Unit {0})
+finish place.Header = Err tt
+finish (place.Inside version notes) = Err tt
+finish (place.Ended notes) = Ok notes
 
-abbrev pub journal_format : Format State (List Note) (Unit {0})
+abbrev pub journal_format : Format JournalPlace (List Note) (Unit {0})
 journal_format = record {
-  start = record { place = place.Header; notes = [] };
-  step = λ s line. step s.place s.notes (words line);
-  finish = λ s. finish s.place s.notes;
+  start = place.Header;
+  step = λ place line. step place (words line);
+  finish = finish;
 }
 
 -- ---- spelling

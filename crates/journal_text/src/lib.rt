@@ -13,7 +13,7 @@ mod read;
 pub use laws::journals_read_back;
 pub use note::{Note, Notes, Version};
 pub use print::print_journal;
-pub use read::{JournalRefusal, read_journal};
+pub use read::read_journal;
 
 #[cfg(test)]
 mod tests;

@@ -2,43 +2,25 @@
 ghost use Rattle.std.specs.Prelude.{◌≡◌};
 ghost use Rattle.text_lines.specs.Text.{words as words_of};
 ghost use Rattle.text_lines.specs.Machine.{reading};
-ghost use Rattle.journal_text.specs.JournalText.{journal_format, step};
-ghost use Rattle.journal_text.specs.Gives.{Gives, Stepped};
-ghost use Rattle.journal_text.specs.declared.read.Place.TheVariants.{Inside};
+ghost use Rattle.text_lines.specs.Gives.{Finds, Gives};
+ghost use Rattle.journal_text.specs.JournalText.{finish as finish_of, journal_format, step};
+ghost use Rattle.journal_text.specs.declared.read.JournalPlace.TheVariants.{Inside};
 
 use crate::line::{header, is_end, note};
 use crate::note::{Notes, Version};
 use sqlite_items::Items;
 use std::alloc::Global;
-use text_lines::{Lines, Next, Words};
-use thiserror::Error;
+use text_lines::{LineRefusal, Stop, Words, read_lines};
 
-/// Why a journal text isn't read.
-#[derive(Debug, Drop, Error)]
-pub enum JournalRefusal {
-    /// The first line that is refused; or one past the last line, where `end` is missing.
-    #[error("line {number} is refused")]
-    Line { number: u64 },
-    #[error("out of memory")]
-    Memory,
-}
-
-/// Why a line isn't taken.
-#[derive(Clone, Copy, Debug)]
-pub enum Stop {
-    Refused,
-    Memory,
-}
-
-/// Where in a text one is.
-#[derive(Clone, Copy, Debug)]
-pub enum Place {
+/// Where in a journal one is, with the notes before it.
+#[derive(Drop)]
+pub enum JournalPlace {
     /// Before the first line.
     Header,
     /// Behind the first line, which names this version.
-    Inside(Version),
+    Inside(Version, Notes),
     /// Behind `end`.
-    Ended,
+    Ended(Notes),
 }
 
 /// The notes of a journal text (docs/FORMATS.md, "Journal text"). It goes over the text once.
@@ -47,54 +29,53 @@ pub enum Place {
 ///
 /// `Line` with the first line that is refused, counted from 1, or with the line one past the last, where `end` is
 /// missing. `Memory` where memory ran out.
-pub fn read_journal(alloc: Global, text: &[u8]) -> Result<Notes, JournalRefusal>
+pub fn read_journal(alloc: Global, text: &[u8]) -> Result<Notes, LineRefusal<()>>
     ensures { Gives result (reading journal_format text.now) }
 {
-    let mut lines = Lines::new(text);
-    let mut place = Place::Header;
-    let mut notes = Items::new(alloc);
-    'lines: loop {
-        match lines.next() {
-            Next::Line { number, line } => match take(place, &mut notes, line) {
-                Ok(next) => place = next,
-                Err(Stop::Refused) => return Err(JournalRefusal::Line { number }),
-                Err(Stop::Memory) => return Err(JournalRefusal::Memory),
-            },
-            Next::End { past } => {
-                return match place {
-                    Place::Ended => Ok(notes),
-                    _ => Err(JournalRefusal::Line { number: past }),
-                };
-            }
-        }
-    }
+    read_lines(
+        text,
+        JournalPlace::Header,
+        |place, line| take(alloc, place, line),
+        finish,
+    )
 }
 
-// The place behind this line. The note that it says is appended to the notes.
-fn take(place: Place, notes: &mut Notes, line: &[u8]) -> Result<Place, Stop>
-    ensures { Stepped result (step place notes.old (words_of line.now)) notes.new }
+// The notes of a text that ends here.
+fn finish(place: JournalPlace) -> Result<Notes, ()>
+    ensures { result ≡ finish_of place }
 {
     match place {
-        Place::Header => match header(Words::new(line)) {
-            Some(version) => Ok(Place::Inside(version)),
-            None => Err(Stop::Refused),
-        },
-        Place::Inside(version) => take_inside(version, notes, line),
-        Place::Ended => Err(Stop::Refused),
+        JournalPlace::Ended(notes) => Ok(notes),
+        _ => Err(()),
     }
 }
 
-fn take_inside(version: Version, notes: &mut Notes, line: &[u8]) -> Result<Place, Stop>
-    ensures { Stepped result (step (Inside version) notes.old (words_of line.now)) notes.new }
+// The place behind this line.
+fn take(alloc: Global, place: JournalPlace, line: &[u8]) -> Result<JournalPlace, Stop<()>>
+    ensures { Finds result (step place (words_of line.now)) (λ next. next) }
+{
+    match place {
+        JournalPlace::Header => match header(Words::new(line)) {
+            Some(version) => Ok(JournalPlace::Inside(version, Items::new(alloc))),
+            None => Err(Stop::Refused(())),
+        },
+        JournalPlace::Inside(version, notes) => take_inside(version, notes, line),
+        JournalPlace::Ended(_) => Err(Stop::Refused(())),
+    }
+}
+
+fn take_inside(version: Version, notes: Notes, line: &[u8]) -> Result<JournalPlace, Stop<()>>
+    ensures { Finds result (step (Inside version notes) (words_of line.now)) (λ next. next) }
 {
     if is_end(Words::new(line)) {
-        return Ok(Place::Ended);
+        return Ok(JournalPlace::Ended(notes));
     }
-    match note(version, Words::new(line)) {
-        None => Err(Stop::Refused),
-        Some(note) => match notes.push(note) {
-            Ok(()) => Ok(Place::Inside(version)),
-            Err(_) => Err(Stop::Memory),
-        },
+    let Some(note) = note(version, Words::new(line)) else {
+        return Err(Stop::Refused(()));
+    };
+    let mut notes = notes;
+    match notes.push(note) {
+        Ok(()) => Ok(JournalPlace::Inside(version, notes)),
+        Err(_) => Err(Stop::Memory),
     }
 }

@@ -3,11 +3,12 @@ use super::*;
 use csdn_history::entry::Entry;
 use std::alloc::Global;
 use std::test::Fail;
+use text_lines::LineRefusal;
 
 // The number of the first bad line, of a text that is refused.
 fn first_bad_line(alloc: Global, text: &[u8]) -> Option<u64> {
     match read_journal(alloc, text) {
-        Err(JournalRefusal::Line { number }) => Some(number),
+        Err(LineRefusal::Line { number, .. }) => Some(number),
         _ => None,
     }
 }

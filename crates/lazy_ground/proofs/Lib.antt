@@ -1,6 +1,7 @@
 mod FindLaws
 mod FreeLaws
 mod LookSteps
+mod PassSteps
 mod NamedLaws
 pub mod Agree
 mod EqualityAtoms
@@ -8,6 +9,7 @@ mod OnceLaws
 mod WholeFound
 mod OpenSteps
 mod TupleLaws
+mod JoinLaws
 mod ReadLaws
 mod OpenWhole
 mod AddLaws

@@ -322,12 +322,12 @@ module _ (r : Reading) where
       pub opens : (w : ℕ → Bool) → RowCompletes w → w old.next ≡ value → IsOpen open' (w old.next) now.out
       pub finds : (w : ℕ → Bool) → RowCompletes w → w old.next ≡ value → Finds w (flat_map part_clauses (places_from 0 i)) old.out now.out
 
-    pub row_begun : (value : Bool) (now : State) → now ≡ numbered old → LooksRow value 0 now value
-    row_begun value now e = record {
-      next = ap (λ z. z.next) e ∙ add-one old.next ∙ sym (add-zero (suc old.next));
-      env = ap (λ z. z.env) e;
+    pub row_begun : (value : Bool) (now : State) → now.env ≡ old.env → now.next ≡ old.next + 1 → now.out ≡ old.out → LooksRow value 0 now value
+    row_begun value now ne nn nout = record {
+      next = nn ∙ add-one old.next ∙ sym (add-zero (suc old.next));
+      env = ne;
       opens = λ w c u. open_at value (w old.next) now.out u;
-      finds = λ w c u. subst (Finds w [] old.out) (sym (ap (λ z. z.out) e)) (finds_true w [] old.out (λ d i. absurd i));
+      finds = λ w c u. subst (Finds w [] old.out) (sym nout) (finds_true w [] old.out (λ d i. absurd i));
     }
 
     -- what a member finds, at the number and the copies that the row has for it

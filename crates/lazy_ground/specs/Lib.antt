@@ -6,3 +6,5 @@ pub mod Found
 pub mod Tuples
 pub mod Whole
 pub mod Opened
+pub mod Joins
+pub mod Members

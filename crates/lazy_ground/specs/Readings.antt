@@ -13,6 +13,10 @@ use Rattle.copy_truth.specs.Said.{said_by}
 abbrev pub IsFree : (ℕ → Bool) → ℕ → ℕ → Type 0
 IsFree named k count = (x : ℕ) → k ≤ x → x < k + count → named x ≡ false
 
+-- none of those behind k is
+abbrev pub HasFreeParts : (ℕ → Bool) → ℕ → ℕ → Type 0
+HasFreeParts named k count = (x : ℕ) → k < x → x < k + count → named x ≡ false
+
 -- no number from a place of the list on is below the end
 abbrev pub IsPast : List ℕ → ℕ → ℕ → Type 0
 IsPast xs place end = place < length xs → end ≤ slice_index_or xs place 0

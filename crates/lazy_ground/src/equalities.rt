@@ -10,8 +10,10 @@ ghost use Rattle.decision_laws.specs.Vocabulary.{places_from};
 ghost use Rattle.ground_inst.specs.Equality.{chain_at, numerals_differ};
 ghost use Rattle.ground_inst.specs.Facts.{num_of, vocabulary_of};
 ghost use Rattle.lazy_ground.specs.Found.{Finds};
+ghost use Rattle.lazy_ground.specs.Joins.{AreJoined};
 
 use crate::exchanges::find_replacements;
+use crate::joining::{Joined, joined_by};
 use crate::reading::offer;
 use clause_log::Valuation;
 use csdn_core::program::Parts;
@@ -22,8 +24,8 @@ use ground_inst::places::literal;
 use ground_inst::rows::Rows;
 use std::alloc::{AllocError, Global};
 
-/// Appends the clauses of equality between the constants of `facts` that are false. It looks at pairs of constants, and of true
-/// equations and tuples at what they could replace. What is appended on want of memory is not told.
+/// Appends the clauses of equality between the constants of `facts` that are false. It looks at pairs of constants, and where two of
+/// a sort are equal, at what true equations and tuples could replace. What is appended on want of memory is not told.
 pub fn find_equality(
     alloc: Global,
     parts: &Parts,
@@ -46,10 +48,11 @@ fn find_all(
 ) -> Result<(), AllocError>
     ensures { OnOk result (Finds (truths trues.now) (equality_clauses (num_of constants.now.facts.now) (count_of constants.now.facts.now.counts) (vocabulary_of constants.now.parts.now constants.now.facts.now)) rows.old rows.new) }
 {
-    find_sort(constants, trues, Sort::Sw, rows)?;
-    find_sort(constants, trues, Sort::Ho, rows)?;
-    find_sort(constants, trues, Sort::Pr, rows)?;
-    find_relations(alloc, constants, trues, rows)?;
+    let joined = joined_by(constants.facts, trues)?;
+    find_sort(constants, trues, joined, Sort::Sw, rows)?;
+    find_sort(constants, trues, joined, Sort::Ho, rows)?;
+    find_sort(constants, trues, joined, Sort::Pr, rows)?;
+    find_relations(alloc, constants, trues, joined, rows)?;
     find_numerals(constants.facts, trues, constants.numerals.as_slice(), rows)
 }
 
@@ -57,12 +60,31 @@ fn find_all(
 fn find_sort(
     constants: &Constants,
     trues: &Valuation,
+    joined: Joined,
     sort: Sort,
     rows: &mut Rows,
 ) -> Result<(), AllocError>
+    requires { AreJoined constants.now.facts.now (truths trues.now) joined }
     ensures { OnOk result (Finds (truths trues.now) (same_clauses (num_of constants.now.facts.now) (count_of constants.now.facts.now.counts) sort ++ chain_clauses (num_of constants.now.facts.now) (count_of constants.now.facts.now.counts) (vocabulary_of constants.now.parts.now constants.now.facts.now) sort) rows.old rows.new) }
 {
     find_same(constants, trues, sort, rows)?;
+    find_joined_chains(constants, trues, joined, sort, rows)
+}
+
+// Equality of a sort is transitive, which says nothing where all constants are different.
+fn find_joined_chains(
+    constants: &Constants,
+    trues: &Valuation,
+    joined: Joined,
+    sort: Sort,
+    rows: &mut Rows,
+) -> Result<(), AllocError>
+    requires { AreJoined constants.now.facts.now (truths trues.now) joined }
+    ensures { OnOk result (Finds (truths trues.now) (chain_clauses (num_of constants.now.facts.now) (count_of constants.now.facts.now.counts) (vocabulary_of constants.now.parts.now constants.now.facts.now) sort) rows.old rows.new) }
+{
+    if !joined.of(sort) {
+        return Ok(());
+    }
     find_chains(constants, trues, sort, rows)
 }
 
@@ -71,14 +93,16 @@ fn find_relations(
     alloc: Global,
     constants: &Constants,
     trues: &Valuation,
+    joined: Joined,
     rows: &mut Rows,
 ) -> Result<(), AllocError>
+    requires { AreJoined constants.now.facts.now (truths trues.now) joined }
     ensures { OnOk result (Finds (truths trues.now) (flat_map (λ r. replace_clauses (num_of constants.now.facts.now) (count_of constants.now.facts.now.counts) (vocabulary_of constants.now.parts.now constants.now.facts.now) r) (map (λ u. u.relation) constants.now.facts.now.relations)) rows.old rows.new) }
 {
     let mut places = Vec::with_capacity(alloc, 5)?;
     let mut rest = constants.facts.relations.as_slice();
     'relations: while let [used, more @ ..] = rest {
-        find_used(constants, trues, used, &mut places, rows)?;
+        find_used(constants, trues, joined, used, &mut places, rows)?;
         rest = more;
     }
     Ok(())
@@ -87,13 +111,15 @@ fn find_relations(
 fn find_used(
     constants: &Constants,
     trues: &Valuation,
+    joined: Joined,
     used: &UsedRelation,
     places: &mut Vec<u64>,
     rows: &mut Rows,
 ) -> Result<(), AllocError>
+    requires { AreJoined constants.now.facts.now (truths trues.now) joined }
     ensures { OnOk result (Finds (truths trues.now) (replace_clauses (num_of constants.now.facts.now) (count_of constants.now.facts.now.counts) (vocabulary_of constants.now.parts.now constants.now.facts.now) used.now.relation) rows.old rows.new) }
 {
-    find_replacements(constants, trues, used.relation, places, rows)
+    find_replacements(constants, trues, joined, used.relation, places, rows)
 }
 
 // Each constant of a sort is equal to itself.

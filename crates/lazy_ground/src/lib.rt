@@ -8,6 +8,7 @@ pub mod adding;
 mod collecting;
 mod equalities;
 mod exchanges;
+mod joining;
 mod looking;
 pub mod naming;
 mod opening;

@@ -4,18 +4,21 @@
 //! walked through. A simplified formula has no truth value inside and no equivalence: `AllocError` for these.
 #![tactic(auto)]
 
-ghost use Rattle.std.specs.Prelude.{◌≡◌, ◌&&◌, not, true, IfOk, OnOk};
+ghost use Rattle.std.specs.Prelude.{◌≡◌, ◌<◌, ◌&&◌, not, true, false, IfOk, OnOk};
 ghost use Rattle.csdn_core.specs.declared.terms.Sort.{Sort as AnySort};
 ghost use Rattle.fol_forms.specs.Counts.{count_of};
 ghost use Rattle.fol_forms.specs.Forms.{And, Atom, ForAll, ForSome, Or, Same, normal_form};
 ghost use Rattle.decision_laws.specs.Weights.{weight as weight_of};
 ghost use Rattle.ground_inst.specs.Walk.{copies_at, scope, state_of, ways_of};
 ghost use Rattle.copy_truth.specs.Judged.{judged_copies};
-ghost use Rattle.lazy_ground.specs.Readings.{IsFree, IsGiven, given_unless as given_by, makes_node, named_by, node_value};
+ghost use Rattle.lazy_ground.specs.Readings.{HasFreeParts, IsFree, IsGiven, given_unless as given_by, makes_node, named_by, node_value};
 ghost use Rattle.lazy_ground.specs.Found.{Looks, LooksAt, LooksBound, LooksInto, LooksMember};
+ghost use Rattle.lazy_ground.specs.Members.{HasAllFalse, may_be_false as may_be_false_at};
 
-use crate::reading::is_free;
+use crate::reading::{has_free_parts, is_free};
 use clause_log::Lit;
+use copy_truth::breaking::member_candidates;
+use copy_truth::candidates::Candidates;
 use copy_truth::judging::judge;
 use copy_truth::needing::{past, sum};
 use copy_truth::reading::{Reading, is_true};
@@ -170,11 +173,42 @@ fn look_node(
     }
     let value = value_at(r, formula, sign, work)?;
     let top = literal(true, work.next)?;
-    look_into(r, formula, sign, value, block, marks, work)?;
+    look_inside(r, formula, sign, count, value, block, marks, work)?;
     Ok(Seen {
         literal: top,
         value,
     })
+}
+
+// Whether a conjunction or disjunction of so many nodes has no clause that is false, since it is false, and none of its parts is named.
+fn is_over(r: &Reading, value: bool, count: u64, next: u64) -> bool
+    ensures value { result ≡ true → value ≡ false }
+    ensures free { result ≡ true → HasFreeParts (named_by r.now) next count }
+{
+    !value && has_free_parts(r.named, next, count)
+}
+
+#[cycle(look)]
+// The clauses of a conjunction or disjunction of so many nodes with this value, and of its parts.
+fn look_inside(
+    r: &Reading,
+    formula: &Formula,
+    sign: bool,
+    count: u64,
+    value: bool,
+    block: u64,
+    marks: &mut Vec<u64>,
+    work: &mut Work,
+) -> Result<(), AllocError>
+    requires count { count ≡ weight_of (ways_of r.now.names).count (normal_form sign formula.now) }
+    ensures { OnOk result (makes_node (ways_of r.now.names).count (normal_form sign formula.now) ≡ true → LooksInto r.now (normal_form sign formula.now) value (state_of work.old) (state_of work.new)) }
+{
+    if is_over(r, value, count, work.next) {
+        work.next = sum(work.next, count)?;
+        work.base = past(formula, sign, work.base)?;
+        return Ok(());
+    }
+    look_into(r, formula, sign, value, block, marks, work)
 }
 
 #[cycle(look)]
@@ -403,6 +437,98 @@ fn look_bound(
     Ok(still)
 }
 
+// The members of a `forall`: its variable, the number of its conjunction, how many nodes each member has, and the constants at
+// which a member may be false, where members are looked at.
+#[derive(Clone, Copy)]
+struct Members {
+    var: VarId,
+    sort: Sort,
+    number: u64,
+    nodes: u64,
+    candidates: Option<Candidates>,
+}
+
+// Whether a member may be false.
+fn may_be_false(candidates: Option<Candidates>, place: u64) -> bool
+    ensures { result ≡ may_be_false_at candidates place }
+{
+    match candidates {
+        None => true,
+        Some(candidates) => candidates.has(place),
+    }
+}
+
+// Those at which a member of a `forall` may be false, where that is asked for.
+fn candidates_if(
+    r: &Reading,
+    asked: bool,
+    var: VarId,
+    sort: Sort,
+    formula: &Formula,
+    sign: bool,
+    env: &mut Vec<Binding>,
+) -> Result<Option<Candidates>, AllocError>
+    ensures value { IfOk result (HasAllFalse r.now (normal_form sign formula.now) var sort (scope env.old.items)) }
+    ensures env { OnOk result (env.new.items ≡ env.old.items) }
+{
+    if !asked {
+        return Ok(None);
+    }
+    let candidates = member_candidates(r, var, sort, formula, sign, env)?;
+    Ok(Some(candidates))
+}
+
+// Whether a member has no clause that is false: none of its nodes is named, and it is true or isn't asked for.
+fn is_passed(r: &Reading, members: Members, place: u64, asked: bool, next: u64) -> bool
+    ensures free { result ≡ true → IsFree (named_by r.now) next members.nodes }
+    ensures certain { result ≡ true → asked ≡ true → may_be_false_at members.candidates place ≡ false }
+{
+    if asked && may_be_false(members.candidates, place) {
+        return false;
+    }
+    is_free(r.named, next, members.nodes)
+}
+
+#[cycle(look)]
+// The clauses of a member of a `forall`, and its own clause; it is passed where that is seen to be true, and no node is named.
+fn look_place(
+    r: &Reading,
+    members: Members,
+    place: u64,
+    formula: &Formula,
+    sign: bool,
+    asked: bool,
+    block: u64,
+    marks: &mut Vec<u64>,
+    work: &mut Work,
+) -> Result<bool, AllocError>
+    requires place { place < (ways_of r.now.names).count members.sort }
+    requires nodes { members.nodes ≡ weight_of (ways_of r.now.names).count (normal_form sign formula.now) }
+    requires candidates { HasAllFalse r.now (normal_form sign formula.now) members.var members.sort (state_of work.old).env members.candidates }
+    ensures { IfOk result (λ still. LooksBound r.now (normal_form sign formula.now) members.var members.sort place members.number asked (state_of work.old) (state_of work.new) still) }
+{
+    if is_passed(r, members, place, asked, work.next) {
+        work.next = sum(work.next, members.nodes)?;
+        return Ok(asked);
+    }
+    let binding = Binding {
+        var: members.var,
+        sort: members.sort,
+        place,
+    };
+    look_bound(
+        r,
+        binding,
+        formula,
+        sign,
+        members.number,
+        asked,
+        block,
+        marks,
+        work,
+    )
+}
+
 #[cycle(look)]
 // The clauses of a `forall` over more than one constant: one of a false member at most.
 fn look_into_all(
@@ -423,21 +549,20 @@ fn look_into_all(
         return Err(AllocError);
     }
     let start = work.base;
-    let x = number(work)?;
+    let number = number(work)?;
+    let nodes = weight(&r.names.facts.counts, formula, sign)?;
+    let candidates = candidates_if(r, value, var, sort, formula, sign, &mut work.env)?;
+    let members = Members {
+        var,
+        sort,
+        number,
+        nodes,
+        candidates,
+    };
     let mut asked = value;
     'places: for place in 0..count {
         work.base = start;
-        asked = look_bound(
-            r,
-            Binding { var, sort, place },
-            formula,
-            sign,
-            x,
-            asked,
-            block,
-            marks,
-            work,
-        )?;
+        asked = look_place(r, members, place, formula, sign, asked, block, marks, work)?;
     }
     work.base = start;
     Ok(())

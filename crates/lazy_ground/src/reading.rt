@@ -4,7 +4,7 @@
 ghost use Rattle.std.specs.Prelude.{◌≡◌, ◌+◌, ◌∷◌, [], true, OnOk};
 ghost use Rattle.clause_log.specs.Literals.{clause_true, truths};
 ghost use Rattle.lazy_ground.specs.Found.{Finds};
-ghost use Rattle.lazy_ground.specs.Readings.{IsFree, IsPast};
+ghost use Rattle.lazy_ground.specs.Readings.{HasFreeParts, IsFree, IsPast};
 
 use clause_log::{Lit, Valuation};
 use copy_truth::reading::is_true;
@@ -47,6 +47,16 @@ pub fn is_free(named: &Valuation, first: u64, count: u64) -> bool
     match atoms.binary_search(&first) {
         Ok(_) => false,
         Err(place) => is_past(atoms, place, first, count),
+    }
+}
+
+/// Whether no clause names one of so many atoms from this one on, this one left out; it may also answer no where none is named.
+pub fn has_free_parts(named: &Valuation, first: u64, count: u64) -> bool
+    ensures { result ≡ true → HasFreeParts (truths named.now) first count }
+{
+    match (first.checked_add(1), count.checked_sub(1)) {
+        (Some(next), Some(parts)) => is_free(named, next, parts),
+        _ => false,
     }
 }
 

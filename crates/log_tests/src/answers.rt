@@ -1,8 +1,8 @@
 //! What is said of blocks: worked answers, and refutations that are given back to the checker.
 use clause_listing::list_clauses;
-use log_text::LogRefusal;
 use std::alloc::{AllocError, Global};
 use std::test::*;
+use text_lines::LineRefusal;
 
 const HEADER: &[u8] = b"vericon-log 1\nblock b\n";
 
@@ -125,7 +125,7 @@ fn each_block_has_a_model_or_steps_that_are_accepted(rt: HostRuntime) -> Result<
 // The number of the first bad line, of a text that is refused.
 fn first_bad_line(alloc: Global, text: &[u8]) -> Option<u64> {
     match list_clauses(alloc, text) {
-        Err(LogRefusal::Line { number }) => Some(number),
+        Err(LineRefusal::Line { number, .. }) => Some(number),
         _ => None,
     }
 }

@@ -1,10 +1,11 @@
 //! Log texts that are accepted, not accepted or refused, and what is printed of blocks.
 
 use clause_log::{Clauses, Lit, Log, accepts};
-use log_text::{Block, LogRefusal, print_log, read_log};
+use log_text::{Block, print_log, read_log};
 use sqlite_items::Items;
 use std::alloc::Global;
 use std::test::*;
+use text_lines::LineRefusal;
 
 // What becomes of the first block of a text.
 #[derive(Clone, Copy, Debug, PartialEq, Eq)]
@@ -20,8 +21,8 @@ enum Verdict {
 fn checked(alloc: Global, text: &[u8]) -> Verdict {
     let blocks = match read_log(alloc, text) {
         Ok(blocks) => blocks,
-        Err(LogRefusal::Line { number }) => return Verdict::Refused(number),
-        Err(LogRefusal::Memory) => return Verdict::Memory,
+        Err(LineRefusal::Line { number, .. }) => return Verdict::Refused(number),
+        Err(LineRefusal::Memory) => return Verdict::Memory,
     };
     let Some(block) = blocks.get(0) else {
         return Verdict::NoBlock;

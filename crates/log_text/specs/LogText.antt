@@ -1,29 +1,20 @@
 -- Texts of logs: the machine over their lines, how blocks are spelled, and which blocks have a text.
-use Rattle.std.specs.Prelude.{ℕ, Bool, true, false, not, ◌&&◌, ◌==◌, nat_le, if◌then◌else◌, List, [], ◌∷◌, ◌++◌, Option, Some, None, is_none, Result, Ok, Err, codes, decimal, map}
+use Rattle.std.specs.Prelude.{ℕ, Bool, true, false, not, ◌&&◌, ◌==◌, nat_le, if◌then◌else◌, List, [], ◌∷◌, ◌++◌, Option, Some, None, is_none, option_map, Result, Ok, Err, codes, decimal, map}
 use Rattle.std.specs.List.{flat_map, list_all}
 use Rattle.std.specs.Str.{bytes_eq}
 use Rattle.text_lines.specs.Text.{words, next, ended}
 use Rattle.text_lines.specs.Rest.{trim_start, trim_end}
-use Rattle.text_lines.specs.Machine.{Format}
+use Rattle.text_lines.specs.Machine.{Format, goes_to}
 use Rattle.text_lines.specs.Printed.{line_text}
 use Rattle.clause_log.specs.Literals.{Literal, ClauseList, is_clause}
 use Rattle.clause_log.specs.Refutations.{Step}
 use Rattle.clause_log.specs.Limits.{is_step}
 use Rattle.log_text.specs.declared.block.Block.{Block}
-use Rattle.log_text.specs.declared.read.Place.{Place}
-use Rattle.log_text.specs.declared.read.Place.TheVariants as place
+use Rattle.log_text.specs.declared.read.LogPlace.{LogPlace}
+use Rattle.log_text.specs.declared.read.LogPlace.TheVariants as place
 use Rattle.log_text.specs.Words.{most_atoms, header_of, name_of, atoms_of, clause_of, step_of, is_name}
 
 -- ---- the machine
-
--- where in the text one is, with what was read of the open block, and the blocks before it
-pub record State : Type 0 where
-  pub place : Place
-  pub blocks : List Block
-
-abbrev pub goes_to : {A : Type 0} → Option A → (A → State) → Result State (Unit {0})
-goes_to None f = Err tt
-goes_to (Some x) f = Ok (f x)
 
 -- a block without clauses and without a log
 abbrev pub new_block : List ℕ → ℕ → Block
@@ -39,37 +30,44 @@ steps_so_far (Some ss) = ss
 abbrev pub with_step : Block → Step → Block
 with_step b s = record b { log = Some (steps_so_far b.log ++ s ∷ []) }
 
+-- the block with what the words of a clause line say, and of a step line
+abbrev pub clause_taken : Block → List (List ℕ) → Option Block
+clause_taken b ws = option_map (with_clause b) (clause_of b.clauses.atoms ws)
+
+abbrev pub step_taken : Block → List (List ℕ) → Option Block
+step_taken b ws = option_map (with_step b) (step_of b.clauses.atoms ws)
+
 -- a line of an open block, by its first word; clauses come before steps
-abbrev pub inside : Block → List Block → List ℕ → List (List ℕ) → Result State (Unit {0})
+abbrev pub inside : Block → List Block → List ℕ → List (List ℕ) → Result LogPlace (Unit {0})
 inside block blocks key ws =
-    if bytes_eq key (codes "c") && is_none block.log then goes_to (clause_of block.clauses.atoms ws) (λ c. record { place = place.Open (with_clause block c); blocks = blocks })
-    else (if bytes_eq key (codes "s") then goes_to (step_of block.clauses.atoms ws) (λ s. record { place = place.Open (with_step block s); blocks = blocks })
-    else (if bytes_eq key (codes "end") then goes_to (ended ws) (λ u. record { place = place.Between; blocks = blocks ++ block ∷ [] })
+    if bytes_eq key (codes "c") && is_none block.log then goes_to (clause_taken block ws) (λ new. place.Open new blocks)
+    else (if bytes_eq key (codes "s") then goes_to (step_taken block ws) (λ new. place.Open new blocks)
+    else (if bytes_eq key (codes "end") then goes_to (ended ws) (λ u. place.Between (blocks ++ block ∷ []))
     else Err tt))
 
-abbrev pub by_key : Block → List Block → Option (List ℕ × List (List ℕ)) → Result State (Unit {0})
+abbrev pub by_key : Block → List Block → Option (List ℕ × List (List ℕ)) → Result LogPlace (Unit {0})
 by_key block blocks None = Err tt
 by_key block blocks (Some key) = inside block blocks key.0 key.1
 
 -- the header, then blocks: `block NAME`, `atoms N`, clauses, steps, `end`
-abbrev pub step : Place → List Block → List ℕ → Result State (Unit {0})
-step place.Header blocks line = goes_to (header_of (words line)) (λ u. record { place = place.Between; blocks = blocks })
-step place.Between blocks line = goes_to (name_of line) (λ name. record { place = place.Named name; blocks = blocks })
-step (place.Named name) blocks line = goes_to (atoms_of (words line)) (λ n. record { place = place.Open (new_block name n); blocks = blocks })
-step (place.Open block) blocks line = by_key block blocks (next (words line))
+abbrev pub step : LogPlace → List ℕ → Result LogPlace (Unit {0})
+step place.Header line = goes_to (header_of (words line)) (λ u. place.Between [])
+step (place.Between blocks) line = goes_to (name_of line) (λ name. place.Named name blocks)
+step (place.Named name blocks) line = goes_to (atoms_of (words line)) (λ n. place.Open (new_block name n) blocks)
+step (place.Open block blocks) line = by_key block blocks (next (words line))
 
 -- a text ends between two blocks
-abbrev pub finish : Place → List Block → Result (List Block) (Unit {0})
-finish place.Header blocks = Err tt
-finish place.Between blocks = Ok blocks
-finish (place.Named name) blocks = Err tt
-finish (place.Open block) blocks = Err tt
+abbrev pub finish : LogPlace → Result (List Block) (Unit {0})
+finish place.Header = Err tt
+finish (place.Between blocks) = Ok blocks
+finish (place.Named name blocks) = Err tt
+finish (place.Open block blocks) = Err tt
 
-abbrev pub log_format : Format State (List Block) (Unit {0})
+abbrev pub log_format : Format LogPlace (List Block) (Unit {0})
 log_format = record {
-  start = record { place = place.Header; blocks = [] };
-  step = λ s line. step s.place s.blocks line;
-  finish = λ s. finish s.place s.blocks;
+  start = place.Header;
+  step = step;
+  finish = finish;
 }
 
 -- ---- spelling

@@ -14,4 +14,4 @@ mod words;
 pub use block::{Block, Blocks, Text};
 pub use laws::logs_read_back;
 pub use print::{print_log, put_next_literal, put_steps};
-pub use read::{LogRefusal, read_log};
+pub use read::read_log;

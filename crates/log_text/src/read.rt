@@ -4,40 +4,27 @@ ghost use Rattle.std.specs.Prelude.{◌≡◌, ◌<◌, ◌^◌, ◌++◌, ◌�
 ghost use Rattle.clause_log.specs.Literals.{has_distinct_atoms};
 ghost use Rattle.text_lines.specs.Text.{words as words_of, next};
 ghost use Rattle.text_lines.specs.Machine.{reading};
-ghost use Rattle.log_text.specs.Words.{clause_of, step_of};
-ghost use Rattle.log_text.specs.LogText.{by_key, log_format, new_block as empty_block, step as step_at, steps_so_far};
-ghost use Rattle.log_text.specs.Gives.{ClauseTaken, Gives, StepTaken, Stepped};
+ghost use Rattle.text_lines.specs.Gives.{Finds, FindsSome, Gives};
+ghost use Rattle.log_text.specs.LogText.{by_key, clause_taken, finish as finish_of, log_format, new_block as empty_block, step as step_at, step_taken, steps_so_far};
 
 use crate::block::{Block, Blocks, Text};
 use crate::words::{StepLine, Stop, atoms, clause, header, name, step};
 use clause_log::{Clauses, Log};
 use sqlite_items::Items;
 use std::alloc::{AllocError, Global};
-use text_lines::{Lines, Next, Words};
-use thiserror::Error;
+use text_lines::{LineRefusal, Words, read_lines};
 
-/// Why a log text isn't read.
-#[derive(Debug, Drop, Error)]
-pub enum LogRefusal {
-    /// The first line that is refused; or one past the last line, where a block is open there or the header is
-    /// missing.
-    #[error("line {number} is refused")]
-    Line { number: u64 },
-    #[error("out of memory")]
-    Memory,
-}
-
-/// Where in a text one is, with what was read of the open block.
+/// Where in a log text one is, with what was read of the open block, and the blocks before it.
 #[derive(Drop)]
-pub enum Place {
+pub enum LogPlace {
     /// Before the first line.
     Header,
     /// Outside of blocks.
-    Between,
+    Between(Blocks),
     /// Behind `block NAME`.
-    Named(Text),
+    Named(Text, Blocks),
     /// Behind `atoms N`, with the clauses and steps so far.
-    Open(Block),
+    Open(Block, Blocks),
 }
 
 /// The blocks of a log text (docs/FORMATS.md, "Log text"). It goes over the text once; a line of n literals takes n log
@@ -47,53 +34,51 @@ pub enum Place {
 ///
 /// `Line` with the first line that is refused, counted from 1, or with the line one past the last, where a block is
 /// open there or the header is missing. `Memory` where memory ran out.
-pub fn read_log(alloc: Global, text: &[u8]) -> Result<Blocks, LogRefusal>
+pub fn read_log(alloc: Global, text: &[u8]) -> Result<Blocks, LineRefusal<()>>
     ensures { Gives result (reading log_format text.now) }
 {
-    let mut lines = Lines::new(text);
-    let mut place = Place::Header;
-    let mut blocks = Items::new(alloc);
-    'lines: loop {
-        match lines.next() {
-            Next::Line { number, line } => match take(alloc, place, &mut blocks, line) {
-                Ok(next) => place = next,
-                Err(Stop::Refused) => return Err(LogRefusal::Line { number }),
-                Err(Stop::Memory) => return Err(LogRefusal::Memory),
-            },
-            Next::End { past } => {
-                return match place {
-                    Place::Between => Ok(blocks),
-                    _ => Err(LogRefusal::Line { number: past }),
-                };
-            }
-        }
+    read_lines(
+        text,
+        LogPlace::Header,
+        |place, line| take(alloc, place, line),
+        finish,
+    )
+}
+
+// The blocks of a text that ends here.
+fn finish(place: LogPlace) -> Result<Blocks, ()>
+    ensures { result ≡ finish_of place }
+{
+    match place {
+        LogPlace::Between(blocks) => Ok(blocks),
+        _ => Err(()),
     }
 }
 
-// The place behind this line. A block that ends there is appended to the blocks.
-fn take(alloc: Global, place: Place, blocks: &mut Blocks, line: &[u8]) -> Result<Place, Stop>
-    ensures { Stepped result (step_at place blocks.old line.now) blocks.new }
+// The place behind this line.
+fn take(alloc: Global, place: LogPlace, line: &[u8]) -> Result<LogPlace, Stop>
+    ensures { Finds result (step_at place line.now) (λ next. next) }
 {
     match place {
-        Place::Header => match header(Words::new(line)) {
-            Some(()) => Ok(Place::Between),
-            None => Err(Stop::Refused),
+        LogPlace::Header => match header(Words::new(line)) {
+            Some(()) => Ok(LogPlace::Between(Items::new(alloc))),
+            None => Err(Stop::Refused(())),
         },
-        Place::Between => match name(line) {
+        LogPlace::Between(blocks) => match name(line) {
             Some(name) => match Items::from_slice(alloc, name) {
-                Ok(name) => Ok(Place::Named(name)),
+                Ok(name) => Ok(LogPlace::Named(name, blocks)),
                 Err(_) => Err(Stop::Memory),
             },
-            None => Err(Stop::Refused),
+            None => Err(Stop::Refused(())),
         },
-        Place::Named(name) => match atoms(Words::new(line)) {
+        LogPlace::Named(name, blocks) => match atoms(Words::new(line)) {
             Some(atoms) => match new_block(alloc, name, atoms) {
-                Ok(block) => Ok(Place::Open(block)),
+                Ok(block) => Ok(LogPlace::Open(block, blocks)),
                 Err(_) => Err(Stop::Memory),
             },
-            None => Err(Stop::Refused),
+            None => Err(Stop::Refused(())),
         },
-        Place::Open(block) => take_inside(alloc, block, blocks, line),
+        LogPlace::Open(block, blocks) => take_inside(alloc, block, blocks, line),
     }
 }
 
@@ -110,34 +95,35 @@ fn new_block(alloc: Global, name: Text, atoms: u64) -> Result<Block, AllocError>
 }
 
 // A line of an open block. Clauses come before steps.
-fn take_inside(alloc: Global, block: Block, blocks: &mut Blocks, line: &[u8]) -> Result<Place, Stop>
-    ensures { Stepped result (by_key block blocks.old (next (words_of line.now))) blocks.new }
+fn take_inside(alloc: Global, block: Block, blocks: Blocks, line: &[u8]) -> Result<LogPlace, Stop>
+    ensures { Finds result (by_key block blocks (next (words_of line.now))) (λ next. next) }
 {
     let Some((key, words)) = Words::new(line).next() else {
-        return Err(Stop::Refused);
+        return Err(Stop::Refused(()));
     };
     if key == b"c".as_slice() && block.log.is_none() {
         let block = with_clause(alloc, block, words)?;
-        Ok(Place::Open(block))
+        Ok(LogPlace::Open(block, blocks))
     } else if key == b"s".as_slice() {
         let block = with_step(alloc, block, words)?;
-        Ok(Place::Open(block))
+        Ok(LogPlace::Open(block, blocks))
     } else if key == b"end".as_slice() {
         if words.end().is_none() {
-            return Err(Stop::Refused);
+            return Err(Stop::Refused(()));
         }
+        let mut blocks = blocks;
         match blocks.push(block) {
-            Ok(()) => Ok(Place::Between),
+            Ok(()) => Ok(LogPlace::Between(blocks)),
             Err(_) => Err(Stop::Memory),
         }
     } else {
-        Err(Stop::Refused)
+        Err(Stop::Refused(()))
     }
 }
 
 // The block with one clause more, from the words behind `c`.
 fn with_clause(alloc: Global, block: Block, words: Words) -> Result<Block, Stop>
-    ensures { ClauseTaken result (clause_of block.clauses.atoms words.entry) block }
+    ensures { FindsSome result (clause_taken block words.entry) (λ new. new) }
 {
     let mut block = block;
     let literals = clause(alloc, words, block.clauses.atoms())?;
@@ -149,7 +135,7 @@ fn with_clause(alloc: Global, block: Block, words: Words) -> Result<Block, Stop>
 
 // The block with one step more, from the words behind `s`.
 fn with_step(alloc: Global, block: Block, words: Words) -> Result<Block, Stop>
-    ensures { StepTaken result (step_of block.clauses.atoms words.entry) block }
+    ensures { FindsSome result (step_taken block words.entry) (λ new. new) }
 {
     let Block { name, clauses, log } = block;
     let line = step(alloc, words, clauses.atoms())?;

@@ -2,9 +2,9 @@
 
 ghost use Rattle.std.specs.Prelude.{◌≡◌, ◌<◌, ◌≤◌, ◌^◌, [], true, IfSome, option_copied};
 ghost use Rattle.std.specs.List.{list_all};
+ghost use Rattle.text_lines.specs.Gives.{FindsSome};
 ghost use Rattle.clause_log.specs.Literals.{is_clause, has_distinct_atoms as distinct};
 ghost use Rattle.log_text.specs.Words.{are_printable as printable, atoms_of, clause_of, header_of, hints_from, is_name as is_block_name, literal_of, literals_from, name_of, positive_of, step_of};
-ghost use Rattle.log_text.specs.Gives.{Finds};
 
 use crate::distinct::has_distinct_atoms;
 use clause_log::{Lit, MOST_HINT};
@@ -12,11 +12,7 @@ use std::alloc::Global;
 use text_lines::{Words, behind_word, read_number};
 
 /// Why a line isn't taken.
-#[derive(Clone, Copy, Debug)]
-pub enum Stop {
-    Refused,
-    Memory,
-}
+pub type Stop = text_lines::Stop<()>;
 
 const MOST_ATOMS: u64 = 0x3fff_ffff_ffff_ffff;
 
@@ -52,18 +48,18 @@ fn literal(word: &[u8], atoms: u64) -> Option<Lit>
 // Appends the literals up to the word 0, and gives the words behind it.
 fn literals<'a>(words: Words<'a>, atoms: u64, found: &mut Vec<Lit>) -> Result<Words<'a>, Stop>
     requires { atoms < 2 ^ 62 }
-    ensures { Finds result (literals_from atoms found.old.items words.entry) (λ rest. (found.new.items, rest)) }
+    ensures { FindsSome result (literals_from atoms found.old.items words.entry) (λ rest. (found.new.items, rest)) }
 {
     let mut words = words;
     'words: loop {
         let Some((word, rest)) = words.next() else {
-            return Err(Stop::Refused);
+            return Err(Stop::Refused(()));
         };
         if word == b"0".as_slice() {
             return Ok(rest);
         }
         let Some(l) = literal(word, atoms) else {
-            return Err(Stop::Refused);
+            return Err(Stop::Refused(()));
         };
         if found.push(l).is_err() {
             return Err(Stop::Memory);
@@ -74,18 +70,18 @@ fn literals<'a>(words: Words<'a>, atoms: u64, found: &mut Vec<Lit>) -> Result<Wo
 
 // Appends the hints up to the word 0, and gives the words behind it.
 fn hints<'a>(words: Words<'a>, found: &mut Vec<u64>) -> Result<Words<'a>, Stop>
-    ensures { Finds result (hints_from found.old.items words.entry) (λ rest. (found.new.items, rest)) }
+    ensures { FindsSome result (hints_from found.old.items words.entry) (λ rest. (found.new.items, rest)) }
 {
     let mut words = words;
     'words: loop {
         let Some((word, rest)) = words.next() else {
-            return Err(Stop::Refused);
+            return Err(Stop::Refused(()));
         };
         if word == b"0".as_slice() {
             return Ok(rest);
         }
         let Some(hint) = positive(word, MOST_HINT) else {
-            return Err(Stop::Refused);
+            return Err(Stop::Refused(()));
         };
         if found.push(hint).is_err() {
             return Err(Stop::Memory);
@@ -166,16 +162,16 @@ pub fn atoms(words: Words) -> Option<u64>
 #[tactic(auto, unfolding(crate::specs::Words::clause_of))]
 pub fn clause(alloc: Global, words: Words, atoms: u64) -> Result<Vec<Lit>, Stop>
     requires { atoms < 2 ^ 62 }
-    ensures { Finds result (clause_of atoms words.entry) (λ c. c.items) }
+    ensures { FindsSome result (clause_of atoms words.entry) (λ c. c.items) }
 {
     let mut found = Vec::new(alloc);
     let rest = literals(words, atoms, &mut found)?;
     let Some(()) = rest.end() else {
-        return Err(Stop::Refused);
+        return Err(Stop::Refused(()));
     };
     match has_distinct_atoms(alloc, &found) {
         Ok(true) => Ok(found),
-        Ok(false) => Err(Stop::Refused),
+        Ok(false) => Err(Stop::Refused(())),
         Err(_) => Err(Stop::Memory),
     }
 }
@@ -192,21 +188,21 @@ pub struct StepLine {
 #[tactic(auto, unfolding(crate::specs::Words::step_of))]
 pub fn step(alloc: Global, words: Words, atoms: u64) -> Result<StepLine, Stop>
     requires { atoms < 2 ^ 62 }
-    ensures { Finds result (step_of atoms words.entry) (λ s. record { literals = s.literals.items; hints = s.hints.items }) }
+    ensures { FindsSome result (step_of atoms words.entry) (λ s. record { literals = s.literals.items; hints = s.hints.items }) }
 {
     let mut found = Vec::new(alloc);
     let mut named = Vec::new(alloc);
     let rest = literals(words, atoms, &mut found)?;
     let rest = hints(rest, &mut named)?;
     let Some(()) = rest.end() else {
-        return Err(Stop::Refused);
+        return Err(Stop::Refused(()));
     };
     match has_distinct_atoms(alloc, &found) {
         Ok(true) => Ok(StepLine {
             literals: found,
             hints: named,
         }),
-        Ok(false) => Err(Stop::Refused),
+        Ok(false) => Err(Stop::Refused(())),
         Err(_) => Err(Stop::Memory),
     }
 }

@@ -1,5 +1,5 @@
 -- The program of the example is well-sorted, and inductive over finite states, by hand.
-use Rattle.std.proofs.Common.{◌≡◌, ◌≢◌, ◌≤◌, ◌∙◌, zero, suc, true, false, true≢false, not, List, [], ◌∷◌, length, All, AllPairs, refl, sym, ap, IsTrue, arith}
+use Rattle.std.proofs.Common.{◌≡◌, ◌≢◌, ◌≤◌, ◌∙◌, zero, suc, false, true≢false, not, List, [], ◌∷◌, length, All, AllPairs, refl, sym, ap, IsTrue, arith}
 use Rattle.std.proofs.Math.Bool.{or-false}
 use Rattle.std.proofs.lemmas.Bool.{not-true}
 use Rattle.csdn_core.specs.declared.terms.Pred.{Pred}

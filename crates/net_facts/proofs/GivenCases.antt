@@ -12,6 +12,8 @@ use Rattle.std.proofs.lemmas.List.Elements.{All-nil, All-weaker, recursion_from_
 use Rattle.std.proofs.lemmas.Map.Views.{All-insert_key}
 use Rattle.text_lines.specs.Text.{Line, words, next, ended, lines_left}
 use Rattle.text_lines.specs.Machine.{Refused, run, after_step, ended_at, reading}
+use Rattle.text_lines.specs.Gives.{Gives}
+use Rattle.text_lines.specs.declared.read.LineRefusal.{LineRefusal}
 use Rattle.text_lines.specs.Numbers.{number_of}
 use Rattle.csdn_core.specs.declared.terms.Sort.{Sort}
 use Rattle.csdn_core.specs.declared.terms.Sort.TheVariants.{Sw, Ho, Pr}
@@ -28,18 +30,16 @@ use Rattle.net_structs.specs.declared.row.Row.{Row}
 use Rattle.net_structs.specs.declared.case.Case.{Case}
 use Rattle.net_structs.specs.Rows.{row_cmp, row_total}
 use Rattle.net_structs.specs.Networks.{has, in_order, bare_network, static_cmp, with_static}
-use Rattle.net_structs.specs.Refusals.{missing_port}
+use Rattle.net_structs.specs.Refusals.{is_empty, missing_port}
 use Rattle.net_structs.proofs.Accepted.{there, all_ports}
 use Rattle.net_structs.proofs.Ordered.{has-in_order, distinct-in_order, sorted-in_order, all-put}
 use Rattle.net_text.specs.declared.place.Open.{Open}
-use Rattle.net_text.specs.declared.place.Place.{Place}
-use Rattle.net_text.specs.declared.place.Place.TheVariants as place
+use Rattle.net_text.specs.declared.place.NetPlace.{NetPlace}
+use Rattle.net_text.specs.declared.place.NetPlace.TheVariants as place
 use Rattle.net_text.specs.declared.refusal.NetWhy.{NetWhy}
 use Rattle.net_text.specs.declared.refusal.NetWhy.TheVariants as why
-use Rattle.net_text.specs.declared.refusal.NetTextRefusal.{NetTextRefusal}
-use Rattle.net_text.specs.Lines.{most, or_why, wants, header_of, behind, has_some, sort_of, no_values, ports_of, constant_from, has_value, constant_of, values_from, tuple_of, flow_of, packet_of}
+use Rattle.net_text.specs.Lines.{most, or_why, wants, header_of, behind, sort_of, no_values, ports_of, constant_from, has_value, constant_of, values_from, tuple_of, flow_of, packet_of}
 use Rattle.net_text.specs.NetText.{end_of, static_of_line, with_fact, stored_of_line, flow_of_line, item_by, fact_by, item_line, fact_line, step, finish, net_format, net_text}
-use Rattle.net_text.specs.Gives.{Gives}
 use Rattle.net_facts.specs.Cases.{IsKept, IsStateTuple, IsState, IsPacket, IsCase, IsRisingState, IsInOrder}
 use Rattle.net_structs.proofs.Ordered.{sorted-insert}
 use Rattle.net_facts.proofs.LinesAgain.{static_total}
@@ -62,7 +62,7 @@ pub record IsOpen (P : Parts) (draft : Open) : Type 0 where
   pub many : length draft.values ≡ length P.constants
   pub sorted : (k : ℕ) (d : Constant) (e : ℕ) → slice_get P.constants k ≡ Some d → get_or draft.values k None ≡ Some e → Contains (elements draft.network d.sort) e
 
-some_in_order : (xs : List ℕ) → has_some xs ≡ true → in_order nat_cmp xs ≢ []
+some_in_order : (xs : List ℕ) → not (is_empty xs) ≡ true → in_order nat_cmp xs ≢ []
 some_in_order [] some is = true≢false (sym some)
 some_in_order (x ∷ xs) some is =
     let there : has (x ∷ xs) x ≡ true = grind arith in
@@ -309,7 +309,7 @@ module _ (P : Parts) (draft : Open) (draft_is : IsOpen P draft) (ms : List ℕ) 
 
 -- ---- places
 
-abbrev pub IsFine : Parts → Place → Type 0
+abbrev pub IsFine : Parts → NetPlace → Type 0
 IsFine P place.Header = Unit {0}
 IsFine P place.Switches = Unit {0}
 IsFine P (place.Hosts sw) = IsSort sw
@@ -319,7 +319,7 @@ IsFine P (place.Facts draft rows) = IsOpen P draft × IsStateSoFar P draft.netwo
 IsFine P (place.Closing draft rows packet) = IsOpen P draft × IsStateSoFar P draft.network rows × IsPacket draft.network (Some rows) packet
 IsFine P (place.Ended case) = IsWhole P case
 
-end_given : (P : Parts) (draft : Open) (state : Option (List Row)) (packet : Packet) (ws : List (List ℕ)) (to : Place) → end_of draft state packet ws ≡ Ok to → IsOpen P draft → AreTuples P draft.network state → IsPacket draft.network state packet → IsFine P to
+end_given : (P : Parts) (draft : Open) (state : Option (List Row)) (packet : Packet) (ws : List (List ℕ)) (to : NetPlace) → end_of draft state packet ws ≡ Ok to → IsOpen P draft → AreTuples P draft.network state → IsPacket draft.network state packet → IsFine P to
 unfolding end_of
 end_given P draft state packet ws to is draft_is all there =
     let alone = bound (or_why (ended ws) why.Shape) _ to is in
@@ -337,7 +337,7 @@ by_test Q false x y to is left right = right is
 none_given : {A : Type 0} (e : NetWhy) (to : A) (Q : Type 0) → Err e ≡ Ok to → Q
 none_given e to Q is = absurd cc
 
-item_given : (P : Parts) (draft : Open) (key : List ℕ) (ws : List (List ℕ)) (to : Place) → item_by P draft key ws ≡ Ok to → IsOpen P draft → IsFine P to
+item_given : (P : Parts) (draft : Open) (key : List ℕ) (ws : List (List ℕ)) (to : NetPlace) → item_by P draft key ws ≡ Ok to → IsOpen P draft → IsFine P to
 unfolding item_by
 item_given P draft key ws to is draft_is =
     by_test (IsFine P) (bytes_eq key (codes "c")) _ _ to is
@@ -350,7 +350,7 @@ item_given P draft key ws to is draft_is =
     (λ is. end_given P draft None Nothing ws to is draft_is tt tt)
     (λ is. none_given why.Shape to (IsFine P to) is))))
 
-fact_given : (P : Parts) (draft : Open) (rows : List Row) (key : List ℕ) (ws : List (List ℕ)) (to : Place) → fact_by P draft rows key ws ≡ Ok to → IsOpen P draft → IsStateSoFar P draft.network rows → IsFine P to
+fact_given : (P : Parts) (draft : Open) (rows : List Row) (key : List ℕ) (ws : List (List ℕ)) (to : NetPlace) → fact_by P draft rows key ws ≡ Ok to → IsOpen P draft → IsStateSoFar P draft.network rows → IsFine P to
 unfolding fact_by
 fact_given P draft rows key ws to is draft_is state =
     by_test (IsFine P) (bytes_eq key (codes "t")) _ _ to is
@@ -365,19 +365,19 @@ fact_given P draft rows key ws to is draft_is state =
     (λ is. end_given P draft (Some rows) Nothing ws to is draft_is state tt)
     (λ is. none_given why.Shape to (IsFine P to) is)))))
 
-item_line_given : (P : Parts) (draft : Open) (ws : List (List ℕ)) (to : Place) → item_line P draft ws ≡ Ok to → IsOpen P draft → IsFine P to
+item_line_given : (P : Parts) (draft : Open) (ws : List (List ℕ)) (to : NetPlace) → item_line P draft ws ≡ Ok to → IsOpen P draft → IsFine P to
 unfolding item_line
 item_line_given P draft ws to is draft_is =
     let key = bound (or_why (next ws) why.Shape) _ to is in
     item_given P draft key.0.0 key.0.1 to key.2 draft_is
 
-fact_line_given : (P : Parts) (draft : Open) (rows : List Row) (ws : List (List ℕ)) (to : Place) → fact_line P draft rows ws ≡ Ok to → IsOpen P draft → IsStateSoFar P draft.network rows → IsFine P to
+fact_line_given : (P : Parts) (draft : Open) (rows : List Row) (ws : List (List ℕ)) (to : NetPlace) → fact_line P draft rows ws ≡ Ok to → IsOpen P draft → IsStateSoFar P draft.network rows → IsFine P to
 unfolding fact_line
 fact_line_given P draft rows ws to is draft_is state =
     let key = bound (or_why (next ws) why.Shape) _ to is in
     fact_given P draft rows key.0.0 key.0.1 to key.2 draft_is state
 
-step_given : (P : Parts) (from : Place) (ws : List (List ℕ)) (to : Place) → step P from ws ≡ Ok to → IsFine P from → IsFine P to
+step_given : (P : Parts) (from : NetPlace) (ws : List (List ℕ)) (to : NetPlace) → step P from ws ≡ Ok to → IsFine P from → IsFine P to
 step_given P place.Header ws to is fine =
     let u = bound (header_of ws) _ to is in
     subst (IsFine P) (given place.Switches to u.2) tt
@@ -405,7 +405,7 @@ step_given P (place.Ended case) ws to is fine = none_given why.Shape to (IsFine 
 refused : {A : Type 0} (e : Refused NetWhy) (v : Case) → Err e ≡ Ok v → A
 refused e v is = absurd cc
 
-finish_given : (P : Parts) (past : ℕ) (from : Place) (v : Case) → ended_at past (finish from) ≡ Ok v → IsFine P from → IsWhole P v
+finish_given : (P : Parts) (past : ℕ) (from : NetPlace) (v : Case) → ended_at past (finish from) ≡ Ok v → IsFine P from → IsWhole P v
 finish_given P past place.Header v is fine = refused _ v is
 finish_given P past place.Switches v is fine = refused _ v is
 finish_given P past (place.Hosts sw) v is fine = refused _ v is
@@ -418,12 +418,12 @@ finish_given P past (place.Ended case) v is fine = subst (IsWhole P) (one case v
     one : (case v : Case) → ◌≡◌ {A = Result Case (Refused NetWhy)} (Ok case) (Ok v) → case ≡ v
     one case v is = cc
 
-run_given : (P : Parts) (past : ℕ) (ls : List Line) (from : Place) (v : Case) → run (net_format P) past ls from ≡ Ok v → IsFine P from → IsWhole P v
+run_given : (P : Parts) (past : ℕ) (ls : List Line) (from : NetPlace) (v : Case) → run (net_format P) past ls from ≡ Ok v → IsFine P from → IsWhole P v
 run_given P past [] from v is fine = finish_given P past from v is fine
 run_given P past (l ∷ ls) from v is fine = by_step (step P from (words l.text)) refl is (λ to goes. run_given P past ls to v goes)
   where
-    by_step : (r : Result Place NetWhy) → step P from (words l.text) ≡ r → after_step l.number r (run (net_format P) past ls) ≡ Ok v
-        → ((to : Place) → run (net_format P) past ls to ≡ Ok v → IsFine P to → IsWhole P v) → IsWhole P v
+    by_step : (r : Result NetPlace NetWhy) → step P from (words l.text) ≡ r → after_step l.number r (run (net_format P) past ls) ≡ Ok v
+        → ((to : NetPlace) → run (net_format P) past ls to ≡ Ok v → IsFine P to → IsWhole P v) → IsWhole P v
     by_step (Ok to) stepped goes on = on to goes (step_given P from (words l.text) to stepped fine)
     by_step (Err e) stepped goes on = refused _ v goes
 
@@ -431,14 +431,14 @@ run_given P past (l ∷ ls) from v is fine = by_step (step P from (words l.text)
 pub text_given : (P : Parts) (text : List ℕ) (v : Case) → reading (net_format P) text ≡ Ok v → IsWhole P v
 text_given P text v is = let t = lines_left 1 text in run_given P t.past t.lines place.Header v is tt
 
-pub answer_is_case : (P : Parts) (text : List ℕ) (answer : Result Case NetTextRefusal) → Gives answer (reading (net_format P) text) → IfOk answer (IsCase P)
+pub answer_is_case : (P : Parts) (text : List ℕ) (answer : Result Case (LineRefusal NetWhy)) → Gives answer (reading (net_format P) text) → IfOk answer (IsCase P)
 answer_is_case P text (Ok v) is = (text_given P text v is).is_case
 answer_is_case P text (Err why) is = tt
 
-pub answer_in_order : (P : Parts) (text : List ℕ) (answer : Result Case NetTextRefusal) → Gives answer (reading (net_format P) text) → IfOk answer IsInOrder
+pub answer_in_order : (P : Parts) (text : List ℕ) (answer : Result Case (LineRefusal NetWhy)) → Gives answer (reading (net_format P) text) → IfOk answer IsInOrder
 answer_in_order P text (Ok v) is = (text_given P text v is).is_in_order
 answer_in_order P text (Err why) is = tt
 
-pub answer_again : (P : Parts) (text : List ℕ) (answer : Result Case NetTextRefusal) → IsWellSorted P → Gives answer (reading (net_format P) text) → IfOk answer (λ case. reading (net_format P) (net_text P case) ≡ Ok case)
+pub answer_again : (P : Parts) (text : List ℕ) (answer : Result Case (LineRefusal NetWhy)) → IsWellSorted P → Gives answer (reading (net_format P) text) → IfOk answer (λ case. reading (net_format P) (net_text P case) ≡ Ok case)
 answer_again P text (Ok v) well is = let whole = text_given P text v is in read_back P v well whole.is_case whole.is_in_order
 answer_again P text (Err why) well is = tt

@@ -1,5 +1,5 @@
 -- What lines of network texts say is right.
-use Rattle.std.proofs.Common.{◌≡◌, ◌∙◌, ap, sym, subst, refl, ℕ, suc, ◌+◌, ◌<◌, ◌≤◌, ◌^◌, ◌==◌, Bool, true, false, true≢false, List, [], ◌∷◌, ◌++◌, length, Option, Some, None, Result, Ok, Err, All, Contains, slice_get, arith, cond}
+use Rattle.std.proofs.Common.{◌≡◌, ◌∙◌, ap, sym, subst, refl, ℕ, suc, ◌+◌, ◌<◌, ◌≤◌, ◌^◌, ◌==◌, Bool, true, false, not, true≢false, List, [], ◌∷◌, ◌++◌, length, Option, Some, None, Result, Ok, Err, All, Contains, slice_get, arith, cond}
 use Rattle.std.specs.Str.{bytes_eq}
 use Rattle.std.proofs.lemmas.Bool.{and_parts}
 use Rattle.std.proofs.lemmas.Option.{same_Some}
@@ -20,11 +20,11 @@ use Rattle.fol_forms.proofs.NormalTruth.{same_truth-is}
 use Rattle.net_structs.specs.declared.row.Row.{Row}
 use Rattle.net_structs.specs.Networks.{has}
 use Rattle.net_facts.specs.Cases.{IsPacket}
-use Rattle.net_structs.specs.Refusals.{have_elements}
+use Rattle.net_structs.specs.Refusals.{is_empty, have_elements}
 use Rattle.net_structs.proofs.Accepted.{there}
 use Rattle.net_text.specs.declared.refusal.NetWhy.{NetWhy}
 use Rattle.net_text.specs.declared.refusal.NetWhy.TheVariants as why
-use Rattle.net_text.specs.Lines.{◌>>=◌, most, or_why, wants, elements_from, has_some, sort_of, relation_from, cells_of, tuple_of, flow_of, packet_of}
+use Rattle.net_text.specs.Lines.{◌>>=◌, most, or_why, wants, elements_from, sort_of, relation_from, cells_of, tuple_of, flow_of, packet_of}
 
 -- ---- the parts of a chain that gives something
 
@@ -59,16 +59,16 @@ elements_small before (w ∷ ws) es is all =
     elements_small (before ++ number.0 ∷ []) ws es number.2 (All-push IsSmall before number.0 all (omega arith))
 
 pub record IsSort (es : List ℕ) : Type 0 where
-  pub some : has_some es ≡ true
+  pub some : not (is_empty es) ≡ true
   pub small : All IsSmall es
 
 pub sort_given : (ws : List (List ℕ)) (es : List ℕ) → sort_of ws ≡ Ok es → IsSort es
 unfolding sort_of
 sort_given ws es is =
     let numbers = bound (elements_from [] ws) _ es is in
-    let some_of = bound (wants (has_some numbers.0) why.Empty) _ es numbers.2 in
+    let some_of = bound (wants (not (is_empty numbers.0)) why.Empty) _ es numbers.2 in
     let once = bound (wants (are_distinct numbers.0) why.Repeated) _ es some_of.2 in
-    subst IsSort (given numbers.0 es once.2) (record { some = wanted (has_some numbers.0) why.Empty some_of.0 some_of.1; small = elements_small [] ws numbers.0 numbers.1 (All-nil IsSmall) })
+    subst IsSort (given numbers.0 es once.2) (record { some = wanted (not (is_empty numbers.0)) why.Empty some_of.0 some_of.1; small = elements_small [] ws numbers.0 numbers.1 (All-nil IsSmall) })
 
 -- ---- cells
 

@@ -1,5 +1,5 @@
 -- Printed lines of network texts are read again.
-use Rattle.std.proofs.Common.{◌≡◌, ◌∙◌, ap, subst, refl, ℕ, zero, suc, ◌<◌, ◌^◌, Bool, true, false, List, [], ◌∷◌, ◌++◌, length, map, Option, Some, None, Ok, All, Contains, slice_get, arith}
+use Rattle.std.proofs.Common.{◌≡◌, ◌∙◌, ap, subst, refl, ℕ, zero, suc, ◌<◌, ◌^◌, Bool, true, false, not, List, [], ◌∷◌, ◌++◌, length, map, Option, Some, None, Ok, All, Contains, slice_get, arith}
 use Rattle.std.specs.Prelude.{decimal, codes, is_none}
 use Rattle.std.specs.Ordering.{nat_cmp}
 use Rattle.std.specs.Cmp.{nat_cmp_total, IsTotalOrder, on_total, then_total}
@@ -23,11 +23,11 @@ use Rattle.text_lines.specs.Numbers.{number_of}
 use Rattle.text_lines.proofs.Numerals.{number_some}
 use Rattle.net_structs.specs.declared.row.Row.{Row}
 use Rattle.net_structs.specs.Networks.{has, in_order, bare_network, static_cmp, with_static}
-use Rattle.net_structs.specs.Refusals.{missing_port}
+use Rattle.net_structs.specs.Refusals.{is_empty, missing_port}
 use Rattle.net_text.specs.declared.place.Open.{Open}
-use Rattle.net_text.specs.declared.place.Place.TheVariants as place
+use Rattle.net_text.specs.declared.place.NetPlace.TheVariants as place
 use Rattle.net_text.specs.declared.refusal.NetWhy.TheVariants as why
-use Rattle.net_text.specs.Lines.{◌>>=◌, most, wants, header_of, behind, has_some, sort_of, no_values, ports_of, constant_from, is_given, constant_of, relation_from, cells_of, tuple_of, flow_of, packet_of}
+use Rattle.net_text.specs.Lines.{◌>>=◌, most, wants, header_of, behind, sort_of, no_values, ports_of, constant_from, is_given, constant_of, relation_from, cells_of, tuple_of, flow_of, packet_of}
 use Rattle.net_text.specs.NetText.{end_of, static_of_line, with_fact, stored_of_line, flow_of_line, item_by, fact_by, item_line, fact_line, step, name_of, tuple_words, header_words, end_words}
 use Rattle.net_facts.proofs.Rising.{insert_next, in_order_rising, distinct_rising}
 use Rattle.net_facts.proofs.WordsAgain.{are_small, elements_again, there_has, no_missing, cells_known, cells_length, values_again, bytes_itself}
@@ -45,7 +45,7 @@ pub behind_again : (key : List ℕ) (ws : List (List ℕ)) → behind key (key �
 unfolding behind
 behind_again key ws = rw (bytes_itself key) refl
 
-pub sort_again : (es : List ℕ) → has_some es ≡ true → IsStrictlySortedBy nat_cmp es → are_small es ≡ true → sort_of (map decimal es) ≡ Ok es
+pub sort_again : (es : List ℕ) → not (is_empty es) ≡ true → IsStrictlySortedBy nat_cmp es → are_small es ≡ true → sort_of (map decimal es) ≡ Ok es
 unfolding sort_of
 sort_again es some rising small = rw (elements_again [] es small, some, distinct_rising es rising) refl
 
@@ -64,7 +64,7 @@ bare_again N rising =
     ∙ ap (λ es. record { switches = N.switches; hosts = es; ports = in_order nat_cmp N.ports; constants = []; rows = [] }) (in_order_rising nat_cmp_total N.hosts (rising Ho))
     ∙ ap (λ es. record { switches = N.switches; hosts = N.hosts; ports = es; constants = []; rows = [] }) (in_order_rising nat_cmp_total N.ports (rising Pr))
 
-pub ports_again : (P : Parts) (N : Network) → has_some N.ports ≡ true → ((s : Sort) → IsStrictlySortedBy nat_cmp (elements N s)) → are_small N.ports ≡ true → All (Contains N.ports) P.numerals
+pub ports_again : (P : Parts) (N : Network) → not (is_empty N.ports) ≡ true → ((s : Sort) → IsStrictlySortedBy nat_cmp (elements N s)) → are_small N.ports ≡ true → All (Contains N.ports) P.numerals
     → ports_of P N.switches N.hosts (map decimal N.ports) ≡ Ok (record { network = bare N []; values = no_values P.constants })
 unfolding ports_of
 ports_again P N some rising small numerals =

@@ -1,5 +1,5 @@
 -- What is printed of a case reads as that case.
-use Rattle.std.proofs.Common.{◌≡◌, ◌≢◌, ◌∙◌, ap, sym, subst, refl, ℕ, suc, ◌+◌, ◌<◌, ◌^◌, Bool, true, false, List, [], ◌∷◌, ◌++◌, length, map, Option, Some, None, Ok, All, Contains, slice_get, slice_index, arith, append_assoc, append-nil, Result, Err}
+use Rattle.std.proofs.Common.{◌≡◌, ◌≢◌, ◌∙◌, ap, sym, subst, refl, ℕ, suc, ◌+◌, ◌<◌, ◌^◌, Bool, true, false, not, List, [], ◌∷◌, ◌++◌, length, map, Option, Some, None, Ok, All, Contains, slice_get, slice_index, arith, append_assoc, append-nil, Result, Err}
 use Rattle.std.specs.Prelude.{decimal, codes, option_map}
 use Rattle.std.specs.Ordering.{nat_cmp}
 use Rattle.std.specs.List.{list_all, AllByRecursion}
@@ -11,6 +11,9 @@ use Rattle.std.proofs.lemmas.Option.{same_Some, slice_get_within, slice_get-map,
 use Rattle.std.specs.Result.{MatchResult}
 use Rattle.text_lines.specs.Text.{lines_left}
 use Rattle.text_lines.specs.Machine.{Refused, run, after_step, reading}
+use Rattle.text_lines.specs.Gives.{Gives}
+use Rattle.text_lines.specs.declared.read.LineRefusal.{LineRefusal}
+use Rattle.text_lines.specs.declared.read.LineRefusal.TheVariants as refusal
 use Rattle.text_lines.specs.Printed.{is_word, is_line, are_lines, numbered}
 use Rattle.text_lines.proofs.PrintedLaws.{words_joined, lines_printed, word_decimal, words_decimal}
 use Rattle.csdn_core.specs.declared.terms.Sort.{Sort}
@@ -31,13 +34,11 @@ use Rattle.net_structs.specs.declared.row.Row.{Row}
 use Rattle.net_structs.specs.declared.case.Case.{Case}
 use Rattle.net_structs.specs.Rows.{row_cmp, row_total}
 use Rattle.net_structs.specs.Networks.{as_stored, static_cmp}
-use Rattle.net_text.specs.declared.place.Place.{Place}
-use Rattle.net_text.specs.declared.place.Place.TheVariants as place
-use Rattle.net_text.specs.declared.refusal.NetTextRefusal.{NetTextRefusal}
+use Rattle.net_text.specs.declared.place.NetPlace.{NetPlace}
+use Rattle.net_text.specs.declared.place.NetPlace.TheVariants as place
 use Rattle.net_text.specs.declared.refusal.NetWhy.{NetWhy}
-use Rattle.net_text.specs.declared.refusal.NetTextRefusal.TheVariants as refusal
-use Rattle.net_text.specs.Gives.{Gives}
-use Rattle.net_text.specs.Lines.{◌>>=◌, has_some, sort_of, no_values, ports_of, relation_from}
+use Rattle.net_structs.specs.Refusals.{is_empty}
+use Rattle.net_text.specs.Lines.{◌>>=◌, sort_of, no_values, ports_of, relation_from}
 use Rattle.net_text.specs.NetText.{step, net_format, name_in, name_of, tuple_words, row_words, constant_lines, state_lines, packet_lines, header_words, end_words, head_lines, part_lines, case_lines, net_text}
 use Rattle.net_facts.specs.Cases.{IsKept, IsStateTuple, IsState, IsPacket, IsCase, IsRisingState, IsInOrder}
 use Rattle.net_facts.proofs.Rising.{insert_next, rises_on}
@@ -69,12 +70,12 @@ module _ (P : Parts) (N : Network) where
 
 module _ (P : Parts) (past : ℕ) (v : Case) where
   -- the lines are lines that count, and reading them from a place gives v, whatever their numbers
-  record Reads (ls : List (List (List ℕ))) (place : Place) : Type 0 where
+  record Reads (ls : List (List (List ℕ))) (place : NetPlace) : Type 0 where
     fine : are_lines ls ≡ true
     ends : (at : ℕ) → run (net_format P) past (numbered at ls) place ≡ Ok v
 
   -- one line more at the front
-  line_reads : (ws : List (List ℕ)) (ls : List (List (List ℕ))) (from to : Place) → is_line ws ≡ true → step P from ws ≡ Ok to → Reads ls to → Reads (ws ∷ ls) from
+  line_reads : (ws : List (List ℕ)) (ls : List (List (List ℕ))) (from to : NetPlace) → is_line ws ≡ true → step P from ws ≡ Ok to → Reads ls to → Reads (ws ∷ ls) from
   line_reads ws ls from to fine is reads = record {
     fine = and_from (is_line ws) (are_lines ls) fine reads.fine;
     ends = λ at.
@@ -131,7 +132,7 @@ module _ (P : Parts) (past : ℕ) (v : Case) where
         (facts_read rows values (done ++ row ∷ []) left rest (rises_on row_cmp done row left rising) all.1
         (subst (λ facts. Reads rest (place.Facts (opened N rows values) facts)) (sym (append_assoc done (row ∷ []) left)) reads))
 
-end_reads : (P : Parts) (past : ℕ) (v : Case) (from : Place) → step P from end_words ≡ Ok (place.Ended v) → Reads P past v (end_words ∷ []) from
+end_reads : (P : Parts) (past : ℕ) (v : Case) (from : NetPlace) → step P from end_words ≡ Ok (place.Ended v) → Reads P past v (end_words ∷ []) from
 end_reads P past v from is = line_reads P past v end_words [] from (place.Ended v) refl is (record { fine = refl; ends = λ at. refl })
 
 -- ---- what a case gives
@@ -143,7 +144,7 @@ same_itself : (b : Bool) → same_truth b b ≡ true
 same_itself true = refl
 same_itself false = refl
 
-some_list : (xs : List ℕ) → xs ≢ [] → has_some xs ≡ true
+some_list : (xs : List ℕ) → xs ≢ [] → not (is_empty xs) ≡ true
 some_list [] some = absurd (some refl)
 some_list (x ∷ xs) some = refl
 
@@ -212,7 +213,7 @@ module _ (P : Parts) (well : IsWellSorted P) (N : Network) (network : IsNetwork 
   abbrev whole : Option (List Row) → Packet → Case
   whole state packet = record { network = N; state = state; packet = packet }
 
-  abbrev ready : Place
+  abbrev ready : NetPlace
   ready = place.Items (opened N N.rows (map Some N.constants))
 
   module _ (past : ℕ) where
@@ -276,7 +277,7 @@ read_back P case well is order =
     ap (λ ls. run (net_format P) past ls place.Header) (lines_printed 1 (case_lines P case) reads.fine) ∙ reads.ends 1
 
 -- .. and so the reader answers it, or that there is no memory
-pub answered_back : (P : Parts) (case : Case) → IsWellSorted P → IsCase P case → IsInOrder case → (answer : Result Case NetTextRefusal) → Gives answer (reading (net_format P) (net_text P case)) → MatchResult answer (λ again. again ≡ case) (λ why. why ≡ refusal.Memory)
+pub answered_back : (P : Parts) (case : Case) → IsWellSorted P → IsCase P case → IsInOrder case → (answer : Result Case (LineRefusal NetWhy)) → Gives answer (reading (net_format P) (net_text P case)) → MatchResult answer (λ again. again ≡ case) (λ why. why ≡ refusal.Memory)
 answered_back P case well is order (Ok v) gives = let same : Ok v ≡ Ok case = sym gives ∙ read_back P case well is order in one v case same
   where
     one : (v w : Case) → ◌≡◌ {A = Result Case (Refused NetWhy)} (Ok v) (Ok w) → v ≡ w

@@ -3,6 +3,9 @@ ghost use Rattle.std.specs.Prelude.{◌≡◌, ◌↔◌, ℕ, List, Result, Ok,
 ghost use Rattle.std.specs.List.Sorted.{IsStrictlySortedBy};
 ghost use Rattle.std.specs.Ordering.{nat_cmp};
 ghost use Rattle.text_lines.specs.Machine.{reading};
+ghost use Rattle.text_lines.specs.declared.read.LineRefusal.{LineRefusal as AnyRefusal};
+ghost use Rattle.text_lines.specs.declared.read.LineRefusal.TheVariants.{Memory};
+ghost use Rattle.text_lines.specs.Gives.{Gives};
 ghost use Rattle.csdn_core.specs.declared.terms.Sort.{Sort};
 ghost use Rattle.csdn_core.specs.declared.program.Parts.{Parts as AnyParts};
 ghost use Rattle.csdn_core.specs.Holds.{IsInductive};
@@ -13,10 +16,8 @@ ghost use Rattle.net_structs.specs.declared.case.Case.{Case as AnyCase};
 ghost use Rattle.net_structs.specs.declared.read.NetParts.{NetParts as AnyNetParts};
 ghost use Rattle.net_structs.specs.Networks.{static_cmp};
 ghost use Rattle.net_structs.specs.Refusals.{IsAnswer};
-ghost use Rattle.net_text.specs.declared.refusal.NetTextRefusal.{NetTextRefusal as AnyRefusal};
-ghost use Rattle.net_text.specs.declared.refusal.NetTextRefusal.TheVariants.{Memory};
+ghost use Rattle.net_text.specs.declared.refusal.NetWhy.{NetWhy as AnyWhy};
 ghost use Rattle.net_text.specs.NetText.{net_format, net_text};
-ghost use Rattle.net_text.specs.Gives.{Gives};
 ghost use Rattle.net_facts.specs.Cases.{IsCase, IsInOrder};
 ghost use Rattle.net_facts.specs.Listed.{HasTruthOfList};
 ghost use Rattle.net_facts.specs.Example.{quiet_program};
@@ -24,14 +25,14 @@ ghost use Rattle.net_facts.specs.Example.{quiet_program};
 /// What is printed of a case reads as that case; so the reader answers it, or that there is no memory.
 pub fn cases_read_back()
     ensures reading { (P : AnyParts) (case : AnyCase) → IsWellSorted P → IsCase P case → IsInOrder case → reading (net_format P) (net_text P case) ≡ Ok case }
-    ensures answer { (P : AnyParts) (case : AnyCase) → IsWellSorted P → IsCase P case → IsInOrder case → (answer : Result AnyCase AnyRefusal) → Gives answer (reading (net_format P) (net_text P case)) → MatchResult answer (λ again. again ≡ case) (λ why. why ≡ Memory) }
+    ensures answer { (P : AnyParts) (case : AnyCase) → IsWellSorted P → IsCase P case → IsInOrder case → (answer : Result AnyCase (AnyRefusal AnyWhy)) → Gives answer (reading (net_format P) (net_text P case)) → MatchResult answer (λ again. again ≡ case) (λ why. why ≡ Memory) }
 {}
 
 /// What a text reads as is a case of the program, in order; so it is printed and read again.
 pub fn texts_give_cases()
-    ensures case { (P : AnyParts) (text : List ℕ) (answer : Result AnyCase AnyRefusal) → Gives answer (reading (net_format P) text) → IfOk answer (IsCase P) }
-    ensures in_order { (P : AnyParts) (text : List ℕ) (answer : Result AnyCase AnyRefusal) → Gives answer (reading (net_format P) text) → IfOk answer IsInOrder }
-    ensures again { (P : AnyParts) (text : List ℕ) (answer : Result AnyCase AnyRefusal) → IsWellSorted P → Gives answer (reading (net_format P) text) → IfOk answer (λ case. reading (net_format P) (net_text P case) ≡ Ok case) }
+    ensures case { (P : AnyParts) (text : List ℕ) (answer : Result AnyCase (AnyRefusal AnyWhy)) → Gives answer (reading (net_format P) text) → IfOk answer (IsCase P) }
+    ensures in_order { (P : AnyParts) (text : List ℕ) (answer : Result AnyCase (AnyRefusal AnyWhy)) → Gives answer (reading (net_format P) text) → IfOk answer IsInOrder }
+    ensures again { (P : AnyParts) (text : List ℕ) (answer : Result AnyCase (AnyRefusal AnyWhy)) → IsWellSorted P → Gives answer (reading (net_format P) text) → IfOk answer (λ case. reading (net_format P) (net_text P case) ≡ Ok case) }
 {}
 
 /// The network that parts are accepted as is in order.

@@ -7,9 +7,10 @@ use net_structs::network::Network;
 use net_structs::read::{NetParts, NetRefusal};
 use net_structs::row::{Row, Rows};
 use net_structs::state::State;
-use net_text::{NetTextRefusal, NetWhy, Text, print_net, read_net};
+use net_text::{NetWhy, Text, print_net, read_net};
 use sqlite_items::Items;
 use std::alloc::{AllocError, Global};
+use text_lines::LineRefusal;
 
 /// The line of a text that is refused and the reason; none where the text is read.
 pub fn refusal_of(
@@ -19,8 +20,8 @@ pub fn refusal_of(
 ) -> Result<Option<(u64, NetWhy)>, AllocError> {
     match read_net(alloc, program, text) {
         Ok(_) => Ok(None),
-        Err(NetTextRefusal::Line { number, why }) => Ok(Some((number, why))),
-        Err(NetTextRefusal::Memory) => Err(AllocError),
+        Err(LineRefusal::Line { number, why }) => Ok(Some((number, why))),
+        Err(LineRefusal::Memory) => Err(AllocError),
     }
 }
 
@@ -28,8 +29,8 @@ pub fn refusal_of(
 pub fn printed(alloc: Global, program: &Program, text: &[u8]) -> Result<Option<Text>, AllocError> {
     match read_net(alloc, program, text) {
         Ok(case) => Ok(Some(print_net(alloc, program, &case)?)),
-        Err(NetTextRefusal::Line { .. }) => Ok(None),
-        Err(NetTextRefusal::Memory) => Err(AllocError),
+        Err(LineRefusal::Line { .. }) => Ok(None),
+        Err(LineRefusal::Memory) => Err(AllocError),
     }
 }
 

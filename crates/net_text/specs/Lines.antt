@@ -14,7 +14,7 @@ use Rattle.csdn_core.specs.Truth.{same_truth}
 use Rattle.csdn_core.specs.Network.{Network, elements}
 use Rattle.csdn_core.specs.Sorted.{flow_sorts, packet_sorts}
 use Rattle.net_structs.specs.Networks.{has, bare_network}
-use Rattle.net_structs.specs.Refusals.{have_elements, missing_port}
+use Rattle.net_structs.specs.Refusals.{is_empty, have_elements, missing_port}
 use Rattle.net_text.specs.declared.place.Open.{Open}
 use Rattle.net_text.specs.declared.refusal.NetWhy.{NetWhy}
 use Rattle.net_text.specs.declared.refusal.NetWhy.TheVariants as why
@@ -59,14 +59,10 @@ behind key ws = do
 
 -- ---- the lines of the sorts, behind their first words
 
-abbrev pub has_some : List ℕ → Bool
-has_some [] = false
-has_some (e ∷ es) = true
-
 unfoldable pub sort_of : List (List ℕ) → Result (List ℕ) NetWhy
 sort_of ws = do
   es ← elements_from [] ws
-  some ← wants (has_some es) why.Empty
+  some ← wants (not (is_empty es)) why.Empty
   once ← wants (are_distinct es) why.Repeated
   Ok es
 

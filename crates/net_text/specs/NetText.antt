@@ -19,8 +19,8 @@ use Rattle.net_structs.specs.declared.case.Case.{Case}
 use Rattle.net_structs.specs.Rows.{row_cmp}
 use Rattle.net_structs.specs.Networks.{as_stored, with_static}
 use Rattle.net_text.specs.declared.place.Open.{Open}
-use Rattle.net_text.specs.declared.place.Place.{Place}
-use Rattle.net_text.specs.declared.place.Place.TheVariants as place
+use Rattle.net_text.specs.declared.place.NetPlace.{NetPlace}
+use Rattle.net_text.specs.declared.place.NetPlace.TheVariants as place
 use Rattle.net_text.specs.declared.refusal.NetWhy.{NetWhy}
 use Rattle.net_text.specs.declared.refusal.NetWhy.TheVariants as why
 use Rattle.net_text.specs.Lines.{◌>>=◌, or_why, header_of, behind, sort_of, ports_of, constant_of, values_from, tuple_of, flow_of, packet_of}
@@ -28,7 +28,7 @@ use Rattle.net_text.specs.Lines.{◌>>=◌, or_why, header_of, behind, sort_of, 
 -- ---- the machine
 
 -- the case of `end`, behind that word: each constant has a value
-unfoldable pub end_of : Open → Option (List Row) → Packet → List (List ℕ) → Result Place NetWhy
+unfoldable pub end_of : Open → Option (List Row) → Packet → List (List ℕ) → Result NetPlace NetWhy
 end_of draft state packet ws = do
   alone ← or_why (ended ws) why.Shape
   values ← or_why (values_from [] draft.values) why.Missing
@@ -55,7 +55,7 @@ flow_of_line pred draft rows ws = do
   Ok (with_fact rows pred cells)
 
 -- a line by its first word, where constants and static tuples stand
-unfoldable pub item_by : Parts → Open → List ℕ → List (List ℕ) → Result Place NetWhy
+unfoldable pub item_by : Parts → Open → List ℕ → List (List ℕ) → Result NetPlace NetWhy
 item_by P draft key ws =
     if bytes_eq key (codes "c") then constant_of P draft ws >>= (λ new. Ok (place.Items new))
     else (if bytes_eq key (codes "t") then static_of_line P draft ws >>= (λ new. Ok (place.Items new))
@@ -63,7 +63,7 @@ item_by P draft key ws =
     else (if bytes_eq key (codes "end") then end_of draft None Nothing ws else Err why.Shape)))
 
 -- .. where the tuples of the state stand
-unfoldable pub fact_by : Parts → Open → List Row → List ℕ → List (List ℕ) → Result Place NetWhy
+unfoldable pub fact_by : Parts → Open → List Row → List ℕ → List (List ℕ) → Result NetPlace NetWhy
 fact_by P draft rows key ws =
     if bytes_eq key (codes "t") then stored_of_line P draft rows ws >>= (λ new. Ok (place.Facts draft new))
     else (if bytes_eq key (codes "ft") then flow_of_line Ft draft rows ws >>= (λ new. Ok (place.Facts draft new))
@@ -71,17 +71,17 @@ fact_by P draft rows key ws =
     else (if bytes_eq key (codes "packet") then packet_of draft.network ws >>= (λ packet. Ok (place.Closing draft rows packet))
     else (if bytes_eq key (codes "end") then end_of draft (Some rows) Nothing ws else Err why.Shape))))
 
-unfoldable pub item_line : Parts → Open → List (List ℕ) → Result Place NetWhy
+unfoldable pub item_line : Parts → Open → List (List ℕ) → Result NetPlace NetWhy
 item_line P draft ws = do
   key ← or_why (next ws) why.Shape
   item_by P draft key.0 key.1
 
-unfoldable pub fact_line : Parts → Open → List Row → List (List ℕ) → Result Place NetWhy
+unfoldable pub fact_line : Parts → Open → List Row → List (List ℕ) → Result NetPlace NetWhy
 fact_line P draft rows ws = do
   key ← or_why (next ws) why.Shape
   fact_by P draft rows key.0 key.1
 
-abbrev pub step : Parts → Place → List (List ℕ) → Result Place NetWhy
+abbrev pub step : Parts → NetPlace → List (List ℕ) → Result NetPlace NetWhy
 step P place.Header ws = header_of ws >>= (λ u. Ok place.Switches)
 step P place.Switches ws = behind (codes "sw") ws >>= (λ rest. sort_of rest >>= (λ sw. Ok (place.Hosts sw)))
 step P (place.Hosts sw) ws = behind (codes "ho") ws >>= (λ rest. sort_of rest >>= (λ ho. Ok (place.Ports sw ho)))
@@ -91,7 +91,7 @@ step P (place.Facts draft rows) ws = fact_line P draft rows ws
 step P (place.Closing draft rows packet) ws = behind (codes "end") ws >>= end_of draft (Some rows) packet
 step P (place.Ended kase) ws = Err why.Shape
 
-abbrev pub finish : Place → Result Case NetWhy
+abbrev pub finish : NetPlace → Result Case NetWhy
 finish place.Header = Err why.Header
 finish place.Switches = Err why.Missing
 finish (place.Hosts sw) = Err why.Missing
@@ -101,7 +101,7 @@ finish (place.Facts draft rows) = Err why.Missing
 finish (place.Closing draft rows packet) = Err why.Missing
 finish (place.Ended kase) = Ok kase
 
-abbrev pub net_format : Parts → Format Place Case NetWhy
+abbrev pub net_format : Parts → Format NetPlace Case NetWhy
 net_format P = record {
   start = place.Header;
   step = λ place line. step P place (words line);

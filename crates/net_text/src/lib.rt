@@ -12,4 +12,4 @@ mod refusal;
 
 pub use print::{Text, print_net};
 pub use read::read_net;
-pub use refusal::{NetTextRefusal, NetWhy};
+pub use refusal::NetWhy;

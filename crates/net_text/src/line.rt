@@ -2,9 +2,9 @@
 ghost use Rattle.std.specs.Prelude.{◌≡◌, ◌≤◌, ◌+◌, [], IfOk, IfSome, OnOk, length, option_map, slice_set, Some};
 ghost use Rattle.text_lines.specs.Text.{next, ended};
 ghost use Rattle.text_lines.specs.Numbers.{number_of};
+ghost use Rattle.text_lines.specs.Gives.{Finds};
 ghost use Rattle.net_text.specs.declared.refusal.NetWhy.TheVariants.{Number};
 ghost use Rattle.net_text.specs.Lines.{most, or_why, wants as wanted, behind as behind_of, cells_of, constant_from, constant_of, elements_from, flow_of, has_value as has_value_in, header_of, no_values as no_values_of, packet_of, ports_of, relation_from, sort_of, tuple_of, values_from};
-ghost use Rattle.net_text.specs.Gives.{Finds};
 
 use crate::place::{Open, Values};
 use crate::refusal::{NetWhy, Stop};

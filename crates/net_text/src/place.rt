@@ -17,7 +17,7 @@ pub struct Open {
 
 /// Which lines may come next, with what was read.
 #[derive(Drop)]
-pub enum Place {
+pub enum NetPlace {
     /// The first line.
     Header,
     /// The line of the switches.

@@ -1,19 +1,19 @@
 //! The reader of network texts.
 ghost use Rattle.std.specs.Prelude.{◌≡◌, None, Some};
-ghost use Rattle.text_lines.specs.Machine.{ended_at, reading};
+ghost use Rattle.text_lines.specs.Machine.{reading};
+ghost use Rattle.text_lines.specs.Gives.{Finds, Gives};
 ghost use Rattle.net_text.specs.NetText.{end_of, fact_line, finish as finish_of, flow_of_line, item_line, net_format, static_of_line, step, stored_of_line};
-ghost use Rattle.net_text.specs.Gives.{Finds, Gives};
 
 use crate::line::{all_values, behind, constant, flow, header, packet, ports, sort, tuple};
-use crate::place::{Open, Place};
-use crate::refusal::{NetTextRefusal, NetWhy, Stop};
+use crate::place::{NetPlace, Open};
+use crate::refusal::{NetWhy, Stop};
 use csdn_core::event::Packet;
 use csdn_core::program::Program;
 use csdn_core::terms::Pred;
 use net_structs::case::Case;
 use net_structs::state::State;
 use std::alloc::Global;
-use text_lines::{Lines, Next, Words};
+use text_lines::{LineRefusal, Words, read_lines};
 
 /// The network of a text, with its state and its packet (docs/FORMATS.md, "Network text"). It goes over the text once;
 /// looking an element or a tuple up takes log n steps.
@@ -34,80 +34,69 @@ use text_lines::{Lines, Next, Words};
 /// let printed = print_net(alloc, &program, &case)?;
 /// assert!(rt; printed.as_slice() == b"vericon-net 1\nsw 1\nho 1\npr 2\nc h 1\nc g 2\nstate\nend\n".as_slice());
 /// match read_net(alloc, &program, b"vericon-net 1\nsw 1 x\n") {
-///     Err(NetTextRefusal::Line { number, why }) => assert!(rt; number == 2 && why == NetWhy::Number),
+///     Err(LineRefusal::Line { number, why }) => assert!(rt; number == 2 && why == NetWhy::Number),
 ///     _ => assert!(rt; false),
 /// }
 /// ```
-pub fn read_net(alloc: Global, program: &Program, text: &[u8]) -> Result<Case, NetTextRefusal>
+pub fn read_net(alloc: Global, program: &Program, text: &[u8]) -> Result<Case, LineRefusal<NetWhy>>
     ensures { Gives result (reading (net_format program.now) text.now) }
 {
-    let mut lines = Lines::new(text);
-    let mut place = Place::Header;
-    'lines: loop {
-        match lines.next() {
-            Next::Line { number, line } => match take(alloc, program, place, Words::new(line)) {
-                Ok(next) => place = next,
-                Err(Stop::Refused(why)) => return Err(NetTextRefusal::Line { number, why }),
-                Err(Stop::Memory) => return Err(NetTextRefusal::Memory),
-            },
-            Next::End { past } => return finish(place, past),
-        }
-    }
+    read_lines(
+        text,
+        NetPlace::Header,
+        |place, line| take(alloc, program, place, Words::new(line)),
+        finish,
+    )
 }
 
-fn finish(place: Place, number: u64) -> Result<Case, NetTextRefusal>
-    ensures { Gives result (ended_at number (finish_of place)) }
+// The case of a text that ends here.
+fn finish(place: NetPlace) -> Result<Case, NetWhy>
+    ensures { result ≡ finish_of place }
 {
     match place {
-        Place::Header => Err(NetTextRefusal::Line {
-            number,
-            why: NetWhy::Header,
-        }),
-        Place::Ended(case) => Ok(case),
-        _ => Err(NetTextRefusal::Line {
-            number,
-            why: NetWhy::Missing,
-        }),
+        NetPlace::Header => Err(NetWhy::Header),
+        NetPlace::Ended(case) => Ok(case),
+        _ => Err(NetWhy::Missing),
     }
 }
 
 // The place behind a line with these words.
-fn take(alloc: Global, program: &Program, place: Place, words: Words) -> Result<Place, Stop>
+fn take(alloc: Global, program: &Program, place: NetPlace, words: Words) -> Result<NetPlace, Stop>
     ensures { Finds result (step program.now place words.entry) (λ next. next) }
 {
     match place {
-        Place::Header => {
+        NetPlace::Header => {
             header(words)?;
-            Ok(Place::Switches)
+            Ok(NetPlace::Switches)
         }
-        Place::Switches => {
+        NetPlace::Switches => {
             let words = behind(b"sw", words)?;
             let sw = sort(alloc, words)?;
-            Ok(Place::Hosts(sw))
+            Ok(NetPlace::Hosts(sw))
         }
-        Place::Hosts(sw) => {
+        NetPlace::Hosts(sw) => {
             let words = behind(b"ho", words)?;
             let ho = sort(alloc, words)?;
-            Ok(Place::Ports(sw, ho))
+            Ok(NetPlace::Ports(sw, ho))
         }
-        Place::Ports(sw, ho) => {
+        NetPlace::Ports(sw, ho) => {
             let words = behind(b"pr", words)?;
             let draft = ports(alloc, program, &sw, &ho, words)?;
-            Ok(Place::Items(draft))
+            Ok(NetPlace::Items(draft))
         }
-        Place::Items(draft) => take_item(alloc, program, draft, words),
-        Place::Facts(draft, state) => take_fact(alloc, program, draft, state, words),
-        Place::Closing(draft, state, packet) => {
+        NetPlace::Items(draft) => take_item(alloc, program, draft, words),
+        NetPlace::Facts(draft, state) => take_fact(alloc, program, draft, state, words),
+        NetPlace::Closing(draft, state, packet) => {
             let words = behind(b"end", words)?;
             close(alloc, draft, Some(state), packet, words)
         }
-        Place::Ended(_) => Err(Stop::Refused(NetWhy::Shape)),
+        NetPlace::Ended(_) => Err(Stop::Refused(NetWhy::Shape)),
     }
 }
 
 // A line where constants and static tuples stand.
 #[tactic(auto, unfolding(crate::specs::NetText::item_line, crate::specs::NetText::item_by))]
-fn take_item(alloc: Global, program: &Program, draft: Open, words: Words) -> Result<Place, Stop>
+fn take_item(alloc: Global, program: &Program, draft: Open, words: Words) -> Result<NetPlace, Stop>
     ensures { Finds result (item_line program.now draft words.entry) (λ next. next) }
 {
     let Some((key, words)) = words.next() else {
@@ -115,16 +104,16 @@ fn take_item(alloc: Global, program: &Program, draft: Open, words: Words) -> Res
     };
     if key == b"c".as_slice() {
         let draft = constant(program, draft, words)?;
-        Ok(Place::Items(draft))
+        Ok(NetPlace::Items(draft))
     } else if key == b"t".as_slice() {
         let draft = with_static(alloc, program, draft, words)?;
-        Ok(Place::Items(draft))
+        Ok(NetPlace::Items(draft))
     } else if key == b"state".as_slice() {
         if words.end().is_none() {
             return Err(Stop::Refused(NetWhy::Shape));
         }
         match State::try_empty(alloc, program) {
-            Ok(state) => Ok(Place::Facts(draft, state)),
+            Ok(state) => Ok(NetPlace::Facts(draft, state)),
             Err(_) => Err(Stop::Memory),
         }
     } else if key == b"end".as_slice() {
@@ -142,7 +131,7 @@ fn take_fact(
     draft: Open,
     state: State,
     words: Words,
-) -> Result<Place, Stop>
+) -> Result<NetPlace, Stop>
     ensures { Finds result (fact_line program.now draft state words.entry) (λ next. next) }
 {
     let Some((key, words)) = words.next() else {
@@ -150,16 +139,16 @@ fn take_fact(
     };
     if key == b"t".as_slice() {
         let state = with_stored(alloc, program, &draft, state, words)?;
-        Ok(Place::Facts(draft, state))
+        Ok(NetPlace::Facts(draft, state))
     } else if key == b"ft".as_slice() {
         let state = with_flow(alloc, Pred::Ft, &draft, state, words)?;
-        Ok(Place::Facts(draft, state))
+        Ok(NetPlace::Facts(draft, state))
     } else if key == b"sent".as_slice() {
         let state = with_flow(alloc, Pred::Sent, &draft, state, words)?;
-        Ok(Place::Facts(draft, state))
+        Ok(NetPlace::Facts(draft, state))
     } else if key == b"packet".as_slice() {
         let packet = packet(&draft.network, words)?;
-        Ok(Place::Closing(draft, state, packet))
+        Ok(NetPlace::Closing(draft, state, packet))
     } else if key == b"end".as_slice() {
         close(alloc, draft, Some(state), Packet::Nothing, words)
     } else {
@@ -224,7 +213,7 @@ fn close(
     state: Option<State>,
     packet: Packet,
     words: Words,
-) -> Result<Place, Stop>
+) -> Result<NetPlace, Stop>
     ensures { Finds result (end_of draft state packet words.entry) (λ next. next) }
 {
     if words.end().is_none() {
@@ -232,7 +221,7 @@ fn close(
     }
     let Open { network, values } = draft;
     match all_values(alloc, &values) {
-        Ok(Some(values)) => Ok(Place::Ended(Case {
+        Ok(Some(values)) => Ok(NetPlace::Ended(Case {
             network: network.with_values(values),
             state,
             packet,

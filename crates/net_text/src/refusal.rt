@@ -1,5 +1,4 @@
-//! Why a network text is refused.
-use thiserror::Error;
+//! Why a line of a network text is refused.
 
 /// Why a line is refused. Of several reasons in one line the first in this order counts.
 #[derive(Clone, Copy, Debug, PartialEq, Eq)]
@@ -26,19 +25,5 @@ pub enum NetWhy {
     Missing,
 }
 
-/// Why a network text isn't read.
-#[derive(Debug, Drop, Error)]
-pub enum NetTextRefusal {
-    /// The first line that is refused; or one past the last line, where the text ends too early.
-    #[error("line {number} is refused: {why:?}")]
-    Line { number: u64, why: NetWhy },
-    #[error("out of memory")]
-    Memory,
-}
-
 /// Why a line isn't taken.
-#[derive(Clone, Copy, Debug)]
-pub enum Stop {
-    Refused(NetWhy),
-    Memory,
-}
+pub type Stop = text_lines::Stop<NetWhy>;

@@ -1,5 +1,5 @@
 -- A format is a machine over the lines that count: a state and a line give the next state, or the reason why the line is refused.
-use Rattle.std.specs.Prelude.{ℕ, List, [], ◌∷◌, Result, Ok, Err}
+use Rattle.std.specs.Prelude.{ℕ, List, [], ◌∷◌, Option, Some, None, Result, Ok, Err}
 use Rattle.text_lines.specs.Text.{Line, lines_left}
 
 pub record Format (State Value Reason : Type 0) : Type 0 where
@@ -7,6 +7,11 @@ pub record Format (State Value Reason : Type 0) : Type 0 where
   pub step : State → List ℕ → Result State Reason
   -- what is read, or why the text can't end here
   pub finish : State → Result Value Reason
+
+-- a step of a format that has no reasons
+abbrev pub goes_to : {A State : Type 0} → Option A → (A → State) → Result State (Unit {0})
+goes_to None f = Err tt
+goes_to (Some x) f = Ok (f x)
 
 pub record Refused (Reason : Type 0) : Type 0 where
   pub number : ℕ

@@ -10,8 +10,8 @@ use clause_listing::{Listing, list_clauses};
 use file_loads::lines::refused_line;
 use file_loads::outcome::{Outcome, Status};
 use file_loads::read::{FileKind, Load, read_file};
-use log_text::LogRefusal;
 use std::alloc::{AllocError, Global};
+use text_lines::LineRefusal;
 use vericon_edge::files::Files;
 
 /// What is said of blocks.
@@ -36,8 +36,8 @@ fn list_blocks(alloc: Global, name: &str, bytes: &[u8]) -> Result<Outcome, Alloc
 {
     match list_clauses(alloc, bytes) {
         Ok(listing) => Ok(listed(listing)),
-        Err(LogRefusal::Line { number }) => refused_line(alloc, name, number),
-        Err(LogRefusal::Memory) => Err(AllocError),
+        Err(LineRefusal::Line { number, .. }) => refused_line(alloc, name, number),
+        Err(LineRefusal::Memory) => Err(AllocError),
     }
 }
 

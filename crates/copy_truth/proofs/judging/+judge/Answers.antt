@@ -1,13 +1,10 @@
-use Rattle.std.proofs.Common.{◌≡◌, ◌<◌, ◌∙◌, arith, subst, sym}
+use Rattle.std.proofs.Common.{◌≡◌, ◌<◌, ◌∙◌, arith, subst}
 use Rattle.fol_forms.specs.Counts.{count_of}
 use Rattle.fol_forms.specs.Forms.{normal_form}
 use Rattle.ground_inst.specs.Walk.{scope}
 use Rattle.copy_truth.specs.Judged.{judged_bound}
 use Rattle.copy_truth.proofs.JudgeSteps.{all_judged, more_judged, one_judged}
 use Rattle.copy_truth.proofs.judging.+judge.Goals as goal
-
-pub judge_all-returns-then-sure-clause-value : goal.judge_all-returns-then-sure-clause-value
-judge_all-returns-then-sure-clause-value t c = sym (c.in_ok-sure.ensures.value c.if-sure.true (count_of c.args.base))
 
 pub judge_all-returns-then-not-value-clause-value : goal.judge_all-returns-then-not-value-clause-value
 judge_all-returns-then-not-value-clause-value t c =

@@ -21,7 +21,10 @@ abbrev pub decreases-judge_at : goal.decreases-judge_at
 decreases-judge_at l = 4 * nodes l.formula.now + 1
 
 abbrev pub decreases-judge_all : goal.decreases-judge_all
-decreases-judge_all l = 4 * nodes l.formula.now + 2
+decreases-judge_all l = 4 * nodes l.formula.now + 3
+
+abbrev pub decreases-judge_member : goal.decreases-judge_member
+decreases-judge_member l = 4 * nodes l.formula.now + 2
 
 abbrev pub decreases-judge_free : goal.decreases-judge_free
 decreases-judge_free l = 4 * nodes l.formula.now + 2

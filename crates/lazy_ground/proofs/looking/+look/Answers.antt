@@ -1,10 +1,11 @@
-use Rattle.std.proofs.Common.{◌≡◌, ◌<◌, ◌∙◌, refl, sym, subst, arith}
+use Rattle.std.proofs.Common.{◌≡◌, ◌<◌, ◌∙◌, refl, sym, ap, subst, arith}
 use Rattle.std.proofs.lemmas.Result.{IfOk-weaker, on_ok_weaker}
 use Rattle.fol_forms.specs.Forms.{normal_form}
 use Rattle.fol_forms.specs.Counts.{count_of}
-use Rattle.ground_inst.specs.Walk.{state_of}
+use Rattle.ground_inst.specs.Walk.{scope, state_of}
 use Rattle.lazy_ground.specs.Found.{Looks}
-use Rattle.lazy_ground.proofs.LookSteps.{both_from, either_kept, either_pushed, free_found, member_kept_from, member_pushed_from, row_more, row_whole}
+use Rattle.lazy_ground.proofs.LookSteps.{both_from, either_kept, either_pushed, free_found, member_kept_from, member_pushed_from, row_begun, row_more, row_whole}
+use Rattle.lazy_ground.proofs.PassSteps.{over, passed}
 use Rattle.lazy_ground.proofs.looking.+look.Goals as goal
 
 pub look_free-returns : goal.look_free-returns
@@ -12,12 +13,30 @@ look_free-returns t c =
     IfOk-weaker c.look_at.result _ _ (λ seen h. free_found c.args.r.now (normal_form c.args.sign c.args.formula.now) c.args.given c.args.var c.args.sort c.of-place.result (state_of c.args.work.now)
     (state_of (record { env = c.args.work.now.env; base = c.in_ok-work.field-0; next = c.args.work.now.next; rows = c.args.work.now.rows })) (state_of c.look_at.new.work) seen c.of-place.ensures refl c.in_ok-work.ensures refl refl h) c.look_at.ensures
 
+pub look_inside-returns-then-is_over : goal.look_inside-returns-then-is_over
+look_inside-returns-then-is_over t c =
+    over c.args.r.now (normal_form c.args.sign c.args.formula.now) c.args.count c.args.value (state_of c.args.work.now)
+    (state_of (record { env = c.args.work.now.env; base = c.in_ok-work-2.field-0; next = c.in_ok-work.field-0; rows = c.args.work.now.rows }))
+    refl c.in_ok-work-2.ensures c.in_ok-work.ensures refl c.requires.count (c.is_over.ensures.free c.if-is_over.true) (c.is_over.ensures.value c.if-is_over.true)
+
+pub look_place-returns-then-is_passed : goal.look_place-returns-then-is_passed
+look_place-returns-then-is_passed t c =
+    passed c.args.r.now (normal_form c.args.sign c.args.formula.now) c.args.members.var c.args.members.sort c.args.place c.args.members.number c.args.members.nodes c.args.asked (state_of c.args.work.now)
+    (state_of (record { env = c.args.work.now.env; base = c.args.work.now.base; next = c.in_ok-work.field-0; rows = c.args.work.now.rows }))
+    refl c.in_ok-work.ensures refl c.requires.nodes (c.is_passed.ensures.free c.if-is_passed.true)
+    (λ e. c.requires.candidates c.args.place c.requires.place (c.is_passed.ensures.certain c.if-is_passed.true e) (state_of c.args.work.now).base)
+
+pub look_into_all-places-init : goal.look_into_all-places-init
+look_into_all-places-init t c =
+    row_begun c.args.r.now (normal_form c.args.sign c.args.formula.now) c.args.var c.args.sort (state_of c.args.work.now) c.args.value _
+    (ap scope c.in_ok-candidates.ensures.env ∙ ap (λ z. z.env) c.in_ok-number.ensures.taken) (ap (λ z. z.next) c.in_ok-number.ensures.taken) (ap (λ z. z.out) c.in_ok-number.ensures.taken)
+
 pub look_into_all-places-preserved : goal.look_into_all-places-preserved
 look_into_all-places-preserved t c =
     let inside : c.places.place < count_of c.args.r.now.names.facts.now.counts c.args.sort = omega (arith, c.places-test.true, c.of-count.ensures) in
-    row_more c.args.r.now (normal_form c.args.sign c.args.formula.now) c.args.var c.args.sort (state_of c.args.work.now) c.args.value c.places.place c.in_ok-x.x c.places.asked c.in_ok-asked.asked (state_of c.places.work)
-    (state_of (record { env = c.places.work.env; base = c.args.work.now.base; next = c.places.work.next; rows = c.places.work.rows })) (state_of c.look_bound.new.work) (state_of c.look_bound.new.work)
-    c.places.invariant inside c.in_ok-x.ensures.number refl refl refl refl c.in_ok-asked.ensures refl refl refl
+    row_more c.args.r.now (normal_form c.args.sign c.args.formula.now) c.args.var c.args.sort (state_of c.args.work.now) c.args.value c.places.place c.in_ok-number.number c.places.asked c.in_ok-asked.asked (state_of c.places.work)
+    (state_of (record { env = c.places.work.env; base = c.args.work.now.base; next = c.places.work.next; rows = c.places.work.rows })) (state_of c.look_place.new.work) (state_of c.look_place.new.work)
+    c.places.invariant inside c.in_ok-number.ensures.number refl refl refl refl c.in_ok-asked.ensures refl refl refl
 
 pub look_into_all-returns : goal.look_into_all-returns
 look_into_all-returns t c =
