@@ -29,7 +29,7 @@ use Rattle.csdn_print.specs.Placeless.{bare_name, bare_command}
 use Rattle.csdn_print.specs.Steps.{bare_command-Seq, bare_command-If, bare_command-Pick}
 use Rattle.csdn_print.proofs.Prints.{Prints, is_single, CommandPrints}
 use Rattle.csdn_print.proofs.Lexing.{opens, opens-append, is_blank, IsWord, reserved, begin_is, end_is, colon_is, dot_is, semicolon_is}
-use Rattle.csdn_print.proofs.Lines.{Line, nil, gap, symbol, word, word as word_line, along, by, before, final}
+use Rattle.csdn_print.proofs.Lines.{Line, nil, gap, symbol, word, along, by, before, final}
 use Rattle.csdn_print.proofs.WordLines.{Again, name_line, row_again, sort_line}
 use Rattle.csdn_print.proofs.FormulaLines.{SameAs, to_level, flow_again, packet_again}
 use Rattle.csdn_print.proofs.FormulaTexts.{formula_reads, room_of}
@@ -158,16 +158,16 @@ unfolding command_text CommandPrints
 skip_reads = single c.Skip (λ i blanks most d room at. record { value = c.Skip; line = by _ (inl refl) (gaps (32 ∷ i) at blanks (word (codes "skip") skip_is room refl (symbol semicolon_is room (gap 10 refl nil)))); same = refl })
 
 -- the word of a change and its terms, with more behind them
-change_line : {most d at : ℕ} {ss : List Symbol} {bytes bytes' : List ℕ} {r : RawRow} {vs : Values ss} (word : ChangeWord) → d ≤ most → Line most d (at + length (change_word word)) (part row here ∷ []) bytes (r, tt) → opens bytes ≡ true
-    → opens bytes' ≡ true → Line most d (at + length (change_word word ++ bytes)) ss bytes' vs → Line most d at (part action here ∷ ss) (change_word word ++ (bytes ++ bytes')) (a.Change word r.terms, vs)
-change_line change.Insert room r free free' more = before (by _ (inl refl) (word_line (codes "insert") insert_is room free (final r))) free' more
-change_line change.Remove room r free free' more = before (by _ (inr (inl refl)) (word_line (codes "remove") remove_is room free (final r))) free' more
+change_line : {most d at : ℕ} {ss : List Symbol} {bytes bytes' : List ℕ} {r : RawRow} {vs : Values ss} (which : ChangeWord) → d ≤ most → Line most d (at + length (change_word which)) (part row here ∷ []) bytes (r, tt) → opens bytes ≡ true
+    → opens bytes' ≡ true → Line most d (at + length (change_word which ++ bytes)) ss bytes' vs → Line most d at (part action here ∷ ss) (change_word which ++ (bytes ++ bytes')) (a.Change which r.terms, vs)
+change_line change.Insert room r free free' more = before (by _ (inl refl) (word (codes "insert") insert_is room free (final r))) free' more
+change_line change.Remove room r free free' more = before (by _ (inr (inl refl)) (word (codes "remove") remove_is room free (final r))) free' more
 
-switch_line : {most d at : ℕ} {ss : List Symbol} {bytes bytes' : List ℕ} {ts : FlowTerms} {vs : Values ss} (word : SwitchWord) → d ≤ most → Line most d (at + length (switch_word word)) (part flow here ∷ []) bytes (ts, tt) → opens bytes ≡ true
-    → opens bytes' ≡ true → Line most d (at + length (switch_word word ++ bytes)) ss bytes' vs → Line most d at (part action here ∷ ss) (switch_word word ++ (bytes ++ bytes')) (a.Switch word ts, vs)
-switch_line switch.Install room r free free' more = before (by _ (inr (inr (inl refl))) (word_line (codes "install") install_is room free (final r))) free' more
-switch_line switch.Uninstall room r free free' more = before (by _ (inr (inr (inr (inl refl)))) (word_line (codes "uninstall") uninstall_is room free (final r))) free' more
-switch_line switch.Forward room r free free' more = before (by _ (inr (inr (inr (inr (inl refl))))) (word_line (codes "forward") forward_is room free (final r))) free' more
+switch_line : {most d at : ℕ} {ss : List Symbol} {bytes bytes' : List ℕ} {ts : FlowTerms} {vs : Values ss} (which : SwitchWord) → d ≤ most → Line most d (at + length (switch_word which)) (part flow here ∷ []) bytes (ts, tt) → opens bytes ≡ true
+    → opens bytes' ≡ true → Line most d (at + length (switch_word which ++ bytes)) ss bytes' vs → Line most d at (part action here ∷ ss) (switch_word which ++ (bytes ++ bytes')) (a.Switch which ts, vs)
+switch_line switch.Install room r free free' more = before (by _ (inr (inr (inl refl))) (word (codes "install") install_is room free (final r))) free' more
+switch_line switch.Uninstall room r free free' more = before (by _ (inr (inr (inr (inl refl)))) (word (codes "uninstall") uninstall_is room free (final r))) free' more
+switch_line switch.Forward room r free free' more = before (by _ (inr (inr (inr (inr (inl refl))))) (word (codes "forward") forward_is room free (final r))) free' more
 
 change_reads : (word : ChangeWord) (x : RawName) (us : List RawTerm) → CommandReads (c.Change word x us)
 unfolding command_text CommandPrints bare_command

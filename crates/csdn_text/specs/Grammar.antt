@@ -1,6 +1,5 @@
 -- The grammar: for each nonterminal its right sides, each with the value that it gives.
 use Rattle.std.specs.Prelude.{List, [], ◌∷◌, Option, Some, None, true, false}
-use Rattle.csdn_core.specs.declared.terms.Sort.{Sort}
 use Rattle.csdn_core.specs.declared.terms.Sort.TheVariants as s
 use Rattle.csdn_tokens.specs.declared.Kind.{Kind}
 use Rattle.csdn_tokens.specs.declared.Kind.TheVariants as k
