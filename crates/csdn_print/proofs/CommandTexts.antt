@@ -7,17 +7,24 @@ use Rattle.csdn_tokens.specs.declared.Kind.TheVariants as k
 use Rattle.csdn_tokens.specs.Lex.{word_kind}
 use Rattle.csdn_tree.specs.declared.names.RawName.{RawName}
 use Rattle.csdn_tree.specs.declared.names.RawTerm.{RawTerm}
+use Rattle.csdn_tree.specs.declared.syntax.ChangeWord.{ChangeWord}
+use Rattle.csdn_tree.specs.declared.syntax.ChangeWord.TheVariants as change
 use Rattle.csdn_tree.specs.declared.syntax.RawFlow.{RawFlow}
 use Rattle.csdn_tree.specs.declared.syntax.RawPacket.{RawPacket}
 use Rattle.csdn_tree.specs.declared.syntax.RawFormula.{RawFormula}
 use Rattle.csdn_tree.specs.declared.syntax.RawCommand.{RawCommand}
 use Rattle.csdn_tree.specs.declared.syntax.RawCommand.TheVariants as c
+use Rattle.csdn_tree.specs.declared.syntax.RawRow.{RawRow}
+use Rattle.csdn_tree.specs.declared.syntax.SwitchWord.{SwitchWord}
+use Rattle.csdn_tree.specs.declared.syntax.SwitchWord.TheVariants as switch
 use Rattle.csdn_tree.specs.RawTree.{raw_seq, raw_if, raw_pick}
-use Rattle.csdn_text.specs.Symbols.{Values, Symbol, block, commands, command, otherwise, formula}
+use Rattle.csdn_text.specs.declared.parts.Action.TheVariants as a
+use Rattle.csdn_text.specs.declared.parts.FlowTerms.{FlowTerms}
+use Rattle.csdn_text.specs.Symbols.{Values, Symbol, here, part, row, flow, action, block, commands, command, otherwise, formula}
 use Rattle.csdn_print.specs.declared.forms.Lead.TheVariants.{Nothing}
 use Rattle.csdn_print.specs.Words.{sort_text}
 use Rattle.csdn_print.specs.Formulas.{level, formula_text}
-use Rattle.csdn_print.specs.Commands.{inner, is_skip, block_text, otherwise_text, command_text}
+use Rattle.csdn_print.specs.Commands.{inner, is_skip, block_text, otherwise_text, change_word, switch_word, command_text}
 use Rattle.csdn_print.specs.Placeless.{bare_name, bare_command}
 use Rattle.csdn_print.specs.Steps.{bare_command-Seq, bare_command-If, bare_command-Pick}
 use Rattle.csdn_print.proofs.Prints.{Prints, is_single, CommandPrints}
@@ -99,11 +106,8 @@ command_room d c.Skip h = h
 command_room d (raw_seq a b) h = command_room d a h.1.0
 command_room d (raw_if p a b) h = let e = command_room (d + 1) a h.1.0 in omega (arith, e)
 command_room d (raw_pick x s p a b) h = let e = command_room (d + 1) a h.1.1.0 in omega (arith, e)
-command_room d (c.Insert x us) h = h.0
-command_room d (c.Remove x us) h = h.0
-command_room d (c.Install ts) h = h.0
-command_room d (c.Uninstall ts) h = h.0
-command_room d (c.Forward ts) h = h.0
+command_room d (c.Change word x us) h = h.0
+command_room d (c.Switch word ts) h = h.0
 command_room d (c.Flood ts) h = h.0
 
 pub block_again : {most : ℕ} {body : List ℕ} (x : RawCommand) (d : ℕ) (indent : List ℕ) → list_all is_blank indent ≡ true → opens (indent ++ (125 ∷ [])) ≡ true → d + 1 ≤ most
@@ -118,11 +122,8 @@ skip_is_skip c.Skip h = refl
 skip_is_skip (raw_seq a b) h = absurd cc
 skip_is_skip (raw_if p a b) h = absurd cc
 skip_is_skip (raw_pick x s p a b) h = absurd cc
-skip_is_skip (c.Insert x us) h = absurd cc
-skip_is_skip (c.Remove x us) h = absurd cc
-skip_is_skip (c.Install ts) h = absurd cc
-skip_is_skip (c.Uninstall ts) h = absurd cc
-skip_is_skip (c.Forward ts) h = absurd cc
+skip_is_skip (c.Change word x us) h = absurd cc
+skip_is_skip (c.Switch word ts) h = absurd cc
 skip_is_skip (c.Flood ts) h = absurd cc
 
 opens_otherwise : (indent : List ℕ) (plain : Bool) (other : List ℕ) → opens (otherwise_text indent plain other ++ (10 ∷ [])) ≡ true
@@ -156,62 +157,39 @@ skip_reads : CommandReads c.Skip
 unfolding command_text CommandPrints
 skip_reads = single c.Skip (λ i blanks most d room at. record { value = c.Skip; line = by _ (inl refl) (gaps (32 ∷ i) at blanks (word (codes "skip") skip_is room refl (symbol semicolon_is room (gap 10 refl nil)))); same = refl })
 
-insert_reads : (x : RawName) (us : List RawTerm) → CommandReads (c.Insert x us)
+-- the word of a change and its terms, with more behind them
+change_line : {most d at : ℕ} {ss : List Symbol} {bytes bytes' : List ℕ} {r : RawRow} {vs : Values ss} (which : ChangeWord) → d ≤ most → Line most d (at + length (change_word which)) (part row here ∷ []) bytes (r, tt) → opens bytes ≡ true
+    → opens bytes' ≡ true → Line most d (at + length (change_word which ++ bytes)) ss bytes' vs → Line most d at (part action here ∷ ss) (change_word which ++ (bytes ++ bytes')) (a.Change which r.terms, vs)
+change_line change.Insert room r free free' more = before (by _ (inl refl) (word (codes "insert") insert_is room free (final r))) free' more
+change_line change.Remove room r free free' more = before (by _ (inr (inl refl)) (word (codes "remove") remove_is room free (final r))) free' more
+
+switch_line : {most d at : ℕ} {ss : List Symbol} {bytes bytes' : List ℕ} {ts : FlowTerms} {vs : Values ss} (which : SwitchWord) → d ≤ most → Line most d (at + length (switch_word which)) (part flow here ∷ []) bytes (ts, tt) → opens bytes ≡ true
+    → opens bytes' ≡ true → Line most d (at + length (switch_word which ++ bytes)) ss bytes' vs → Line most d at (part action here ∷ ss) (switch_word which ++ (bytes ++ bytes')) (a.Switch which ts, vs)
+switch_line switch.Install room r free free' more = before (by _ (inr (inr (inl refl))) (word (codes "install") install_is room free (final r))) free' more
+switch_line switch.Uninstall room r free free' more = before (by _ (inr (inr (inr (inl refl)))) (word (codes "uninstall") uninstall_is room free (final r))) free' more
+switch_line switch.Forward room r free free' more = before (by _ (inr (inr (inr (inr (inl refl))))) (word (codes "forward") forward_is room free (final r))) free' more
+
+change_reads : (word : ChangeWord) (x : RawName) (us : List RawTerm) → CommandReads (c.Change word x us)
 unfolding command_text CommandPrints bare_command
-insert_reads x us = single (c.Insert x us) (λ i blanks most d h at.
+change_reads word x us = single (c.Change word x us) (λ i blanks most d h at.
     let start = at + length (32 ∷ i) in
-    let a = row_again us h.0 h.1.1 (start + length x.text + 1 + 6) in
+    let a = row_again us h.0 h.1.1 (start + length x.text + 1 + length (change_word word)) in
     record {
-      value = c.Insert (record { at = start; text = x.text }) a.value.terms;
-      line = by _ (inr (inr (inr (inl refl)))) (gaps (32 ∷ i) at blanks (before (name_line x h.0 h.1.0) refl (symbol dot_is h.0 (before (by _ (inl refl) (word (codes "insert") insert_is h.0 refl (final a.line))) refl (symbol semicolon_is h.0 (gap 10 refl nil))))));
-      same = ap (c.Insert (bare_name x)) a.same;
+      value = c.Change word (record { at = start; text = x.text }) a.value.terms;
+      line = by _ (inr (inr (inr (inl refl)))) (gaps (32 ∷ i) at blanks (before (name_line x h.0 h.1.0) refl (symbol dot_is h.0 (change_line word h.0 a.line refl refl (symbol semicolon_is h.0 (gap 10 refl nil))))));
+      same = ap (c.Change word (bare_name x)) a.same;
     })
 
-remove_reads : (x : RawName) (us : List RawTerm) → CommandReads (c.Remove x us)
+switch_reads : (word : SwitchWord) (ts : RawFlow) → CommandReads (c.Switch word ts)
 unfolding command_text CommandPrints bare_command
-remove_reads x us = single (c.Remove x us) (λ i blanks most d h at.
-    let start = at + length (32 ∷ i) in
-    let a = row_again us h.0 h.1.1 (start + length x.text + 1 + 6) in
-    record {
-      value = c.Remove (record { at = start; text = x.text }) a.value.terms;
-      line = by _ (inr (inr (inr (inl refl)))) (gaps (32 ∷ i) at blanks (before (name_line x h.0 h.1.0) refl (symbol dot_is h.0 (before (by _ (inr (inl refl)) (word (codes "remove") remove_is h.0 refl (final a.line))) refl (symbol semicolon_is h.0 (gap 10 refl nil))))));
-      same = ap (c.Remove (bare_name x)) a.same;
-    })
-
-install_reads : (ts : RawFlow) → CommandReads (c.Install ts)
-unfolding command_text CommandPrints bare_command
-install_reads ts = single (c.Install ts) (λ i blanks most d h at.
+switch_reads word ts = single (c.Switch word ts) (λ i blanks most d h at.
     let start = at + length (32 ∷ i) in
     let x : RawName = record { at = start; text = ts.switch.text } in
-    let a = flow_again x ts h.0 h.1 (start + length ts.switch.text + 1 + 7) in
+    let a = flow_again x ts h.0 h.1 (start + length ts.switch.text + 1 + length (switch_word word)) in
     record {
       value = _;
-      line = by _ (inr (inr (inr (inl refl)))) (gaps (32 ∷ i) at blanks (before (name_line ts.switch h.0 h.1.0) refl (symbol dot_is h.0 (before (by _ (inr (inr (inl refl))) (word (codes "install") install_is h.0 refl (final a.line))) refl (symbol semicolon_is h.0 (gap 10 refl nil))))));
-      same = ap c.Install a.same;
-    })
-
-uninstall_reads : (ts : RawFlow) → CommandReads (c.Uninstall ts)
-unfolding command_text CommandPrints bare_command
-uninstall_reads ts = single (c.Uninstall ts) (λ i blanks most d h at.
-    let start = at + length (32 ∷ i) in
-    let x : RawName = record { at = start; text = ts.switch.text } in
-    let a = flow_again x ts h.0 h.1 (start + length ts.switch.text + 1 + 9) in
-    record {
-      value = _;
-      line = by _ (inr (inr (inr (inl refl)))) (gaps (32 ∷ i) at blanks (before (name_line ts.switch h.0 h.1.0) refl (symbol dot_is h.0 (before (by _ (inr (inr (inr (inl refl)))) (word (codes "uninstall") uninstall_is h.0 refl (final a.line))) refl (symbol semicolon_is h.0 (gap 10 refl nil))))));
-      same = ap c.Uninstall a.same;
-    })
-
-forward_reads : (ts : RawFlow) → CommandReads (c.Forward ts)
-unfolding command_text CommandPrints bare_command
-forward_reads ts = single (c.Forward ts) (λ i blanks most d h at.
-    let start = at + length (32 ∷ i) in
-    let x : RawName = record { at = start; text = ts.switch.text } in
-    let a = flow_again x ts h.0 h.1 (start + length ts.switch.text + 1 + 7) in
-    record {
-      value = _;
-      line = by _ (inr (inr (inr (inl refl)))) (gaps (32 ∷ i) at blanks (before (name_line ts.switch h.0 h.1.0) refl (symbol dot_is h.0 (before (by _ (inr (inr (inr (inr (inl refl))))) (word (codes "forward") forward_is h.0 refl (final a.line))) refl (symbol semicolon_is h.0 (gap 10 refl nil))))));
-      same = ap c.Forward a.same;
+      line = by _ (inr (inr (inr (inl refl)))) (gaps (32 ∷ i) at blanks (before (name_line ts.switch h.0 h.1.0) refl (symbol dot_is h.0 (switch_line word h.0 a.line refl refl (symbol semicolon_is h.0 (gap 10 refl nil))))));
+      same = ap (c.Switch word) a.same;
     })
 
 flood_reads : (ts : RawPacket) → CommandReads (c.Flood ts)
@@ -269,11 +247,8 @@ opens_command i c.Skip = refl
 opens_command i (raw_seq a b) = opens-append (command_text (32 ∷ i) a) (command_text (32 ∷ i) b) (opens_command i a) (opens_command i b)
 opens_command i (raw_if p a b) = refl
 opens_command i (raw_pick x s p a b) = refl
-opens_command i (c.Insert x us) = refl
-opens_command i (c.Remove x us) = refl
-opens_command i (c.Install ts) = refl
-opens_command i (c.Uninstall ts) = refl
-opens_command i (c.Forward ts) = refl
+opens_command i (c.Change word x us) = refl
+opens_command i (c.Switch word ts) = refl
 opens_command i (c.Flood ts) = refl
 
 seq_reads : (a b : RawCommand) → CommandReads a → CommandReads b → CommandReads (raw_seq a b)
@@ -296,9 +271,6 @@ command_reads c.Skip = skip_reads
 command_reads (raw_seq a b) = seq_reads a b (command_reads a) (command_reads b)
 command_reads (raw_if p a b) = if_reads p a b (command_reads a) (command_reads b)
 command_reads (raw_pick x s p a b) = pick_reads x s p a b (command_reads a) (command_reads b)
-command_reads (c.Insert x us) = insert_reads x us
-command_reads (c.Remove x us) = remove_reads x us
-command_reads (c.Install ts) = install_reads ts
-command_reads (c.Uninstall ts) = uninstall_reads ts
-command_reads (c.Forward ts) = forward_reads ts
+command_reads (c.Change word x us) = change_reads word x us
+command_reads (c.Switch word ts) = switch_reads word ts
 command_reads (c.Flood ts) = flood_reads ts

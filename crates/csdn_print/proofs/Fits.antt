@@ -143,11 +143,8 @@ atom_prints most d x (r.Flow at word ts) h i j = (h, (i, j))
 atom_prints most d x (r.RcvThis at ts) h i j = (h, (i, j))
 
 abbrev ActionPrints : Action → Type 0
-ActionPrints (a.Insert ts) = TermsPrint ts
-ActionPrints (a.Remove ts) = TermsPrint ts
-ActionPrints (a.Install ts) = FlowTermsPrint ts
-ActionPrints (a.Uninstall ts) = FlowTermsPrint ts
-ActionPrints (a.Forward ts) = FlowTermsPrint ts
+ActionPrints (a.Change word ts) = TermsPrint ts
+ActionPrints (a.Switch word ts) = FlowTermsPrint ts
 ActionPrints (a.Flood ts) = PacketTermsPrint ts
 
 -- a command that prints, and is no row of commands
@@ -156,11 +153,8 @@ SinglePrints most d x = (is_single x ≡ true) × CommandPrints most d x
 
 action_prints : (most d : ℕ) (x : RawName) (act : Action) → d ≤ most → NamePrints x → ActionPrints act → SinglePrints most d (command_of x act)
 unfolding CommandPrints is_single
-action_prints most d x (a.Insert ts) h i j = (refl, (h, (i, j)))
-action_prints most d x (a.Remove ts) h i j = (refl, (h, (i, j)))
-action_prints most d x (a.Install ts) h i j = (refl, (h, (i, j)))
-action_prints most d x (a.Uninstall ts) h i j = (refl, (h, (i, j)))
-action_prints most d x (a.Forward ts) h i j = (refl, (h, (i, j)))
+action_prints most d x (a.Change word ts) h i j = (refl, (h, (i, j)))
+action_prints most d x (a.Switch word ts) h i j = (refl, (h, (i, j)))
 action_prints most d x (a.Flood ts) h i j = (refl, (h, (i, j)))
 
 skip_prints : (most d : ℕ) → d ≤ most → SinglePrints most d c.Skip

@@ -68,11 +68,8 @@ is_single c.Skip = true
 is_single (raw_seq a b) = false
 is_single (raw_if p a b) = true
 is_single (raw_pick x s p a b) = true
-is_single (c.Insert x us) = true
-is_single (c.Remove x us) = true
-is_single (c.Install ts) = true
-is_single (c.Uninstall ts) = true
-is_single (c.Forward ts) = true
+is_single (c.Change word x us) = true
+is_single (c.Switch word ts) = true
 is_single (c.Flood ts) = true
 
 unfoldable pub CommandPrints : (most d : ℕ) → RawCommand → Type 0
@@ -80,11 +77,8 @@ CommandPrints most d c.Skip = d ≤ most
 CommandPrints most d (raw_seq a b) = (is_single a ≡ true) × (CommandPrints most d a × CommandPrints most (d + 1) b)
 CommandPrints most d (raw_if p a b) = Prints most d p × (CommandPrints most (d + 1) a × (is_skip b ≡ false → CommandPrints most (d + 1) b))
 CommandPrints most d (raw_pick x s p a b) = NamePrints x × (Prints most d p × (CommandPrints most (d + 1) a × (is_skip b ≡ false → CommandPrints most (d + 1) b)))
-CommandPrints most d (c.Insert x us) = (d ≤ most) × (NamePrints x × TermsPrint us)
-CommandPrints most d (c.Remove x us) = (d ≤ most) × (NamePrints x × TermsPrint us)
-CommandPrints most d (c.Install ts) = (d ≤ most) × FlowPrints ts
-CommandPrints most d (c.Uninstall ts) = (d ≤ most) × FlowPrints ts
-CommandPrints most d (c.Forward ts) = (d ≤ most) × FlowPrints ts
+CommandPrints most d (c.Change word x us) = (d ≤ most) × (NamePrints x × TermsPrint us)
+CommandPrints most d (c.Switch word ts) = (d ≤ most) × FlowPrints ts
 CommandPrints most d (c.Flood ts) = (d ≤ most) × PacketPrints ts
 
 abbrev pub RowsPrint : List RawRow → Type 0

@@ -55,11 +55,8 @@ bare_command c.Skip = c.Skip
 bare_command (raw_seq a b) = c.Seq (bare_command a) (bare_command b)
 bare_command (raw_if p a b) = c.If (bare_formula p) (bare_command a) (bare_command b)
 bare_command (raw_pick x s p a b) = c.Pick (bare_name x) s (bare_formula p) (bare_command a) (bare_command b)
-bare_command (c.Insert x us) = c.Insert (bare_name x) (bare_terms us)
-bare_command (c.Remove x us) = c.Remove (bare_name x) (bare_terms us)
-bare_command (c.Install ts) = c.Install (bare_flow ts)
-bare_command (c.Uninstall ts) = c.Uninstall (bare_flow ts)
-bare_command (c.Forward ts) = c.Forward (bare_flow ts)
+bare_command (c.Change word x us) = c.Change word (bare_name x) (bare_terms us)
+bare_command (c.Switch word ts) = c.Switch word (bare_flow ts)
 bare_command (c.Flood ts) = c.Flood (bare_packet ts)
 
 abbrev pub bare_row : RawRow → RawRow

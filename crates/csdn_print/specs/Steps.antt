@@ -4,6 +4,7 @@ use Rattle.std.proofs.Common.{ap}
 use Rattle.csdn_core.specs.declared.terms.Sort.{Sort}
 use Rattle.csdn_tree.specs.declared.names.RawName.{RawName}
 use Rattle.csdn_tree.specs.declared.names.RawTerm.{RawTerm}
+use Rattle.csdn_tree.specs.declared.syntax.ChangeWord.{ChangeWord}
 use Rattle.csdn_tree.specs.declared.syntax.Connective.{Connective}
 use Rattle.csdn_tree.specs.declared.syntax.FlowWord.{FlowWord}
 use Rattle.csdn_tree.specs.declared.syntax.Quantifier.{Quantifier}
@@ -13,6 +14,7 @@ use Rattle.csdn_tree.specs.declared.syntax.RawFormula.{RawFormula}
 use Rattle.csdn_tree.specs.declared.syntax.RawFormula.TheVariants as f
 use Rattle.csdn_tree.specs.declared.syntax.RawCommand.{RawCommand}
 use Rattle.csdn_tree.specs.declared.syntax.RawCommand.TheVariants as c
+use Rattle.csdn_tree.specs.declared.syntax.SwitchWord.{SwitchWord}
 use Rattle.csdn_tree.specs.RawTree.{Not-is, Two-is, Bind-is, Seq-is, If-is, Pick-is}
 use Rattle.csdn_tree.specs.declared.tiers.Tier.TheVariants.{Joins}
 use Rattle.csdn_tree.specs.Tiers.{left_of, right_of}
@@ -20,7 +22,7 @@ use Rattle.csdn_print.specs.declared.forms.Lead.{Lead}
 use Rattle.csdn_print.specs.declared.forms.Lead.TheVariants.{Nothing, Binds}
 use Rattle.csdn_print.specs.Words.{◌·◌, sort_text, term_text, terms_text, flow_text, packet_text}
 use Rattle.csdn_print.specs.Formulas.{tier_level, level, operand, lead_text, quantifier_text, connective_text, flow_word, formula_text}
-use Rattle.csdn_print.specs.Commands.{inner, is_skip, block_text, otherwise_text, command_text}
+use Rattle.csdn_print.specs.Commands.{inner, is_skip, block_text, otherwise_text, change_word, switch_word, command_text}
 use Rattle.csdn_print.specs.Placeless.{bare_name, bare_term, bare_terms, bare_flow, bare_packet, bare_formula, bare_command}
 
 pub level-True : level f.True ≡ 5
@@ -111,25 +113,13 @@ pub is_skip-Pick : (x : RawName) (s : Sort) (p : RawFormula) (a b : RawCommand) 
 unfolding is_skip
 is_skip-Pick x s p a b = rw Pick-is refl
 
-pub is_skip-Insert : (x : RawName) (us : List RawTerm) → is_skip (c.Insert x us) ≡ false
+pub is_skip-Change : (word : ChangeWord) (x : RawName) (us : List RawTerm) → is_skip (c.Change word x us) ≡ false
 unfolding is_skip
-is_skip-Insert x us = refl
+is_skip-Change word x us = refl
 
-pub is_skip-Remove : (x : RawName) (us : List RawTerm) → is_skip (c.Remove x us) ≡ false
+pub is_skip-Switch : (word : SwitchWord) (ts : RawFlow) → is_skip (c.Switch word ts) ≡ false
 unfolding is_skip
-is_skip-Remove x us = refl
-
-pub is_skip-Install : (ts : RawFlow) → is_skip (c.Install ts) ≡ false
-unfolding is_skip
-is_skip-Install ts = refl
-
-pub is_skip-Uninstall : (ts : RawFlow) → is_skip (c.Uninstall ts) ≡ false
-unfolding is_skip
-is_skip-Uninstall ts = refl
-
-pub is_skip-Forward : (ts : RawFlow) → is_skip (c.Forward ts) ≡ false
-unfolding is_skip
-is_skip-Forward ts = refl
+is_skip-Switch word ts = refl
 
 pub is_skip-Flood : (ts : RawPacket) → is_skip (c.Flood ts) ≡ false
 unfolding is_skip
@@ -151,25 +141,13 @@ pub command_text-Pick : (indent : List ℕ) (x : RawName) (s : Sort) (p : RawFor
 unfolding command_text
 command_text-Pick indent x s p a b = rw Pick-is
 
-pub command_text-Insert : (indent : List ℕ) (x : RawName) (us : List RawTerm) → command_text indent (c.Insert x us) ≡ indent · x.text · codes ".insert" · terms_text us · codes ";\n"
+pub command_text-Change : (indent : List ℕ) (word : ChangeWord) (x : RawName) (us : List RawTerm) → command_text indent (c.Change word x us) ≡ indent · x.text · codes "." · change_word word · terms_text us · codes ";\n"
 unfolding command_text
-command_text-Insert indent x us = refl
+command_text-Change indent word x us = refl
 
-pub command_text-Remove : (indent : List ℕ) (x : RawName) (us : List RawTerm) → command_text indent (c.Remove x us) ≡ indent · x.text · codes ".remove" · terms_text us · codes ";\n"
+pub command_text-Switch : (indent : List ℕ) (word : SwitchWord) (ts : RawFlow) → command_text indent (c.Switch word ts) ≡ indent · ts.switch.text · codes "." · switch_word word · flow_text ts · codes ";\n"
 unfolding command_text
-command_text-Remove indent x us = refl
-
-pub command_text-Install : (indent : List ℕ) (ts : RawFlow) → command_text indent (c.Install ts) ≡ indent · ts.switch.text · codes ".install" · flow_text ts · codes ";\n"
-unfolding command_text
-command_text-Install indent ts = refl
-
-pub command_text-Uninstall : (indent : List ℕ) (ts : RawFlow) → command_text indent (c.Uninstall ts) ≡ indent · ts.switch.text · codes ".uninstall" · flow_text ts · codes ";\n"
-unfolding command_text
-command_text-Uninstall indent ts = refl
-
-pub command_text-Forward : (indent : List ℕ) (ts : RawFlow) → command_text indent (c.Forward ts) ≡ indent · ts.switch.text · codes ".forward" · flow_text ts · codes ";\n"
-unfolding command_text
-command_text-Forward indent ts = refl
+command_text-Switch indent word ts = refl
 
 pub command_text-Flood : (indent : List ℕ) (ts : RawPacket) → command_text indent (c.Flood ts) ≡ indent · ts.switch.text · codes ".flood" · packet_text ts · codes ";\n"
 unfolding command_text
@@ -227,25 +205,13 @@ pub bare_command-Pick : (x : RawName) (s : Sort) (p : RawFormula) (a b : RawComm
 unfolding bare_command
 bare_command-Pick x s p a b = ap bare_command (Pick-is x s p a b)
 
-pub bare_command-Insert : (x : RawName) (us : List RawTerm) → bare_command (c.Insert x us) ≡ c.Insert (bare_name x) (bare_terms us)
+pub bare_command-Change : (word : ChangeWord) (x : RawName) (us : List RawTerm) → bare_command (c.Change word x us) ≡ c.Change word (bare_name x) (bare_terms us)
 unfolding bare_command
-bare_command-Insert x us = refl
+bare_command-Change word x us = refl
 
-pub bare_command-Remove : (x : RawName) (us : List RawTerm) → bare_command (c.Remove x us) ≡ c.Remove (bare_name x) (bare_terms us)
+pub bare_command-Switch : (word : SwitchWord) (ts : RawFlow) → bare_command (c.Switch word ts) ≡ c.Switch word (bare_flow ts)
 unfolding bare_command
-bare_command-Remove x us = refl
-
-pub bare_command-Install : (ts : RawFlow) → bare_command (c.Install ts) ≡ c.Install (bare_flow ts)
-unfolding bare_command
-bare_command-Install ts = refl
-
-pub bare_command-Uninstall : (ts : RawFlow) → bare_command (c.Uninstall ts) ≡ c.Uninstall (bare_flow ts)
-unfolding bare_command
-bare_command-Uninstall ts = refl
-
-pub bare_command-Forward : (ts : RawFlow) → bare_command (c.Forward ts) ≡ c.Forward (bare_flow ts)
-unfolding bare_command
-bare_command-Forward ts = refl
+bare_command-Switch word ts = refl
 
 pub bare_command-Flood : (ts : RawPacket) → bare_command (c.Flood ts) ≡ c.Flood (bare_packet ts)
 unfolding bare_command
@@ -253,6 +219,6 @@ bare_command-Flood ts = refl
 
 pub ruleset formula_steps = (level-True, level-False, level-Atom, level-Same, level-Flow, level-RcvThis, level-Not, level-Two, level-Bind, formula_text-True, formula_text-False, formula_text-Atom, formula_text-Same, formula_text-Flow, formula_text-RcvThis, formula_text-Not, formula_text-Two, formula_text-Bind)
 
-pub ruleset command_steps = (is_skip-Skip, is_skip-Seq, is_skip-If, is_skip-Pick, is_skip-Insert, is_skip-Remove, is_skip-Install, is_skip-Uninstall, is_skip-Forward, is_skip-Flood, command_text-Skip, command_text-Seq, command_text-If, command_text-Pick, command_text-Insert, command_text-Remove, command_text-Install, command_text-Uninstall, command_text-Forward, command_text-Flood)
+pub ruleset command_steps = (is_skip-Skip, is_skip-Seq, is_skip-If, is_skip-Pick, is_skip-Change, is_skip-Switch, is_skip-Flood, command_text-Skip, command_text-Seq, command_text-If, command_text-Pick, command_text-Change, command_text-Switch, command_text-Flood)
 
-pub ruleset bare_steps = (bare_formula-True, bare_formula-False, bare_formula-Atom, bare_formula-Same, bare_formula-Flow, bare_formula-RcvThis, bare_formula-Not, bare_formula-Two, bare_formula-Bind, bare_command-Skip, bare_command-Seq, bare_command-If, bare_command-Pick, bare_command-Insert, bare_command-Remove, bare_command-Install, bare_command-Uninstall, bare_command-Forward, bare_command-Flood)
+pub ruleset bare_steps = (bare_formula-True, bare_formula-False, bare_formula-Atom, bare_formula-Same, bare_formula-Flow, bare_formula-RcvThis, bare_formula-Not, bare_formula-Two, bare_formula-Bind, bare_command-Skip, bare_command-Seq, bare_command-If, bare_command-Pick, bare_command-Change, bare_command-Switch, bare_command-Flood)

@@ -13,7 +13,7 @@ use crate::formulas::put_formula;
 use crate::words::{put_bind, put_flow, put_packet, put_terms};
 use csdn_core::terms::Sort;
 use csdn_tree::names::{RawName, RawTerm};
-use csdn_tree::syntax::{RawCommand, RawFlow, RawFormula, RawPacket};
+use csdn_tree::syntax::{ChangeWord, RawCommand, RawFlow, RawFormula, RawPacket, SwitchWord};
 use std::alloc::{AllocError, Global};
 use text_lines::put_word;
 
@@ -25,11 +25,8 @@ fn is_skip(command: &RawCommand) -> bool
         RawCommand::Seq(_, _) => false,
         RawCommand::If(_, _, _) => false,
         RawCommand::Pick(_, _, _, _, _) => false,
-        RawCommand::Insert(_, _) => false,
-        RawCommand::Remove(_, _) => false,
-        RawCommand::Install(_) => false,
-        RawCommand::Uninstall(_) => false,
-        RawCommand::Forward(_) => false,
+        RawCommand::Change(_, _, _) => false,
+        RawCommand::Switch(_, _) => false,
         RawCommand::Flood(_) => false,
     }
 }
@@ -43,35 +40,56 @@ fn inner(alloc: Global, indent: &[u8]) -> Result<Vec<u8>, AllocError>
     Ok(spaces)
 }
 
-/// A change of a relation, with a dot before its word.
+fn change_word(word: ChangeWord) -> &'static [u8]
+    ensures { result.now ≡ spec.change_word word }
+{
+    match word {
+        ChangeWord::Insert => b"insert",
+        ChangeWord::Remove => b"remove",
+    }
+}
+
+fn switch_word(word: SwitchWord) -> &'static [u8]
+    ensures { result.now ≡ spec.switch_word word }
+{
+    match word {
+        SwitchWord::Install => b"install",
+        SwitchWord::Uninstall => b"uninstall",
+        SwitchWord::Forward => b"forward",
+    }
+}
+
+/// A change of a relation.
 fn put_change(
     out: &mut Vec<u8>,
     indent: &[u8],
+    word: ChangeWord,
     name: &RawName,
-    word: &[u8],
     terms: &[RawTerm],
 ) -> Result<(), AllocError>
-    ensures { OnOk result (out.new.items ≡ out.old.items ++ (indent.now · name.now.text · word.now · words.terms_text terms.now · codes ";\n")) }
+    ensures { OnOk result (out.new.items ≡ out.old.items ++ (indent.now · name.now.text · codes "." · spec.change_word word · words.terms_text terms.now · codes ";\n")) }
 {
     put_word(out, indent)?;
     put_word(out, name.text.as_slice())?;
-    put_word(out, word)?;
+    put_word(out, b".")?;
+    put_word(out, change_word(word))?;
     put_terms(out, terms)?;
     put_word(out, b";\n")
 }
 
-/// A command of a switch over two hosts and two ports, with a dot before its word.
-fn put_flow_command(
+/// A command of a switch over two hosts and two ports.
+fn put_switch(
     out: &mut Vec<u8>,
     indent: &[u8],
-    word: &[u8],
+    word: SwitchWord,
     flow: &RawFlow,
 ) -> Result<(), AllocError>
-    ensures { OnOk result (out.new.items ≡ out.old.items ++ (indent.now · flow.now.switch.text · word.now · words.flow_text flow.now · codes ";\n")) }
+    ensures { OnOk result (out.new.items ≡ out.old.items ++ (indent.now · flow.now.switch.text · codes "." · spec.switch_word word · words.flow_text flow.now · codes ";\n")) }
 {
     put_word(out, indent)?;
     put_word(out, flow.switch.text.as_slice())?;
-    put_word(out, word)?;
+    put_word(out, b".")?;
+    put_word(out, switch_word(word))?;
     put_flow(out, flow)?;
     put_word(out, b";\n")
 }
@@ -139,23 +157,10 @@ pub fn put_command(
         RawCommand::Pick(name, sort, p, a, b) => {
             put_pick(alloc, out, indent, name, *sort, p.get(), a.get(), b.get())
         }
-        RawCommand::Insert(name, terms) => put_change(
-            out,
-            indent,
-            name,
-            b".insert",
-            terms.as_slice(),
-        ),
-        RawCommand::Remove(name, terms) => put_change(
-            out,
-            indent,
-            name,
-            b".remove",
-            terms.as_slice(),
-        ),
-        RawCommand::Install(flow) => put_flow_command(out, indent, b".install", flow),
-        RawCommand::Uninstall(flow) => put_flow_command(out, indent, b".uninstall", flow),
-        RawCommand::Forward(flow) => put_flow_command(out, indent, b".forward", flow),
+        RawCommand::Change(word, name, terms) => {
+            put_change(out, indent, *word, name, terms.as_slice())
+        }
+        RawCommand::Switch(word, flow) => put_switch(out, indent, *word, flow),
         RawCommand::Flood(packet) => put_flood(out, indent, packet),
     }
 }

@@ -1,5 +1,5 @@
 -- A text reads as one tree, or is refused for one reason, and not both.
-use Rattle.std.proofs.Common.{◌≡◌, ℕ, ◌+◌, inl, inr, List, [], ◌∷◌, ◌++◌, Bool, true, false, ltb, Result, Ok, Err, MatchResult, refl, subst, ap, ◌∙◌, append_assoc, length, arith}
+use Rattle.std.proofs.Common.{◌≡◌, ℕ, inl, inr, List, [], ◌∷◌, ◌++◌, Bool, true, false, ltb, Result, Ok, Err, MatchResult, refl, subst, ap, ◌∙◌, append_assoc, length, arith}
 use Rattle.std.proofs.lemmas.Bool.{ltb-true, ltb-false}
 use Rattle.std.proofs.lemmas.Result.{MatchResult-weaker}
 use Rattle.csdn_tokens.specs.Lex.{Lexes}

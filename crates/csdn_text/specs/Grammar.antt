@@ -1,6 +1,5 @@
 -- The grammar: for each nonterminal its right sides, each with the value that it gives.
 use Rattle.std.specs.Prelude.{List, [], ◌∷◌, Option, Some, None, true, false}
-use Rattle.csdn_core.specs.declared.terms.Sort.{Sort}
 use Rattle.csdn_core.specs.declared.terms.Sort.TheVariants as s
 use Rattle.csdn_tokens.specs.declared.Kind.{Kind}
 use Rattle.csdn_tokens.specs.declared.Kind.TheVariants as k
@@ -8,6 +7,7 @@ use Rattle.csdn_tokens.specs.declared.Token.{Token}
 use Rattle.csdn_tree.specs.declared.names.RawName.{RawName}
 use Rattle.csdn_tree.specs.declared.names.RawNumeral.{RawNumeral}
 use Rattle.csdn_tree.specs.declared.names.RawTerm.TheVariants as t
+use Rattle.csdn_tree.specs.declared.syntax.ChangeWord.TheVariants as change
 use Rattle.csdn_tree.specs.declared.syntax.Connective.{Connective}
 use Rattle.csdn_tree.specs.declared.syntax.Connective.TheVariants as word
 use Rattle.csdn_tree.specs.declared.syntax.FlowWord.TheVariants as w
@@ -20,6 +20,7 @@ use Rattle.csdn_tree.specs.declared.syntax.RawFormula.TheVariants as f
 use Rattle.csdn_tree.specs.declared.syntax.RawItem.TheVariants as i
 use Rattle.csdn_tree.specs.declared.syntax.RawPacket.{RawPacket}
 use Rattle.csdn_tree.specs.declared.syntax.RawPattern.TheVariants as p
+use Rattle.csdn_tree.specs.declared.syntax.SwitchWord.TheVariants as switch
 use Rattle.csdn_tree.specs.declared.syntax.RawTimeout.{RawTimeout}
 use Rattle.csdn_text.specs.declared.parts.Action.{Action}
 use Rattle.csdn_text.specs.declared.parts.Action.TheVariants as a
@@ -77,11 +78,8 @@ atom_of x (r.RcvThis at ts) = f.RcvThis at (packet_of x ts)
 
 -- the command of a name and what is done
 abbrev pub command_of : RawName → Action → RawCommand
-command_of x (a.Insert ts) = c.Insert x ts
-command_of x (a.Remove ts) = c.Remove x ts
-command_of x (a.Install ts) = c.Install (flow_of x ts)
-command_of x (a.Uninstall ts) = c.Uninstall (flow_of x ts)
-command_of x (a.Forward ts) = c.Forward (flow_of x ts)
+command_of x (a.Change word ts) = c.Change word x ts
+command_of x (a.Switch word ts) = c.Switch word (flow_of x ts)
 command_of x (a.Flood ts) = c.Flood (packet_of x ts)
 
 abbrev pub rules : (n : Nonterminal) → Rules n
@@ -284,11 +282,11 @@ rules otherwise = record {
   last = rule [] c.Skip;
 }
 rules action = record {
-  led = rule (token k.Insert here ∷ part row here ∷ []) (λ _ x. a.Insert x.terms)
-      ∷ rule (token k.Remove here ∷ part row here ∷ []) (λ _ x. a.Remove x.terms)
-      ∷ rule (token k.Install here ∷ part flow here ∷ []) (λ _ ts. a.Install ts)
-      ∷ rule (token k.Uninstall here ∷ part flow here ∷ []) (λ _ ts. a.Uninstall ts)
-      ∷ rule (token k.Forward here ∷ part flow here ∷ []) (λ _ ts. a.Forward ts)
+  led = rule (token k.Insert here ∷ part row here ∷ []) (λ _ x. a.Change change.Insert x.terms)
+      ∷ rule (token k.Remove here ∷ part row here ∷ []) (λ _ x. a.Change change.Remove x.terms)
+      ∷ rule (token k.Install here ∷ part flow here ∷ []) (λ _ ts. a.Switch switch.Install ts)
+      ∷ rule (token k.Uninstall here ∷ part flow here ∷ []) (λ _ ts. a.Switch switch.Uninstall ts)
+      ∷ rule (token k.Forward here ∷ part flow here ∷ []) (λ _ ts. a.Switch switch.Forward ts)
       ∷ [];
   last = rule (token k.Flood here ∷ part packet here ∷ []) (λ _ ts. a.Flood ts);
 }

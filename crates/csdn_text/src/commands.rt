@@ -8,7 +8,7 @@ use crate::build::{branching, choosing, followed};
 use crate::parser::Parser;
 use crate::parts::Action;
 use csdn_tokens::Kind;
-use csdn_tree::syntax::RawCommand;
+use csdn_tree::syntax::{ChangeWord, RawCommand, SwitchWord};
 use std::alloc::Global;
 
 impl<'a> Parser<'a> {
@@ -128,23 +128,23 @@ impl<'a> Parser<'a> {
         if self.next_is(Kind::Insert) {
             self.take(Kind::Insert, depth)?;
             let row = self.row(alloc, depth)?;
-            Ok(Action::Insert(row.terms))
+            Ok(Action::Change(ChangeWord::Insert, row.terms))
         } else if self.next_is(Kind::Remove) {
             self.take(Kind::Remove, depth)?;
             let row = self.row(alloc, depth)?;
-            Ok(Action::Remove(row.terms))
+            Ok(Action::Change(ChangeWord::Remove, row.terms))
         } else if self.next_is(Kind::Install) {
             self.take(Kind::Install, depth)?;
             let flow = self.flow(alloc, depth)?;
-            Ok(Action::Install(flow))
+            Ok(Action::Switch(SwitchWord::Install, flow))
         } else if self.next_is(Kind::Uninstall) {
             self.take(Kind::Uninstall, depth)?;
             let flow = self.flow(alloc, depth)?;
-            Ok(Action::Uninstall(flow))
+            Ok(Action::Switch(SwitchWord::Uninstall, flow))
         } else if self.next_is(Kind::Forward) {
             self.take(Kind::Forward, depth)?;
             let flow = self.flow(alloc, depth)?;
-            Ok(Action::Forward(flow))
+            Ok(Action::Switch(SwitchWord::Forward, flow))
         } else {
             self.take(Kind::Flood, depth)?;
             let packet = self.packet(alloc, depth)?;

@@ -4,7 +4,9 @@ ghost use Rattle.csdn_text.specs.Grammar as grammar;
 
 use csdn_tokens::Kind;
 use csdn_tree::names::{RawName, RawTerm, RawTerms};
-use csdn_tree::syntax::{Connective, FlowWord, RawCommand, RawFlow, RawFormula, RawPacket};
+use csdn_tree::syntax::{
+    ChangeWord, Connective, FlowWord, RawCommand, RawFlow, RawFormula, RawPacket, SwitchWord,
+};
 
 /// The kind of the word between two formulas.
 pub fn kind_of(word: Connective) -> Kind
@@ -133,22 +135,16 @@ impl AtomRest {
 
 /// What is done with the name with which a command begins.
 pub enum Action {
-    Insert(RawTerms),
-    Remove(RawTerms),
-    Install(FlowTerms),
-    Uninstall(FlowTerms),
-    Forward(FlowTerms),
+    Change(ChangeWord, RawTerms),
+    Switch(SwitchWord, FlowTerms),
     Flood(PacketTerms),
 }
 
 impl Drop for Action {
     fn drop(self) {
         match self {
-            Action::Insert(_terms) => {}
-            Action::Remove(_terms) => {}
-            Action::Install(_terms) => {}
-            Action::Uninstall(_terms) => {}
-            Action::Forward(_terms) => {}
+            Action::Change(_word, _terms) => {}
+            Action::Switch(_word, _terms) => {}
             Action::Flood(_terms) => {}
         }
     }
@@ -160,11 +156,8 @@ impl Action {
         ensures { result ≡ grammar.command_of name self }
     {
         match self {
-            Action::Insert(terms) => RawCommand::Insert(name, terms),
-            Action::Remove(terms) => RawCommand::Remove(name, terms),
-            Action::Install(terms) => RawCommand::Install(terms.flow_of(name)),
-            Action::Uninstall(terms) => RawCommand::Uninstall(terms.flow_of(name)),
-            Action::Forward(terms) => RawCommand::Forward(terms.flow_of(name)),
+            Action::Change(word, terms) => RawCommand::Change(word, name, terms),
+            Action::Switch(word, terms) => RawCommand::Switch(word, terms.flow_of(name)),
             Action::Flood(terms) => RawCommand::Flood(terms.packet_of(name)),
         }
     }

@@ -4,8 +4,10 @@ use Rattle.csdn_core.specs.declared.terms.Sort.{Sort}
 use Rattle.csdn_tree.specs.declared.names.RawName.{RawName}
 use Rattle.csdn_tree.specs.declared.names.RawTerm.{RawTerm}
 use Rattle.csdn_tree.specs.declared.syntax.FlowWord.{FlowWord}
+use Rattle.csdn_tree.specs.declared.syntax.SwitchWord.{SwitchWord}
 use Rattle.csdn_tree.specs.declared.syntax.RawFlow.{RawFlow}
 use Rattle.csdn_tree.specs.declared.syntax.RawPacket.{RawPacket}
+use Rattle.csdn_tree.specs.declared.syntax.ChangeWord.{ChangeWord}
 use Rattle.csdn_tree.specs.declared.syntax.Connective.{Connective}
 use Rattle.csdn_tree.specs.declared.syntax.Quantifier.{Quantifier}
 use Rattle.csdn_tree.specs.declared.syntax.RawFormula.{RawFormula}
@@ -67,28 +69,16 @@ pub command_binders-Pick : (name : RawName) (sort : Sort) (p : RawFormula) (a b 
 unfolding command_binders
 command_binders-Pick name sort p a b = rw Pick-is
 
-pub command_binders-Insert : (name : RawName) (us : List RawTerm) → command_binders (c.Insert name us) ≡ 0
+pub command_binders-Change : (word : ChangeWord) (name : RawName) (us : List RawTerm) → command_binders (c.Change word name us) ≡ 0
 unfolding command_binders
-command_binders-Insert name us = refl
+command_binders-Change word name us = refl
 
-pub command_binders-Remove : (name : RawName) (us : List RawTerm) → command_binders (c.Remove name us) ≡ 0
+pub command_binders-Switch : (word : SwitchWord) (w : RawFlow) → command_binders (c.Switch word w) ≡ 0
 unfolding command_binders
-command_binders-Remove name us = refl
-
-pub command_binders-Install : (w : RawFlow) → command_binders (c.Install w) ≡ 0
-unfolding command_binders
-command_binders-Install w = refl
-
-pub command_binders-Uninstall : (w : RawFlow) → command_binders (c.Uninstall w) ≡ 0
-unfolding command_binders
-command_binders-Uninstall w = refl
-
-pub command_binders-Forward : (w : RawFlow) → command_binders (c.Forward w) ≡ 0
-unfolding command_binders
-command_binders-Forward w = refl
+command_binders-Switch word w = refl
 
 pub command_binders-Flood : (w : RawPacket) → command_binders (c.Flood w) ≡ 0
 unfolding command_binders
 command_binders-Flood w = refl
 
-pub ruleset binder_steps = (binders-True, binders-False, binders-Atom, binders-Same, binders-Flow, binders-RcvThis, binders-Not, binders-Two, binders-Bind, command_binders-Skip, command_binders-Seq, command_binders-If, command_binders-Pick, command_binders-Insert, command_binders-Remove, command_binders-Install, command_binders-Uninstall, command_binders-Forward, command_binders-Flood)
+pub ruleset binder_steps = (binders-True, binders-False, binders-Atom, binders-Same, binders-Flow, binders-RcvThis, binders-Not, binders-Two, binders-Bind, command_binders-Skip, command_binders-Seq, command_binders-If, command_binders-Pick, command_binders-Change, command_binders-Switch, command_binders-Flood)

@@ -26,11 +26,8 @@ command_binders c.Skip = 0
 command_binders (raw_seq a b) = command_binders a + command_binders b
 command_binders (raw_if p a b) = binders p + (command_binders a + command_binders b)
 command_binders (raw_pick name sort p a b) = (1 + binders p) + (command_binders a + command_binders b)
-command_binders (c.Insert name us) = 0
-command_binders (c.Remove name us) = 0
-command_binders (c.Install w) = 0
-command_binders (c.Uninstall w) = 0
-command_binders (c.Forward w) = 0
+command_binders (c.Change word name us) = 0
+command_binders (c.Switch word w) = 0
 command_binders (c.Flood w) = 0
 
 -- .. and an item: a handler binds four besides those of its body

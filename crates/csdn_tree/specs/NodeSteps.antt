@@ -4,8 +4,10 @@ use Rattle.csdn_core.specs.declared.terms.Sort.{Sort}
 use Rattle.csdn_tree.specs.declared.names.RawName.{RawName}
 use Rattle.csdn_tree.specs.declared.names.RawTerm.{RawTerm}
 use Rattle.csdn_tree.specs.declared.syntax.FlowWord.{FlowWord}
+use Rattle.csdn_tree.specs.declared.syntax.SwitchWord.{SwitchWord}
 use Rattle.csdn_tree.specs.declared.syntax.RawFlow.{RawFlow}
 use Rattle.csdn_tree.specs.declared.syntax.RawPacket.{RawPacket}
+use Rattle.csdn_tree.specs.declared.syntax.ChangeWord.{ChangeWord}
 use Rattle.csdn_tree.specs.declared.syntax.Connective.{Connective}
 use Rattle.csdn_tree.specs.declared.syntax.Quantifier.{Quantifier}
 use Rattle.csdn_tree.specs.declared.syntax.RawFormula.{RawFormula}
@@ -67,28 +69,16 @@ pub raw_commands-Pick : (name : RawName) (sort : Sort) (p : RawFormula) (a b : R
 unfolding raw_commands
 raw_commands-Pick name sort p a b = rw Pick-is
 
-pub raw_commands-Insert : (name : RawName) (ts : List RawTerm) → raw_commands (c.Insert name ts) ≡ 1
+pub raw_commands-Change : (word : ChangeWord) (name : RawName) (ts : List RawTerm) → raw_commands (c.Change word name ts) ≡ 1
 unfolding raw_commands
-raw_commands-Insert name ts = refl
+raw_commands-Change word name ts = refl
 
-pub raw_commands-Remove : (name : RawName) (ts : List RawTerm) → raw_commands (c.Remove name ts) ≡ 1
+pub raw_commands-Switch : (word : SwitchWord) (w : RawFlow) → raw_commands (c.Switch word w) ≡ 1
 unfolding raw_commands
-raw_commands-Remove name ts = refl
-
-pub raw_commands-Install : (w : RawFlow) → raw_commands (c.Install w) ≡ 1
-unfolding raw_commands
-raw_commands-Install w = refl
-
-pub raw_commands-Uninstall : (w : RawFlow) → raw_commands (c.Uninstall w) ≡ 1
-unfolding raw_commands
-raw_commands-Uninstall w = refl
-
-pub raw_commands-Forward : (w : RawFlow) → raw_commands (c.Forward w) ≡ 1
-unfolding raw_commands
-raw_commands-Forward w = refl
+raw_commands-Switch word w = refl
 
 pub raw_commands-Flood : (w : RawPacket) → raw_commands (c.Flood w) ≡ 1
 unfolding raw_commands
 raw_commands-Flood w = refl
 
-pub ruleset raw_node_steps = (raw_nodes-True, raw_nodes-False, raw_nodes-Atom, raw_nodes-Same, raw_nodes-Flow, raw_nodes-RcvThis, raw_nodes-Not, raw_nodes-Two, raw_nodes-Bind, raw_commands-Skip, raw_commands-Seq, raw_commands-If, raw_commands-Pick, raw_commands-Insert, raw_commands-Remove, raw_commands-Install, raw_commands-Uninstall, raw_commands-Forward, raw_commands-Flood)
+pub ruleset raw_node_steps = (raw_nodes-True, raw_nodes-False, raw_nodes-Atom, raw_nodes-Same, raw_nodes-Flow, raw_nodes-RcvThis, raw_nodes-Not, raw_nodes-Two, raw_nodes-Bind, raw_commands-Skip, raw_commands-Seq, raw_commands-If, raw_commands-Pick, raw_commands-Change, raw_commands-Switch, raw_commands-Flood)

@@ -4,8 +4,10 @@ use Rattle.csdn_core.specs.declared.terms.Sort.{Sort}
 use Rattle.csdn_tree.specs.declared.names.RawName.{RawName}
 use Rattle.csdn_tree.specs.declared.names.RawTerm.{RawTerm}
 use Rattle.csdn_tree.specs.declared.syntax.FlowWord.{FlowWord}
+use Rattle.csdn_tree.specs.declared.syntax.SwitchWord.{SwitchWord}
 use Rattle.csdn_tree.specs.declared.syntax.RawFlow.{RawFlow}
 use Rattle.csdn_tree.specs.declared.syntax.RawPacket.{RawPacket}
+use Rattle.csdn_tree.specs.declared.syntax.ChangeWord.{ChangeWord}
 use Rattle.csdn_tree.specs.declared.syntax.Connective.{Connective}
 use Rattle.csdn_tree.specs.declared.syntax.Quantifier.{Quantifier}
 use Rattle.csdn_tree.specs.declared.syntax.RawFormula.{RawFormula}
@@ -67,28 +69,16 @@ pub command_numerals-Pick : (name : RawName) (sort : Sort) (p : RawFormula) (a b
 unfolding command_numerals
 command_numerals-Pick name sort p a b = rw Pick-is
 
-pub command_numerals-Insert : (name : RawName) (ts : List RawTerm) → command_numerals (c.Insert name ts) ≡ terms_numerals ts
+pub command_numerals-Change : (word : ChangeWord) (name : RawName) (ts : List RawTerm) → command_numerals (c.Change word name ts) ≡ terms_numerals ts
 unfolding command_numerals
-command_numerals-Insert name ts = refl
+command_numerals-Change word name ts = refl
 
-pub command_numerals-Remove : (name : RawName) (ts : List RawTerm) → command_numerals (c.Remove name ts) ≡ terms_numerals ts
+pub command_numerals-Switch : (word : SwitchWord) (w : RawFlow) → command_numerals (c.Switch word w) ≡ flow_numerals w
 unfolding command_numerals
-command_numerals-Remove name ts = refl
-
-pub command_numerals-Install : (w : RawFlow) → command_numerals (c.Install w) ≡ flow_numerals w
-unfolding command_numerals
-command_numerals-Install w = refl
-
-pub command_numerals-Uninstall : (w : RawFlow) → command_numerals (c.Uninstall w) ≡ flow_numerals w
-unfolding command_numerals
-command_numerals-Uninstall w = refl
-
-pub command_numerals-Forward : (w : RawFlow) → command_numerals (c.Forward w) ≡ flow_numerals w
-unfolding command_numerals
-command_numerals-Forward w = refl
+command_numerals-Switch word w = refl
 
 pub command_numerals-Flood : (w : RawPacket) → command_numerals (c.Flood w) ≡ term_numerals w.source ++ (term_numerals w.target ++ term_numerals w.ingress)
 unfolding command_numerals
 command_numerals-Flood w = refl
 
-pub ruleset numeral_steps = (formula_numerals-True, formula_numerals-False, formula_numerals-Atom, formula_numerals-Same, formula_numerals-Flow, formula_numerals-RcvThis, formula_numerals-Not, formula_numerals-Two, formula_numerals-Bind, command_numerals-Skip, command_numerals-Seq, command_numerals-If, command_numerals-Pick, command_numerals-Insert, command_numerals-Remove, command_numerals-Install, command_numerals-Uninstall, command_numerals-Forward, command_numerals-Flood)
+pub ruleset numeral_steps = (formula_numerals-True, formula_numerals-False, formula_numerals-Atom, formula_numerals-Same, formula_numerals-Flow, formula_numerals-RcvThis, formula_numerals-Not, formula_numerals-Two, formula_numerals-Bind, command_numerals-Skip, command_numerals-Seq, command_numerals-If, command_numerals-Pick, command_numerals-Change, command_numerals-Switch, command_numerals-Flood)

@@ -42,11 +42,8 @@ command_numerals c.Skip = []
 command_numerals (raw_seq a b) = command_numerals a ++ command_numerals b
 command_numerals (raw_if p a b) = formula_numerals p ++ (command_numerals a ++ command_numerals b)
 command_numerals (raw_pick name sort p a b) = formula_numerals p ++ (command_numerals a ++ command_numerals b)
-command_numerals (c.Insert name ts) = terms_numerals ts
-command_numerals (c.Remove name ts) = terms_numerals ts
-command_numerals (c.Install w) = flow_numerals w
-command_numerals (c.Uninstall w) = flow_numerals w
-command_numerals (c.Forward w) = flow_numerals w
+command_numerals (c.Change word name ts) = terms_numerals ts
+command_numerals (c.Switch word w) = flow_numerals w
 command_numerals (c.Flood w) = term_numerals w.source ++ (term_numerals w.target ++ term_numerals w.ingress)
 
 abbrev pub port_numerals : RawPattern → List ℕ

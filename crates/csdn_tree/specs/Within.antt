@@ -37,11 +37,8 @@ CommandWithin from (raw_seq a b) to = (middle : ℕ) × CommandWithin from a mid
 CommandWithin from (raw_if p a b) to = (first : ℕ) × (second : ℕ) × Within from p first × CommandWithin first a second × CommandWithin second b to
 CommandWithin from (raw_pick name sort p a b) to =
     (first : ℕ) × (second : ℕ) × (from ≤ name.at) × Within (name.at + 1) p first × CommandWithin first a second × CommandWithin second b to
-CommandWithin from (c.Insert name ts) to = (from ≤ name.at) × TermsWithin (name.at + 1) ts to
-CommandWithin from (c.Remove name ts) to = (from ≤ name.at) × TermsWithin (name.at + 1) ts to
-CommandWithin from (c.Install w) to = TermsWithin from (Name w.switch ∷ w.source ∷ w.target ∷ w.ingress ∷ w.egress ∷ []) to
-CommandWithin from (c.Uninstall w) to = TermsWithin from (Name w.switch ∷ w.source ∷ w.target ∷ w.ingress ∷ w.egress ∷ []) to
-CommandWithin from (c.Forward w) to = TermsWithin from (Name w.switch ∷ w.source ∷ w.target ∷ w.ingress ∷ w.egress ∷ []) to
+CommandWithin from (c.Change word name ts) to = (from ≤ name.at) × TermsWithin (name.at + 1) ts to
+CommandWithin from (c.Switch word w) to = TermsWithin from (Name w.switch ∷ w.source ∷ w.target ∷ w.ingress ∷ w.egress ∷ []) to
 CommandWithin from (c.Flood w) to = TermsWithin from (Name w.switch ∷ w.source ∷ w.target ∷ w.ingress ∷ []) to
 
 unfoldable pub RowsWithin : ℕ → List RawRow → ℕ → Type 0

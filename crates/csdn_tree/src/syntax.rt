@@ -89,6 +89,21 @@ pub enum RawFormula {
     Bind(Quantifier, RawName, Sort, Boxed<RawFormula>),
 }
 
+/// What is done with a row of a relation.
+#[derive(Clone, Copy)]
+pub enum ChangeWord {
+    Insert,
+    Remove,
+}
+
+/// What a switch does with two hosts and two ports.
+#[derive(Clone, Copy)]
+pub enum SwitchWord {
+    Install,
+    Uninstall,
+    Forward,
+}
+
 /// A command of a text, its names as they are written (docs/LANGUAGE.md).
 #[derive(Drop)]
 pub enum RawCommand {
@@ -99,13 +114,10 @@ pub enum RawCommand {
     If(Boxed<RawFormula>, Boxed<RawCommand>, Boxed<RawCommand>),
     /// `pick name:sort where condition {first} else {second}`, with `Skip` where no `else` is written.
     Pick(RawName, Sort, Boxed<RawFormula>, Boxed<RawCommand>, Boxed<RawCommand>),
-    /// `name.insert(terms)`.
-    Insert(RawName, RawTerms),
-    /// `name.remove(terms)`.
-    Remove(RawName, RawTerms),
-    Install(RawFlow),
-    Uninstall(RawFlow),
-    Forward(RawFlow),
+    /// `name.insert(terms)` or `name.remove(terms)`.
+    Change(ChangeWord, RawName, RawTerms),
+    /// `switch.install(..)`, or another word in its place.
+    Switch(SwitchWord, RawFlow),
     Flood(RawPacket),
 }
 

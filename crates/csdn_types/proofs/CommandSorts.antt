@@ -21,6 +21,8 @@ use Rattle.csdn_tree.specs.declared.syntax.RawFlow.{RawFlow}
 use Rattle.csdn_tree.specs.declared.syntax.RawPacket.{RawPacket}
 use Rattle.csdn_tree.specs.declared.syntax.RawCommand.{RawCommand}
 use Rattle.csdn_tree.specs.declared.syntax.RawCommand.TheVariants as c
+use Rattle.csdn_tree.specs.declared.syntax.ChangeWord.TheVariants as change
+use Rattle.csdn_tree.specs.declared.syntax.SwitchWord.TheVariants as switch
 use Rattle.csdn_tree.specs.RawTree.{raw_seq, raw_if, raw_pick}
 use Rattle.csdn_tree.specs.Places.{place as place_of}
 use Rattle.csdn_types.specs.declared.own.OwnTerms.{OwnTerms}
@@ -108,11 +110,11 @@ command_bound_in-typed s (raw_seq a b) = rw (Seq-is, command_bound_in-typed s a,
 command_bound_in-typed s (raw_if p a b) = rw (If-is, bound_in-typed s p, command_bound_in-typed (later s (binders p)) a, command_bound_in-typed (later s (binders p + command_binders a)) b) (three s.next (binders p) (command_binders a) (command_binders b))
 command_bound_in-typed s (raw_pick name sort p a b) =
     rw (Pick-is, bound_in-typed (bound s name sort) p, command_bound_in-typed (later (bound s name sort) (binders p)) a, command_bound_in-typed (later s ((1 + binders p) + command_binders a)) b) (four s.next (binders p) (command_binders a) (command_binders b))
-command_bound_in-typed s (c.Insert name us) = refl
-command_bound_in-typed s (c.Remove name us) = refl
-command_bound_in-typed s (c.Install w) = refl
-command_bound_in-typed s (c.Uninstall w) = refl
-command_bound_in-typed s (c.Forward w) = refl
+command_bound_in-typed s (c.Change change.Insert name us) = refl
+command_bound_in-typed s (c.Change change.Remove name us) = refl
+command_bound_in-typed s (c.Switch switch.Install w) = refl
+command_bound_in-typed s (c.Switch switch.Uninstall w) = refl
+command_bound_in-typed s (c.Switch switch.Forward w) = refl
 command_bound_in-typed s (c.Flood w) = refl
 
 flood_parts : (S : Signature) (own : OwnTerms) (s : Scope) (Γ : SortedScope) → IsPart s S → IsScopeOf s Γ → (w : RawPacket) → HaveNumerals S (Name w.switch ∷ w.source ∷ w.target ∷ w.ingress ∷ []) → flood_faults own s w ≡ [] → IsFlood S (seen own) Γ (term_of s (Name w.switch) ∷ packet_of s w)
@@ -167,9 +169,9 @@ command_is_sorted S own s Γ (raw_pick name sort p a b) part scope numerals free
     let a_binds = command_depth (command_typed (later inner k) a) in
     let b_binds = command_depth (command_typed (later s l) b) in
     rw Pick-is ((in_p.0, in_a.0, in_b.0), greater (length s.variables) (max p_binds a_binds + 1) b_binds (pushed s name sort (max p_binds a_binds) (greater (length inner.variables) p_binds a_binds in_p.1 in_a.1)) in_b.1)
-command_is_sorted S own s Γ (c.Insert name us) part scope numerals free = (relation_is_write s S Γ part scope name.at us (relation_named s name.text) numerals free, none_bound s Γ scope)
-command_is_sorted S own s Γ (c.Remove name us) part scope numerals free = (relation_is_write s S Γ part scope name.at us (relation_named s name.text) numerals free, none_bound s Γ scope)
-command_is_sorted S own s Γ (c.Install w) part scope numerals free = (install_is S own s Γ part scope w numerals free, none_bound s Γ scope)
-command_is_sorted S own s Γ (c.Uninstall w) part scope numerals free = (install_is S own s Γ part scope w numerals free, none_bound s Γ scope)
-command_is_sorted S own s Γ (c.Forward w) part scope numerals free = (forward_is S own s Γ part scope w numerals free, none_bound s Γ scope)
+command_is_sorted S own s Γ (c.Change change.Insert name us) part scope numerals free = (relation_is_write s S Γ part scope name.at us (relation_named s name.text) numerals free, none_bound s Γ scope)
+command_is_sorted S own s Γ (c.Change change.Remove name us) part scope numerals free = (relation_is_write s S Γ part scope name.at us (relation_named s name.text) numerals free, none_bound s Γ scope)
+command_is_sorted S own s Γ (c.Switch switch.Install w) part scope numerals free = (install_is S own s Γ part scope w numerals free, none_bound s Γ scope)
+command_is_sorted S own s Γ (c.Switch switch.Uninstall w) part scope numerals free = (install_is S own s Γ part scope w numerals free, none_bound s Γ scope)
+command_is_sorted S own s Γ (c.Switch switch.Forward w) part scope numerals free = (forward_is S own s Γ part scope w numerals free, none_bound s Γ scope)
 command_is_sorted S own s Γ (c.Flood w) part scope numerals free = (flood_parts S own s Γ part scope w numerals free, none_bound s Γ scope)

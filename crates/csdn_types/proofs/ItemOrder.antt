@@ -10,7 +10,9 @@ use Rattle.csdn_tree.specs.declared.names.RawTerm.{RawTerm}
 use Rattle.csdn_types.specs.declared.refusal.SortRefusal.{SortRefusal}
 use Rattle.csdn_types.specs.declared.refusal.SortRefusal.TheVariants.{Memory, Duplicate, WrongArity, NotAllowed, TooMany}
 use Rattle.csdn_tree.specs.declared.syntax.RawCommand.{RawCommand}
+use Rattle.csdn_tree.specs.declared.syntax.RawFlow.{RawFlow}
 use Rattle.csdn_tree.specs.declared.syntax.RawCommand.TheVariants as c
+use Rattle.csdn_tree.specs.declared.syntax.SwitchWord.TheVariants as switch
 use Rattle.csdn_tree.specs.RawTree.{raw_seq, raw_if, raw_pick}
 use Rattle.csdn_tree.specs.declared.syntax.RawRow.{RawRow}
 use Rattle.csdn_tree.specs.declared.syntax.RawRelation.{RawRelation}
@@ -26,7 +28,7 @@ use Rattle.csdn_types.specs.Scope.{Scope, relation_named, bound, meaning}
 use Rattle.csdn_types.specs.Typed.{term_of}
 use Rattle.csdn_tree.specs.Binders.{binders}
 use Rattle.csdn_types.specs.Faults.{fault_if, term_faults, variable_faults, faults}
-use Rattle.csdn_types.specs.Commands.{own_faults, command_faults, later}
+use Rattle.csdn_types.specs.Commands.{own_faults, install_faults, command_faults, later}
 use Rattle.csdn_tree.specs.Binders.{command_binders}
 use Rattle.csdn_types.specs.Items.{row_faults, rows_faults, name_faults, ingress_faults, own_of, inside}
 use Rattle.csdn_types.specs.Programs.{ProgramDraft, place_of as kind_place, invariant_faults, item_faults, with_item, items_faults}
@@ -45,6 +47,15 @@ own_ordered s sort own t =
     joined _ (8 * place_of t + 4) _ (term_faults s sort t) _ (term_low s sort t) (if_one (not (same_term (term_of s t) own)) _ _ (NotAllowed (place_of t)) (omega arith) (omega arith))
 
 module _ (own : OwnTerms) where
+  install_ordered : (s : Scope) (w : RawFlow) (from to : ℕ) → TermsWithin from (Name w.switch ∷ w.source ∷ w.target ∷ w.ingress ∷ w.egress ∷ []) to → Ordered (8 * from) (install_faults own s w) (8 * to)
+  unfolding TermsWithin
+  install_ordered s w from to within =
+      then_later from (w.switch.at) to _ _ within.0 (own_ordered s Sw own.switch (Name w.switch))
+      (then_later _ (place_of w.source) to _ _ within.1.0 (term_ordered s Ho w.source)
+      (then_later _ (place_of w.target) to _ _ within.1.1.0 (term_ordered s Ho w.target)
+      (then_later _ (place_of w.ingress) to _ _ within.1.1.1.0 (term_ordered s Pr w.ingress)
+      (between _ (place_of w.egress) to _ within.1.1.1.1.0 (omega (arith, within.1.1.1.1.1)) (term_ordered s Pr w.egress)))))
+
   command_ordered : (s : Scope) (x : RawCommand) (from to : ℕ) → CommandWithin from x to → Ordered (8 * from) (command_faults own s x) (8 * to)
   unfolding CommandWithin command_faults TermsWithin
   command_ordered s c.Skip from to within = none _ _ (omega arith)
@@ -57,21 +68,10 @@ module _ (own : OwnTerms) where
       (then_later from name.at n (variable_faults s name) _ low (variable_ordered s name)
       (joined _ (8 * m) _ (faults InHandler (bound s name sort) p) _ (faults_ordered InHandler (bound s name sort) p (name.at + 1) m first) (command_ordered (later (bound s name sort) (binders p)) a m n second)))
       (command_ordered (later s ((1 + binders p) + command_binders a)) b n to third)
-  command_ordered s (c.Insert name ts) from to within = atom_ordered Write s name ts from to within.0 within.1
-  command_ordered s (c.Remove name ts) from to within = atom_ordered Write s name ts from to within.0 within.1
-  command_ordered s (c.Install w) from to within =
-      then_later from (w.switch.at) to _ _ within.0 (own_ordered s Sw own.switch (Name w.switch))
-      (then_later _ (place_of w.source) to _ _ within.1.0 (term_ordered s Ho w.source)
-      (then_later _ (place_of w.target) to _ _ within.1.1.0 (term_ordered s Ho w.target)
-      (then_later _ (place_of w.ingress) to _ _ within.1.1.1.0 (term_ordered s Pr w.ingress)
-      (between _ (place_of w.egress) to _ within.1.1.1.1.0 (omega (arith, within.1.1.1.1.1)) (term_ordered s Pr w.egress)))))
-  command_ordered s (c.Uninstall w) from to within =
-      then_later from (w.switch.at) to _ _ within.0 (own_ordered s Sw own.switch (Name w.switch))
-      (then_later _ (place_of w.source) to _ _ within.1.0 (term_ordered s Ho w.source)
-      (then_later _ (place_of w.target) to _ _ within.1.1.0 (term_ordered s Ho w.target)
-      (then_later _ (place_of w.ingress) to _ _ within.1.1.1.0 (term_ordered s Pr w.ingress)
-      (between _ (place_of w.egress) to _ within.1.1.1.1.0 (omega (arith, within.1.1.1.1.1)) (term_ordered s Pr w.egress)))))
-  command_ordered s (c.Forward w) from to within =
+  command_ordered s (c.Change word name ts) from to within = atom_ordered Write s name ts from to within.0 within.1
+  command_ordered s (c.Switch switch.Install w) from to within = install_ordered s w from to within
+  command_ordered s (c.Switch switch.Uninstall w) from to within = install_ordered s w from to within
+  command_ordered s (c.Switch switch.Forward w) from to within =
       then_later from (w.switch.at) to _ _ within.0 (own_ordered s Sw own.switch (Name w.switch))
       (then_later _ (place_of w.source) to _ _ within.1.0 (own_ordered s Ho own.source w.source)
       (then_later _ (place_of w.target) to _ _ within.1.1.0 (own_ordered s Ho own.target w.target)

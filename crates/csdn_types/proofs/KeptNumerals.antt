@@ -16,6 +16,8 @@ use Rattle.csdn_tree.specs.declared.syntax.RawRow.{RawRow}
 use Rattle.csdn_tree.specs.declared.syntax.RawPattern.{RawPattern}
 use Rattle.csdn_tree.specs.declared.syntax.RawPattern.TheVariants.{Any as AnyPort, Port as OnePort}
 use Rattle.csdn_tree.specs.declared.syntax.RawHandler.{RawHandler}
+use Rattle.csdn_tree.specs.declared.syntax.ChangeWord.TheVariants as change
+use Rattle.csdn_tree.specs.declared.syntax.SwitchWord.TheVariants as switch
 use Rattle.csdn_tree.specs.RawTree.{raw_not, raw_two, raw_bind, raw_seq, raw_if, raw_pick}
 use Rattle.csdn_tree.specs.Binders.{binders, command_binders}
 use Rattle.csdn_tree.specs.Numerals.{term_numerals, terms_numerals, flow_numerals, formula_numerals, command_numerals, port_numerals, rows_numerals}
@@ -94,11 +96,11 @@ kept-command s (raw_seq a b) = rw Seq-is (ap₂ (λ xs ys. xs ++ ys) (kept-comma
 kept-command s (raw_if p a b) = rw If-is (three (kept-formula s p) (kept-command (later s (binders p)) a) (kept-command (later s (binders p + command_binders a)) b))
 kept-command s (raw_pick name sort p a b) =
     rw Pick-is (three (kept-formula (bound s name sort) p) (kept-command (later (bound s name sort) (binders p)) a) (kept-command (later s ((1 + binders p) + command_binders a)) b))
-kept-command s (c.Insert name ts) = kept-terms s ts
-kept-command s (c.Remove name ts) = kept-terms s ts
-kept-command s (c.Install w) = kept-flow s w
-kept-command s (c.Uninstall w) = kept-flow s w
-kept-command s (c.Forward w) = kept-flow s w
+kept-command s (c.Change change.Insert name ts) = kept-terms s ts
+kept-command s (c.Change change.Remove name ts) = kept-terms s ts
+kept-command s (c.Switch switch.Install w) = kept-flow s w
+kept-command s (c.Switch switch.Uninstall w) = kept-flow s w
+kept-command s (c.Switch switch.Forward w) = kept-flow s w
 kept-command s (c.Flood w) = kept-packet s w
 
 pub kept-rows : (s : Scope) (id : RelId) (rows : List RawRow) → flat_map core.row_numerals (map (row_of s id) rows) ≡ rows_numerals rows

@@ -86,9 +86,6 @@ module _ (S : Signature) where
   command_named (raw_pick name sort p a b) h =
       let rest = right (formula_numerals p) (command_numerals a ++ command_numerals b) h in
       (formula_named p (left (formula_numerals p) _ h), command_named a (left (command_numerals a) (command_numerals b) rest), command_named b (right (command_numerals a) (command_numerals b) rest))
-  command_named (c.Insert name ts) h = terms_named ts h
-  command_named (c.Remove name ts) h = terms_named ts h
-  command_named (c.Install w) h = flow_named w h
-  command_named (c.Uninstall w) h = flow_named w h
-  command_named (c.Forward w) h = flow_named w h
+  command_named (c.Change word name ts) h = terms_named ts h
+  command_named (c.Switch word w) h = flow_named w h
   command_named (c.Flood w) h = packet_named w h

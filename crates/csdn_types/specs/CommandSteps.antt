@@ -6,11 +6,13 @@ use Rattle.csdn_core.specs.declared.syntax.Command.TheVariants as command
 use Rattle.csdn_tree.specs.declared.names.RawName.{RawName}
 use Rattle.csdn_tree.specs.declared.names.RawTerm.{RawTerm}
 use Rattle.csdn_tree.specs.declared.names.RawTerm.TheVariants.{Name}
+use Rattle.csdn_tree.specs.declared.syntax.ChangeWord.{ChangeWord}
 use Rattle.csdn_tree.specs.declared.syntax.RawFlow.{RawFlow}
 use Rattle.csdn_tree.specs.declared.syntax.RawPacket.{RawPacket}
 use Rattle.csdn_tree.specs.declared.syntax.RawFormula.{RawFormula}
 use Rattle.csdn_tree.specs.declared.syntax.RawCommand.{RawCommand}
 use Rattle.csdn_tree.specs.declared.syntax.RawCommand.TheVariants as c
+use Rattle.csdn_tree.specs.declared.syntax.SwitchWord.{SwitchWord}
 use Rattle.csdn_tree.specs.RawTree.{Seq-is, If-is, Pick-is}
 use Rattle.csdn_tree.specs.Binders.{binders, command_binders}
 use Rattle.csdn_types.specs.declared.own.OwnTerms.{OwnTerms}
@@ -18,7 +20,7 @@ use Rattle.csdn_types.specs.declared.terms.Use.TheVariants.{Write}
 use Rattle.csdn_types.specs.Scope.{Scope, bound}
 use Rattle.csdn_types.specs.Typed.{typed, terms_of, term_of, flow_of, packet_of, next_var}
 use Rattle.csdn_types.specs.Faults.{faults, atom_faults, variable_faults}
-use Rattle.csdn_types.specs.Commands.{install_faults, forward_faults, flood_faults, later, command_faults, relation_id, command_typed}
+use Rattle.csdn_types.specs.Commands.{switch_faults, flood_faults, later, command_faults, relation_id, changed, switched, command_typed}
 
 pub command_faults-Skip : (own : OwnTerms) (s : Scope) → command_faults own s c.Skip ≡ []
 unfolding command_faults
@@ -36,25 +38,13 @@ pub command_faults-Pick : (own : OwnTerms) (s : Scope) (name : RawName) (sort : 
 unfolding command_faults
 command_faults-Pick own s name sort p a b = rw Pick-is
 
-pub command_faults-Insert : (own : OwnTerms) (s : Scope) (name : RawName) (us : List RawTerm) → command_faults own s (c.Insert name us) ≡ atom_faults Write s name us
+pub command_faults-Change : (own : OwnTerms) (s : Scope) (word : ChangeWord) (name : RawName) (us : List RawTerm) → command_faults own s (c.Change word name us) ≡ atom_faults Write s name us
 unfolding command_faults
-command_faults-Insert own s name us = refl
+command_faults-Change own s word name us = refl
 
-pub command_faults-Remove : (own : OwnTerms) (s : Scope) (name : RawName) (us : List RawTerm) → command_faults own s (c.Remove name us) ≡ atom_faults Write s name us
+pub command_faults-Switch : (own : OwnTerms) (s : Scope) (word : SwitchWord) (w : RawFlow) → command_faults own s (c.Switch word w) ≡ switch_faults word own s w
 unfolding command_faults
-command_faults-Remove own s name us = refl
-
-pub command_faults-Install : (own : OwnTerms) (s : Scope) (w : RawFlow) → command_faults own s (c.Install w) ≡ install_faults own s w
-unfolding command_faults
-command_faults-Install own s w = refl
-
-pub command_faults-Uninstall : (own : OwnTerms) (s : Scope) (w : RawFlow) → command_faults own s (c.Uninstall w) ≡ install_faults own s w
-unfolding command_faults
-command_faults-Uninstall own s w = refl
-
-pub command_faults-Forward : (own : OwnTerms) (s : Scope) (w : RawFlow) → command_faults own s (c.Forward w) ≡ forward_faults own s w
-unfolding command_faults
-command_faults-Forward own s w = refl
+command_faults-Switch own s word w = refl
 
 pub command_faults-Flood : (own : OwnTerms) (s : Scope) (w : RawPacket) → command_faults own s (c.Flood w) ≡ flood_faults own s w
 unfolding command_faults
@@ -76,28 +66,16 @@ pub command_typed-Pick : (s : Scope) (name : RawName) (sort : Sort) (p : RawForm
 unfolding command_typed
 command_typed-Pick s name sort p a b = rw Pick-is
 
-pub command_typed-Insert : (s : Scope) (name : RawName) (us : List RawTerm) → command_typed s (c.Insert name us) ≡ command.Insert (relation_id s name) (terms_of s us)
+pub command_typed-Change : (s : Scope) (word : ChangeWord) (name : RawName) (us : List RawTerm) → command_typed s (c.Change word name us) ≡ changed word (relation_id s name) (terms_of s us)
 unfolding command_typed
-command_typed-Insert s name us = refl
+command_typed-Change s word name us = refl
 
-pub command_typed-Remove : (s : Scope) (name : RawName) (us : List RawTerm) → command_typed s (c.Remove name us) ≡ command.Remove (relation_id s name) (terms_of s us)
+pub command_typed-Switch : (s : Scope) (word : SwitchWord) (w : RawFlow) → command_typed s (c.Switch word w) ≡ switched word (term_of s (Name w.switch) ∷ flow_of s w)
 unfolding command_typed
-command_typed-Remove s name us = refl
-
-pub command_typed-Install : (s : Scope) (w : RawFlow) → command_typed s (c.Install w) ≡ command.Install (term_of s (Name w.switch) ∷ flow_of s w)
-unfolding command_typed
-command_typed-Install s w = refl
-
-pub command_typed-Uninstall : (s : Scope) (w : RawFlow) → command_typed s (c.Uninstall w) ≡ command.Uninstall (term_of s (Name w.switch) ∷ flow_of s w)
-unfolding command_typed
-command_typed-Uninstall s w = refl
-
-pub command_typed-Forward : (s : Scope) (w : RawFlow) → command_typed s (c.Forward w) ≡ command.Forward (term_of s (Name w.switch) ∷ flow_of s w)
-unfolding command_typed
-command_typed-Forward s w = refl
+command_typed-Switch s word w = refl
 
 pub command_typed-Flood : (s : Scope) (w : RawPacket) → command_typed s (c.Flood w) ≡ command.Flood (term_of s (Name w.switch) ∷ packet_of s w)
 unfolding command_typed
 command_typed-Flood s w = refl
 
-pub ruleset command_steps = (command_faults-Skip, command_faults-Seq, command_faults-If, command_faults-Pick, command_faults-Insert, command_faults-Remove, command_faults-Install, command_faults-Uninstall, command_faults-Forward, command_faults-Flood, command_typed-Skip, command_typed-Seq, command_typed-If, command_typed-Pick, command_typed-Insert, command_typed-Remove, command_typed-Install, command_typed-Uninstall, command_typed-Forward, command_typed-Flood)
+pub ruleset command_steps = (command_faults-Skip, command_faults-Seq, command_faults-If, command_faults-Pick, command_faults-Change, command_faults-Switch, command_faults-Flood, command_typed-Skip, command_typed-Seq, command_typed-If, command_typed-Pick, command_typed-Change, command_typed-Switch, command_typed-Flood)

@@ -13,10 +13,14 @@ use Rattle.csdn_tree.specs.declared.names.RawTerm.{RawTerm}
 use Rattle.csdn_tree.specs.declared.names.RawName.{RawName}
 use Rattle.csdn_types.specs.declared.refusal.SortRefusal.{SortRefusal}
 use Rattle.csdn_types.specs.declared.refusal.SortRefusal.TheVariants.{NotAllowed}
+use Rattle.csdn_tree.specs.declared.syntax.ChangeWord.{ChangeWord}
+use Rattle.csdn_tree.specs.declared.syntax.ChangeWord.TheVariants as change
 use Rattle.csdn_tree.specs.declared.syntax.RawFlow.{RawFlow}
 use Rattle.csdn_tree.specs.declared.syntax.RawPacket.{RawPacket}
 use Rattle.csdn_tree.specs.declared.syntax.RawCommand.{RawCommand}
 use Rattle.csdn_tree.specs.declared.syntax.RawCommand.TheVariants as c
+use Rattle.csdn_tree.specs.declared.syntax.SwitchWord.{SwitchWord}
+use Rattle.csdn_tree.specs.declared.syntax.SwitchWord.TheVariants as switch
 use Rattle.csdn_tree.specs.RawTree.{raw_seq, raw_if, raw_pick}
 use Rattle.csdn_tree.specs.Places.{place as place_of}
 use Rattle.csdn_types.specs.declared.own.OwnTerms.{OwnTerms}
@@ -38,6 +42,11 @@ forward_faults own s w =
     own_faults s Sw own.switch (Name w.switch)
     ++ (own_faults s Ho own.source w.source ++ (own_faults s Ho own.target w.target ++ (own_faults s Pr own.ingress w.ingress ++ term_faults s Pr w.egress)))
 
+abbrev pub switch_faults : SwitchWord → OwnTerms → Scope → RawFlow → List SortRefusal
+switch_faults switch.Install = install_faults
+switch_faults switch.Uninstall = install_faults
+switch_faults switch.Forward = forward_faults
+
 abbrev pub flood_faults : OwnTerms → Scope → RawPacket → List SortRefusal
 flood_faults own s w =
     own_faults s Sw own.switch (Name w.switch) ++ (own_faults s Ho own.source w.source ++ (own_faults s Ho own.target w.target ++ own_faults s Pr own.ingress w.ingress))
@@ -54,15 +63,21 @@ command_faults own s (raw_if p a b) =
 command_faults own s (raw_pick name sort p a b) =
     (variable_faults s name ++ (faults InHandler (bound s name sort) p ++ command_faults own (later (bound s name sort) (binders p)) a))
     ++ command_faults own (later s ((1 + binders p) + command_binders a)) b
-command_faults own s (c.Insert name us) = atom_faults Write s name us
-command_faults own s (c.Remove name us) = atom_faults Write s name us
-command_faults own s (c.Install w) = install_faults own s w
-command_faults own s (c.Uninstall w) = install_faults own s w
-command_faults own s (c.Forward w) = forward_faults own s w
+command_faults own s (c.Change word name us) = atom_faults Write s name us
+command_faults own s (c.Switch word w) = switch_faults word own s w
 command_faults own s (c.Flood w) = flood_faults own s w
 
 abbrev pub relation_id : Scope → RawName → RelId
 relation_id s name = record { 0 = unwrap_or (relation_named s name.text) 0 }
+
+abbrev pub changed : ChangeWord → RelId → List Term → Command
+changed change.Insert id ts = command.Insert id ts
+changed change.Remove id ts = command.Remove id ts
+
+abbrev pub switched : SwitchWord → List Term → Command
+switched switch.Install ts = command.Install ts
+switched switch.Uninstall ts = command.Uninstall ts
+switched switch.Forward ts = command.Forward ts
 
 unfoldable pub command_typed : Scope → RawCommand → Command
 command_typed s c.Skip = command.Skip
@@ -71,9 +86,6 @@ command_typed s (raw_if p a b) =
     command.If (typed s p) (command_typed (later s (binders p)) a) (command_typed (later s (binders p + command_binders a)) b)
 command_typed s (raw_pick name sort p a b) =
     command.Pick (next_var s) sort (typed (bound s name sort) p) (command_typed (later (bound s name sort) (binders p)) a) (command_typed (later s ((1 + binders p) + command_binders a)) b)
-command_typed s (c.Insert name us) = command.Insert (relation_id s name) (terms_of s us)
-command_typed s (c.Remove name us) = command.Remove (relation_id s name) (terms_of s us)
-command_typed s (c.Install w) = command.Install (term_of s (Name w.switch) ∷ flow_of s w)
-command_typed s (c.Uninstall w) = command.Uninstall (term_of s (Name w.switch) ∷ flow_of s w)
-command_typed s (c.Forward w) = command.Forward (term_of s (Name w.switch) ∷ flow_of s w)
+command_typed s (c.Change word name us) = changed word (relation_id s name) (terms_of s us)
+command_typed s (c.Switch word w) = switched word (term_of s (Name w.switch) ∷ flow_of s w)
 command_typed s (c.Flood w) = command.Flood (term_of s (Name w.switch) ∷ packet_of s w)

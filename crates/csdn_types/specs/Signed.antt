@@ -60,11 +60,8 @@ CommandNumerals S c.Skip = Unit {0}
 CommandNumerals S (raw_seq a b) = CommandNumerals S a × CommandNumerals S b
 CommandNumerals S (raw_if p a b) = FormulaNumerals S p × CommandNumerals S a × CommandNumerals S b
 CommandNumerals S (raw_pick name sort p a b) = FormulaNumerals S p × CommandNumerals S a × CommandNumerals S b
-CommandNumerals S (c.Insert name ts) = HaveNumerals S ts
-CommandNumerals S (c.Remove name ts) = HaveNumerals S ts
-CommandNumerals S (c.Install w) = HaveNumerals S (Name w.switch ∷ w.source ∷ w.target ∷ w.ingress ∷ w.egress ∷ [])
-CommandNumerals S (c.Uninstall w) = HaveNumerals S (Name w.switch ∷ w.source ∷ w.target ∷ w.ingress ∷ w.egress ∷ [])
-CommandNumerals S (c.Forward w) = HaveNumerals S (Name w.switch ∷ w.source ∷ w.target ∷ w.ingress ∷ w.egress ∷ [])
+CommandNumerals S (c.Change word name ts) = HaveNumerals S ts
+CommandNumerals S (c.Switch word w) = HaveNumerals S (Name w.switch ∷ w.source ∷ w.target ∷ w.ingress ∷ w.egress ∷ [])
 CommandNumerals S (c.Flood w) = HaveNumerals S (Name w.switch ∷ w.source ∷ w.target ∷ w.ingress ∷ [])
 
 -- a handler's own packet

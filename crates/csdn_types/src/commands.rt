@@ -7,6 +7,7 @@ ghost use Rattle.csdn_types.specs.Answers.{Answers};
 ghost use Rattle.csdn_types.specs.Faults.{faults, variable_faults};
 ghost use Rattle.csdn_types.specs.Typed.{typed, next_var};
 ghost use Rattle.csdn_tree.specs.Binders.{binders};
+ghost use Rattle.csdn_types.specs.Commands as spec;
 ghost use Rattle.csdn_types.specs.Commands.{command_faults, command_typed, later};
 ghost use Rattle.csdn_tree.specs.Binders.{command_binders};
 ghost use Rattle.csdn_types.specs.Scope.{bound};
@@ -14,14 +15,14 @@ ghost use Rattle.csdn_core.specs.Sorted.{most_numbers};
 
 use crate::atoms::bind;
 use crate::formulas::formula;
-use crate::own::{OwnTerms, flood, forward, install};
+use crate::own::{OwnTerms, flood, switch_terms};
 use crate::refusal::SortRefusal;
 use crate::scope::Scope;
 use crate::terms::{Use, used};
 use csdn_core::syntax::{Command, Formula};
-use csdn_core::terms::{FormulaPlace, Sort, VarId};
+use csdn_core::terms::{FormulaPlace, RelId, Sort, Terms, VarId};
 use csdn_tree::names::RawName;
-use csdn_tree::syntax::{RawCommand, RawFormula};
+use csdn_tree::syntax::{ChangeWord, RawCommand, RawFormula, SwitchWord};
 use sqlite_items::Boxed;
 use std::alloc::Global;
 
@@ -46,6 +47,27 @@ fn condition(
     let made = formula(alloc, scope, FormulaPlace::Handler, raw)?;
     let made = Boxed::new(alloc, made)?;
     Ok(made)
+}
+
+/// A change of a relation.
+fn changed(word: ChangeWord, id: RelId, terms: Terms) -> Command
+    ensures { result ≡ spec.changed word id terms }
+{
+    match word {
+        ChangeWord::Insert => Command::Insert(id, terms),
+        ChangeWord::Remove => Command::Remove(id, terms),
+    }
+}
+
+/// What the switch does.
+fn switched(word: SwitchWord, terms: Terms) -> Command
+    ensures { result ≡ spec.switched word terms }
+{
+    match word {
+        SwitchWord::Install => Command::Install(terms),
+        SwitchWord::Uninstall => Command::Uninstall(terms),
+        SwitchWord::Forward => Command::Forward(terms),
+    }
 }
 
 /// The command that a tree stands for, in a handler whose own packet is `own`; each bound variable gets the next
@@ -79,25 +101,13 @@ pub fn command(
             let b = boxed(alloc, scope, own, b.get())?;
             Ok(Command::Pick(part.var, *sort, part.condition, part.body, b))
         }
-        RawCommand::Insert(name, terms) => {
+        RawCommand::Change(word, name, terms) => {
             let atom = used(scope, Use::Write, name, terms.as_slice())?;
-            Ok(Command::Insert(atom.id, atom.terms))
+            Ok(changed(*word, atom.id, atom.terms))
         }
-        RawCommand::Remove(name, terms) => {
-            let atom = used(scope, Use::Write, name, terms.as_slice())?;
-            Ok(Command::Remove(atom.id, atom.terms))
-        }
-        RawCommand::Install(raw) => {
-            let terms = install(scope, own, raw)?;
-            Ok(Command::Install(terms))
-        }
-        RawCommand::Uninstall(raw) => {
-            let terms = install(scope, own, raw)?;
-            Ok(Command::Uninstall(terms))
-        }
-        RawCommand::Forward(raw) => {
-            let terms = forward(scope, own, raw)?;
-            Ok(Command::Forward(terms))
+        RawCommand::Switch(word, raw) => {
+            let terms = switch_terms(scope, own, *word, raw)?;
+            Ok(switched(*word, terms))
         }
         RawCommand::Flood(raw) => {
             let terms = flood(scope, own, raw)?;

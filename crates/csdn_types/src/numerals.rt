@@ -139,23 +139,11 @@ impl Numerals {
                 self.command(b.get())?;
                 Ok(())
             }
-            RawCommand::Insert(_, terms) => {
+            RawCommand::Change(_, _, terms) => {
                 self.terms(terms.as_slice())?;
                 Ok(())
             }
-            RawCommand::Remove(_, terms) => {
-                self.terms(terms.as_slice())?;
-                Ok(())
-            }
-            RawCommand::Install(terms) => {
-                self.flow(terms)?;
-                Ok(())
-            }
-            RawCommand::Uninstall(terms) => {
-                self.flow(terms)?;
-                Ok(())
-            }
-            RawCommand::Forward(terms) => {
+            RawCommand::Switch(_, terms) => {
                 self.flow(terms)?;
                 Ok(())
             }

@@ -7,7 +7,7 @@ ghost use Rattle.csdn_types.specs.Answers.{Answers, IsFirst};
 ghost use Rattle.csdn_types.specs.Faults.{fault_if, term_faults, flow_faults};
 ghost use Rattle.csdn_types.specs.Typed.{term_of, flow_of, packet_of};
 ghost use Rattle.csdn_core.specs.Same.{same_term};
-ghost use Rattle.csdn_types.specs.Commands.{own_faults, install_faults, forward_faults, flood_faults};
+ghost use Rattle.csdn_types.specs.Commands.{own_faults, install_faults, forward_faults, switch_faults, flood_faults};
 
 use crate::atoms::{flow, flow_row, packet_row};
 use crate::refusal::SortRefusal;
@@ -15,7 +15,7 @@ use crate::scope::Scope;
 use crate::terms::{named_term, term};
 use csdn_core::terms::{Sort, Term, Terms};
 use csdn_tree::names::{RawName, RawTerm};
-use csdn_tree::syntax::{RawFlow, RawPacket};
+use csdn_tree::syntax::{RawFlow, RawPacket, SwitchWord};
 
 /// The terms that stand for the packet of a handler, and its switch.
 #[derive(Clone, Copy)]
@@ -70,7 +70,7 @@ fn own_switch(scope: &Scope, own: &OwnTerms, name: &RawName) -> Result<Term, Sor
 /// egress port. Refused is the first term, from left to right, that is unknown, of another sort, or another switch
 /// (`NotAllowed`).
 #[tactic(auto, using(crate::proofs::First::first_steps))]
-pub fn install(scope: &Scope, own: &OwnTerms, raw: &RawFlow) -> Result<Terms, SortRefusal>
+fn install(scope: &Scope, own: &OwnTerms, raw: &RawFlow) -> Result<Terms, SortRefusal>
     ensures { Answers (install_faults own.now scope.now raw.now) (term_of scope.now (Name raw.now.switch) ∷ flow_of scope.now raw.now) result }
 {
     let switch = own_switch(scope, own, &raw.switch)?;
@@ -82,7 +82,7 @@ pub fn install(scope: &Scope, own: &OwnTerms, raw: &RawFlow) -> Result<Terms, So
 /// port. Refused is the first term, from left to right, that is unknown, of another sort, or not the handler's own
 /// (`NotAllowed`).
 #[tactic(auto, using(crate::proofs::First::first_steps))]
-pub fn forward(scope: &Scope, own: &OwnTerms, raw: &RawFlow) -> Result<Terms, SortRefusal>
+fn forward(scope: &Scope, own: &OwnTerms, raw: &RawFlow) -> Result<Terms, SortRefusal>
     ensures { Answers (forward_faults own.now scope.now raw.now) (term_of scope.now (Name raw.now.switch) ∷ flow_of scope.now raw.now) result }
 {
     let switch = own_switch(scope, own, &raw.switch)?;
@@ -91,6 +91,22 @@ pub fn forward(scope: &Scope, own: &OwnTerms, raw: &RawFlow) -> Result<Terms, So
     let ingress = own_term(scope, Sort::Pr, own.ingress, &raw.ingress)?;
     let egress = term(scope, Sort::Pr, &raw.egress)?;
     Ok(flow_row(switch, source, target, ingress, egress))
+}
+
+/// The terms of what the switch does.
+pub fn switch_terms(
+    scope: &Scope,
+    own: &OwnTerms,
+    word: SwitchWord,
+    raw: &RawFlow,
+) -> Result<Terms, SortRefusal>
+    ensures { Answers (switch_faults word own.now scope.now raw.now) (term_of scope.now (Name raw.now.switch) ∷ flow_of scope.now raw.now) result }
+{
+    match word {
+        SwitchWord::Install => install(scope, own, raw),
+        SwitchWord::Uninstall => install(scope, own, raw),
+        SwitchWord::Forward => forward(scope, own, raw),
+    }
 }
 
 /// The packet that `flood` sends: the handler's own switch, source, destination and ingress port. Refused is the first

@@ -32,11 +32,8 @@ command_fewer (raw_seq x y) a b h = omega (arith, command_fewer x a h.0 h.1, com
 command_fewer (raw_if p x y) a b h = omega (arith, formula_fewer p a h.0 h.2, command_fewer x h.0 h.1 h.3, command_fewer y h.1 b h.4)
 command_fewer (raw_pick name sort p x y) a b h =
     omega (arith, h.2, formula_fewer p (name.at + 1) h.0 h.3, command_fewer x h.0 h.1 h.4, command_fewer y h.1 b h.5)
-command_fewer (c.Insert name ts) a b h = omega (arith, h.0, terms_end (name.at + 1) b ts h.1)
-command_fewer (c.Remove name ts) a b h = omega (arith, h.0, terms_end (name.at + 1) b ts h.1)
-command_fewer (c.Install w) a b h = omega (arith, terms_end a b (Name w.switch ∷ w.source ∷ w.target ∷ w.ingress ∷ w.egress ∷ []) h)
-command_fewer (c.Uninstall w) a b h = omega (arith, terms_end a b (Name w.switch ∷ w.source ∷ w.target ∷ w.ingress ∷ w.egress ∷ []) h)
-command_fewer (c.Forward w) a b h = omega (arith, terms_end a b (Name w.switch ∷ w.source ∷ w.target ∷ w.ingress ∷ w.egress ∷ []) h)
+command_fewer (c.Change word name ts) a b h = omega (arith, h.0, terms_end (name.at + 1) b ts h.1)
+command_fewer (c.Switch word w) a b h = omega (arith, terms_end a b (Name w.switch ∷ w.source ∷ w.target ∷ w.ingress ∷ w.egress ∷ []) h)
 command_fewer (c.Flood w) a b h = omega (arith, terms_end a b (Name w.switch ∷ w.source ∷ w.target ∷ w.ingress ∷ []) h)
 
 rows_end : (rs : List RawRow) (a b : ℕ) → RowsWithin a rs b → a ≤ b

@@ -77,11 +77,8 @@ RestFine (r.Flow at word ts) = FlowFine ts
 RestFine (r.RcvThis at ts) = PacketFine ts
 
 abbrev ActionFine : Action → Type 0
-ActionFine (a.Insert ts) = Ports (terms_numerals ts)
-ActionFine (a.Remove ts) = Ports (terms_numerals ts)
-ActionFine (a.Install ts) = FlowFine ts
-ActionFine (a.Uninstall ts) = FlowFine ts
-ActionFine (a.Forward ts) = FlowFine ts
+ActionFine (a.Change word ts) = Ports (terms_numerals ts)
+ActionFine (a.Switch word ts) = FlowFine ts
 ActionFine (a.Flood ts) = PacketFine ts
 
 -- the names and the numerals in the value of a nonterminal are such
@@ -157,11 +154,8 @@ atom_fine x (r.RcvThis at ts) h = h
 
 command_fine : (x : RawName) (act : Action) → ActionFine act → CommandFine (command_of x act)
 unfolding command_numerals
-command_fine x (a.Insert ts) h = h
-command_fine x (a.Remove ts) h = h
-command_fine x (a.Install ts) h = h
-command_fine x (a.Uninstall ts) h = h
-command_fine x (a.Forward ts) h = h
+command_fine x (a.Change word ts) h = h
+command_fine x (a.Switch word ts) h = h
 command_fine x (a.Flood ts) h = h
 
 fine_seq : (x y : RawCommand) → CommandFine x → CommandFine y → CommandFine (c.Seq x y)

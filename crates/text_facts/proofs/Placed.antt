@@ -50,11 +50,8 @@ RestWithin from (r.Flow at word ts) to = (from ≤ at) × TermsWithin (at + 1) (
 RestWithin from (r.RcvThis at ts) to = (from ≤ at) × TermsWithin (at + 1) (packet_list ts) to
 
 abbrev ActionWithin : ℕ → Action → ℕ → Type 0
-ActionWithin from (a.Insert ts) to = TermsWithin from ts to
-ActionWithin from (a.Remove ts) to = TermsWithin from ts to
-ActionWithin from (a.Install ts) to = TermsWithin from (flow_list ts) to
-ActionWithin from (a.Uninstall ts) to = TermsWithin from (flow_list ts) to
-ActionWithin from (a.Forward ts) to = TermsWithin from (flow_list ts) to
+ActionWithin from (a.Change word ts) to = TermsWithin from ts to
+ActionWithin from (a.Switch word ts) to = TermsWithin from (flow_list ts) to
 ActionWithin from (a.Flood ts) to = TermsWithin from (packet_list ts) to
 
 -- the value of a nonterminal stands between two places
@@ -145,11 +142,8 @@ atom_within x (r.RcvThis at ts) a m n b h k e w = (h, omega (arith, k, w.0), wid
 
 command_within : (x : RawName) (act : Action) (a m n b : ℕ) → a ≤ x.at → x.at < m → n ≤ b → ActionWithin m act n → CommandWithin a (command_of x act) b
 unfolding CommandWithin TermsWithin
-command_within x (a.Insert ts) from m n b h k e w = (h, widen_terms ts m n (x.at + 1) b (omega (arith, k)) e w)
-command_within x (a.Remove ts) from m n b h k e w = (h, widen_terms ts m n (x.at + 1) b (omega (arith, k)) e w)
-command_within x (a.Install ts) from m n b h k e w = (h, widen_terms (flow_list ts) m n (x.at + 1) b (omega (arith, k)) e w)
-command_within x (a.Uninstall ts) from m n b h k e w = (h, widen_terms (flow_list ts) m n (x.at + 1) b (omega (arith, k)) e w)
-command_within x (a.Forward ts) from m n b h k e w = (h, widen_terms (flow_list ts) m n (x.at + 1) b (omega (arith, k)) e w)
+command_within x (a.Change word ts) from m n b h k e w = (h, widen_terms ts m n (x.at + 1) b (omega (arith, k)) e w)
+command_within x (a.Switch word ts) from m n b h k e w = (h, widen_terms (flow_list ts) m n (x.at + 1) b (omega (arith, k)) e w)
 command_within x (a.Flood ts) from m n b h k e w = (h, widen_terms (packet_list ts) m n (x.at + 1) b (omega (arith, k)) e w)
 
 within_seq : (x y : RawCommand) (a m b : ℕ) → CommandWithin a x m → CommandWithin m y b → CommandWithin a (c.Seq x y) b

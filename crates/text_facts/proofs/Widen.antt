@@ -47,11 +47,8 @@ widen_command (raw_if p x y) a b c d l r h =
     (h.0, h.1, widen_formula p a h.0 c h.0 l (le_refl h.0) h.2, h.3, widen_command y h.1 b h.1 d (le_refl h.1) r h.4)
 widen_command (raw_pick name sort p x y) a b c d l r h =
     (h.0, h.1, omega (arith, l, h.2), h.3, h.4, widen_command y h.1 b h.1 d (le_refl h.1) r h.5)
-widen_command (c.Insert name ts) a b c d l r h = (omega (arith, l, h.0), widen_terms ts (name.at + 1) b (name.at + 1) d (le_refl (name.at + 1)) r h.1)
-widen_command (c.Remove name ts) a b c d l r h = (omega (arith, l, h.0), widen_terms ts (name.at + 1) b (name.at + 1) d (le_refl (name.at + 1)) r h.1)
-widen_command (c.Install w) a b c d l r h = widen_terms (flow_terms w) a b c d l r h
-widen_command (c.Uninstall w) a b c d l r h = widen_terms (flow_terms w) a b c d l r h
-widen_command (c.Forward w) a b c d l r h = widen_terms (flow_terms w) a b c d l r h
+widen_command (c.Change word name ts) a b c d l r h = (omega (arith, l, h.0), widen_terms ts (name.at + 1) b (name.at + 1) d (le_refl (name.at + 1)) r h.1)
+widen_command (c.Switch word w) a b c d l r h = widen_terms (flow_terms w) a b c d l r h
 widen_command (c.Flood w) a b c d l r h = widen_terms (packet_terms w) a b c d l r h
 
 pub widen_rows : (rs : List RawRow) (a b c d : ℕ) → c ≤ a → b ≤ d → RowsWithin a rs b → RowsWithin c rs d
