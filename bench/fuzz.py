@@ -1,7 +1,8 @@
 #!/usr/bin/env python3
-"""fuzz.py [--count N] [--seed S] [READER..]: N inputs (1,000,000) for each reader of the built program, or for those named, made by
-changing worked ones. Each answer is held against what the formats say of that input (expected.py), so a crash, a call of more than ten seconds
-of the processor, and a line or a status that is not to be are found; an input whose answer is of a new form is changed further.
+"""fuzz.py [--count N] [--minutes M] [--seed S] [READER..]: N inputs (1,000,000), or as many as come in M minutes, for each reader of the built
+program, or for those named, made by changing worked ones. Each answer is held against what the formats say of that input (expected.py), so a
+crash, a call of more than ten seconds of the processor, and a line or a status that is not to be are found; an input whose answer is of a new
+form is changed further.
 
 The program's `main` is called again and again in one process (again.c): some 10,000 to 40,000 calls a second. For each reader there is a line
 with the number of inputs, of the forms of answers, and of the answers with each status. What was found is written to found-READER-N, and ends the
@@ -193,14 +194,14 @@ class Tally:
                 seeds.append(given)
 
 
-def fuzz(reader, library, count, seed):
-    chance = random.Random(f"{seed} {reader.name}")
+def fuzz(reader, library, told):
+    chance = random.Random(f"{told.seed} {reader.name}")
     program = Program(library, reader.fixed)
     tally = Tally(reader)
     seeds = list(reader.seeds)
     given = list(seeds)
     since = time.perf_counter()
-    while tally.count < count:
+    while tally.count < told.count and time.perf_counter() - since < 60 * told.minutes:
         given += [reader.change(chance, seeds) for _ in range(BATCH - len(given))]
         answers = program.run([reader.call(it) for it in given])
         again = []
@@ -342,13 +343,14 @@ def readers():
 def main():
     told = argparse.ArgumentParser()
     told.add_argument("--count", type=int, default=1_000_000)
+    told.add_argument("--minutes", type=float, default=float("inf"))
     told.add_argument("--seed", type=int, default=1)
     told.add_argument("readers", nargs="*")
     told = told.parse_args()
     with tempfile.TemporaryDirectory() as work:
         library = os.path.join(work, "again.so")
         subprocess.run(["cc", "-O2", "-shared", "-fPIC", "-o", library, os.path.join(HERE, "again.c"), "-ldl"], check=True)
-        found = sum(fuzz(it, library, told.count, told.seed) for it in readers() if not told.readers or it.name in told.readers)
+        found = sum(fuzz(it, library, told) for it in readers() if not told.readers or it.name in told.readers)
     sys.exit(1 if found else 0)
 
 

@@ -100,6 +100,13 @@ static void at_exit(int status)
     dprintf(2, "\n");
 }
 
+/* A program whose `main` returns ends so, one that calls `_exit` by that. */
+static void on_return(int status, void *none)
+{
+    (void)none;
+    at_exit(status);
+}
+
 __attribute__((constructor)) static void begin(void)
 {
     const char *what = getenv("REFUSE"), *number = getenv("REFUSE_AT"), *from = getenv("REFUSE_FROM"), *file = getenv("REFUSE_WHOLE");
@@ -118,11 +125,11 @@ __attribute__((constructor)) static void begin(void)
         close(fd);
         whole_status = atoi(getenv("REFUSE_STATUS"));
     }
+    on_exit(on_return, NULL);
     lasts = !strcmp(what, "memory");
     kind = lasts || !strcmp(what, "allocations") ? ALLOCATIONS : !strcmp(what, "calls") ? CALLS : BYTES;
 }
 
-/* The program ends by this. */
 void _exit(int status)
 {
     if (kind)
