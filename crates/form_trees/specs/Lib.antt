@@ -1,0 +1,4 @@
+pub mod Shapes
+pub mod Plain
+pub mod Trees
+pub mod Variables
