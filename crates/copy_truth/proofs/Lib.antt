@@ -1,5 +1,5 @@
 mod ReadLaws
 mod SetLaws
+mod FitsLaws
 mod JudgeSteps
-mod EarlySteps
 pub mod OpenTuples

@@ -24,9 +24,9 @@ use Rattle.ground_inst.specs.declared.facts.UsedRelation.{UsedRelation}
 use Rattle.copy_truth.specs.declared.opened.TheConstants.{OPEN}
 use Rattle.copy_truth.specs.declared.reading.Reading.{Reading}
 use Rattle.copy_truth.specs.Early.{AreColumns, AreNoneElsewhere, Fits, HoldsElsewhere, IsColumn, at_constant, is_known, is_this, is_variable, may_be, may_be_atom, place_of_variable, used_in}
-use Rattle.copy_truth.specs.Judged.{judged_copies}
+use Rattle.copy_truth.specs.Matrix.{matrix}
 use Rattle.copy_truth.specs.Said.{said_by}
-use Rattle.copy_truth.proofs.EarlySteps.{fits_at, is_open, same_place}
+use Rattle.copy_truth.proofs.FitsLaws.{fits_at, is_open, same_place}
 
 -- the relation that is used
 
@@ -106,9 +106,9 @@ module _ (r : Reading) (env : Scope) (rel : Pred) (u : UsedRelation) (ts : List 
   unfolding num_of
   number_is xs = ap suc (place_used (ways_of r.names).count r.names.facts.now.relations r.names.facts.now.count rel u xs is)
 
-  none_at : (here full : Scope) (base : Sort → ℕ) → AreColumns (ways_of r.names) env ts u.sorts → Fits (ways_of r.names).count env full → Fits (ways_of r.names).count here full → ((t : ℕ) → IsIn t r.trues.now → may_be_atom (ways_of r.names) here u ts t ≡ false) → judged_copies r (Atom false rel ts) full base ≡ true
+  none_at : (here full : Scope) → AreColumns (ways_of r.names) env ts u.sorts → Fits (ways_of r.names).count env full → Fits (ways_of r.names).count here full → ((t : ℕ) → IsIn t r.trues.now → may_be_atom (ways_of r.names) here u ts t ≡ false) → matrix r (Atom false rel ts) full ≡ true
   unfolding said_by
-  none_at here full base h fits fits_here none =
+  none_at here full h fits fits_here none =
       let xs = map (place (ways_of r.names).voc full) ts in
       let x = num_of r.names.facts.now (Tuple rel xs) in
       let below = columns_below (ways_of r.names) env full fits ts u.sorts h in
@@ -118,9 +118,9 @@ module _ (r : Reading) (env : Scope) (rel : Pred) (u : UsedRelation) (ts : List 
       ]
 
   pub rows_elsewhere : (x : Variable) (within missed : Candidates) → AreColumns (ways_of r.names) env ts u.sorts → AreNoneElsewhere (ways_of r.names) env x within missed u ts r.trues.now → HoldsElsewhere r (Atom false rel ts) env x within missed
-  rows_elsewhere x within missed h none full base fits at =
+  rows_elsewhere x within missed h none full fits at =
       let p = find_or nothing full x.var.0 in
-      none_at (at_constant x p.1 env) full base h fits (fits_at (ways_of r.names).count env full x.var.0 x.sort fits at.sort at.below) (none p.1 at.inside at.outside)
+      none_at (at_constant x p.1 env) full h fits (fits_at (ways_of r.names).count env full x.var.0 x.sort fits at.sort at.below) (none p.1 at.inside at.outside)
 
 -- A variable that is open is bound to a constant.
 

@@ -1,8 +1,9 @@
 -- What stands under the quantifiers of a form, each variable standing for its constant in one scope.
-use Rattle.std.specs.Prelude.{◌≡◌, Bool, true, false, ◌&&◌, ◌||◌, ◌∷◌}
+use Rattle.std.specs.Prelude.{Bool, ◌&&◌, ◌||◌, List, [], ◌∷◌, ◌++◌}
 use Rattle.fol_forms.specs.Forms.{Form, Fixed, Atom, Same, And, Or, ForAll, ForSome}
 use Rattle.decision_laws.specs.Copies.{Scope}
-use Rattle.ground_inst.specs.Walk.{equation_fact, tuple_fact, ways_of}
+use Rattle.ground_inst.specs.Walk.{equation_fact, scope, tuple_fact, ways_of}
+use Rattle.ground_inst.specs.declared.places.Binding.{Binding}
 use Rattle.copy_truth.specs.declared.opened.TheConstants.{OPEN}
 use Rattle.copy_truth.specs.declared.reading.Reading.{Reading}
 use Rattle.copy_truth.specs.Judged.{said_signed}
@@ -16,12 +17,16 @@ matrix r (Or p q) full = matrix r p full || matrix r q full
 matrix r (ForAll v s p) full = matrix r p full
 matrix r (ForSome v s p) full = matrix r p full
 
--- all variables that a form binds are left open
-abbrev pub opened : Form → Scope → Scope
-opened (Fixed b) env = env
-opened (Atom sign r ts) env = env
-opened (Same sign t u) env = env
-opened (And p q) env = opened q (opened p env)
-opened (Or p q) env = opened q (opened p env)
-opened (ForAll v s p) env = opened p ((v.0, (s, OPEN)) ∷ env)
-opened (ForSome v s p) env = opened p ((v.0, (s, OPEN)) ∷ env)
+-- the variables that a form binds, each left open, in the order in which they stand
+abbrev pub binders : Form → List Binding
+binders (Fixed b) = []
+binders (Atom sign r ts) = []
+binders (Same sign t u) = []
+binders (And p q) = binders p ++ binders q
+binders (Or p q) = binders p ++ binders q
+binders (ForAll v s p) = record { var = v; sort = s; place = OPEN } ∷ binders p
+binders (ForSome v s p) = record { var = v; sort = s; place = OPEN } ∷ binders p
+
+-- the scope of bindings with all those left open
+abbrev pub opened : List Binding → Form → Scope
+opened bs f = scope (bs ++ binders f)

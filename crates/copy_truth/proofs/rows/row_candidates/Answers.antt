@@ -3,7 +3,7 @@ use Rattle.fol_forms.specs.Counts.{count_of}
 use Rattle.decision_laws.specs.Numbers.{tuple_count}
 use Rattle.ground_inst.specs.Walk.{scope, ways_of}
 use Rattle.copy_truth.specs.Early.{at_constant}
-use Rattle.copy_truth.proofs.EarlySteps.{lacking_small}
+use Rattle.copy_truth.proofs.FitsLaws.{lacking_small}
 use Rattle.copy_truth.proofs.OpenTuples.{looks_behind, looks_next}
 use Rattle.copy_truth.proofs.rows.row_candidates.Goals as goal
 
