@@ -4,3 +4,4 @@ pub mod Matrix
 pub mod Candidates
 pub mod Early
 pub mod Breaking
+pub mod Outlook

@@ -73,6 +73,14 @@ impl Candidates {
         self
     }
 
+    /// How many of them stand below a place, those from 128 on left out.
+    pub fn count_below(self, count: u64) -> u32 {
+        if count >= 128 {
+            return self.bits.count_ones();
+        }
+        (self.bits & ((1 << count) - 1)).count_ones()
+    }
+
     /// These and others.
     pub fn with_all(self, others: Candidates) -> Candidates
         ensures { (place : ℕ) → has_place result place ≡ (has_place self place || has_place others place) }

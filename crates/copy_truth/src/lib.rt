@@ -8,6 +8,8 @@ pub mod breaking;
 pub mod candidates;
 pub mod facts;
 pub mod judging;
+pub mod literals;
+pub mod misses;
 pub mod needing;
 pub mod opened;
 pub mod reading;

@@ -16,13 +16,12 @@ use form_trees::trees::FormTree;
 use ground_inst::places::Binding;
 use std::alloc::AllocError;
 
-/// Whether open variables may stand for constants with which the matrix of a tree is false, where at most so many are open. The
-/// bindings are the same at the end.
+/// Whether open variables may stand for constants with which the matrix of a tree is false. The bindings are the same at the end.
+/// It may take time that is exponential in the number of open variables.
 pub fn is_broken(
     r: &Reading,
     tree: &FormTree,
     env: &mut Vec<Binding>,
-    open: usize,
 ) -> Result<bool, AllocError>
     requires filled { (s : AnySort) → 0 < (ways_of r.now.names).count s }
     ensures yes { IfOk result (λ b. b ≡ true → IsFalseSomewhere r.now (tree_form tree.now) (scope env.old.items)) }
@@ -33,13 +32,12 @@ pub fn is_broken(
 }
 
 /// Constants of an open variable: where it stands for none of them, the matrix of a tree is true, whatever other open variables stand
-/// for. At most so many are open. The bindings are the same at the end.
+/// for. The bindings are the same at the end.
 pub fn search_misses(
     r: &Reading,
     x: Variable,
     tree: &FormTree,
     env: &mut Vec<Binding>,
-    open: usize,
 ) -> Result<Candidates, AllocError>
     ensures value { IfOk result (λ c. HoldsOutside r.now (tree_form tree.now) (scope env.old.items) x c) }
     ensures env { OnOk result (env.new.items ≡ env.old.items) }
