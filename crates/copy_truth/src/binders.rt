@@ -1,15 +1,35 @@
 //! The variables that a tree binds.
 #![tactic(auto)]
 
-ghost use Rattle.std.specs.Prelude.{◌≡◌, ◌++◌, ◌∷◌, OnOk};
+ghost use Rattle.std.specs.Prelude.{◌≡◌, ◌++◌, ◌∷◌, ◌<◌, ◌==◌, true, not, OnOk};
+ghost use Rattle.std.specs.List.{list_all};
+ghost use Rattle.csdn_core.specs.declared.terms.Sort.{Sort as AnySort};
 ghost use Rattle.form_trees.specs.Trees.{tree_form};
+ghost use Rattle.ground_inst.specs.Walk.{ways_of};
 ghost use Rattle.copy_truth.specs.Matrix.{binders as binders_of};
 
-use crate::opened::{OPEN, Variable};
+use crate::opened::{OPEN, Variable, are_bound};
+use csdn_core::terms::Sort;
 use form_trees::trees::{FormTree, Part, part_of};
-use ground_inst::places::Binding;
+use ground_inst::places::{Binding, Names};
 use ground_inst::walk::bind;
 use std::alloc::AllocError;
+
+/// Whether no variable is open, and each sort has a constant: only then are more variables left open.
+pub fn can_open(names: &Names, env: &[Binding]) -> bool
+    ensures known { result ≡ true → list_all (λ b. not (b.place == OPEN)) env.now ≡ true }
+    ensures filled { result ≡ true → (s : AnySort) → 0 < (ways_of names.now).count s }
+{
+    has_constants(names) && are_bound(env)
+}
+
+// Whether each sort has a constant.
+fn has_constants(names: &Names) -> bool
+    ensures { result ≡ true → (s : AnySort) → 0 < (ways_of names.now).count s }
+{
+    let counts = &names.facts.counts;
+    counts.of(Sort::Sw) > 0 && counts.of(Sort::Ho) > 0 && counts.of(Sort::Pr) > 0
+}
 
 #[cycle(open_binders)]
 /// Leaves all variables open that a tree binds. It takes as many steps as the tree has parts.
