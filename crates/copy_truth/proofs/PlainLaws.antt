@@ -1,14 +1,13 @@
 -- Plain forms, all their variables left open.
-use Rattle.std.proofs.Common.{◌≡◌, ◌∙◌, ◌⊎◌, ℕ, ◌-◌, ◌^◌, ◌<◌, ◌==◌, Bool, true, false, not, List, [], ◌∷◌, ◌++◌, refl, sym, ap, ap₂, cond, subst, inl, inr, eqb-true, eq-eqb}
+use Rattle.std.proofs.Common.{◌≡◌, ◌∙◌, ℕ, ◌-◌, ◌^◌, ◌<◌, ◌==◌, Bool, true, false, not, List, [], ◌∷◌, ◌++◌, refl, sym, ap, ap₂, cond, subst, inl, inr, eq-eqb}
 use Rattle.std.proofs.lemmas.Bool.{cases_Bool, false≢true}
 use Rattle.std.proofs.lemmas.List.{append-nil, append_assoc}
 use Rattle.std.specs.List.{list_all}
 use Rattle.csdn_core.specs.declared.terms.Sort.{Sort}
-use Rattle.csdn_core.specs.declared.terms.VarId.{VarId}
 use Rattle.fol_forms.specs.Forms.{And, Atom, Fixed, ForAll, ForSome, Form, Or, Same}
 use Rattle.form_trees.specs.Plain.{IsPlain, binds_variable}
 use Rattle.decision_laws.specs.Copies.{Scope}
-use Rattle.ground_inst.specs.Walk.{entry, scope, ways_of}
+use Rattle.ground_inst.specs.Walk.{scope, ways_of}
 use Rattle.ground_inst.specs.declared.places.Binding.{Binding}
 use Rattle.ground_inst.proofs.Scopes.{scope_more}
 use Rattle.copy_truth.specs.declared.opened.TheConstants.{OPEN}
@@ -19,9 +18,9 @@ use Rattle.copy_truth.specs.Breaking.{AreCandidates}
 use Rattle.copy_truth.specs.Candidates.{has_place}
 use Rattle.copy_truth.specs.Early.{Fits, HoldsOutside, IsFalseSomewhere, IsTrueThroughout, Stands}
 use Rattle.copy_truth.specs.Judged.{judged_copies}
-use Rattle.copy_truth.specs.Matrix.{binders, matrix}
+use Rattle.copy_truth.specs.Matrix.{binders}
 use Rattle.copy_truth.proofs.FitsLaws.{all_known, fits_itself, fits_open, scope_known}
-use Rattle.copy_truth.proofs.PrenexLaws.{Agrees, Fails, IsOf, Reaches, binder_of, bound_at, bound_there, constant_of, fails_matrix, free_there, true_matrix}
+use Rattle.copy_truth.proofs.PrenexLaws.{Agrees, IsOf, Reaches, binder_of, bound_at, bound_there, constant_of, fails_matrix, free_there, true_matrix}
 use Rattle.copy_truth.proofs.SetLaws.{has_ones}
 
 -- no variable is open
@@ -94,9 +93,9 @@ plain_candidates r f x bs xs c filled known plain e holds place below out base =
       let w = fails_matrix r filled f here base plain.0 fails in
       let is : constant_of w.full v ≡ (x.sort, place) = w.reaches.free v plain.1 ∙ ap (λ b. cond b (x.sort, place) (constant_of (scope bs) v)) (eq-eqb v v refl) in
       let opens : scope xs ≡ bound_at OPEN f ((v, (x.sort, OPEN)) ∷ scope bs) =
-        ap scope e ∙ opened_scope f (bs ++ record { var = x.var; sort = x.sort; place = OPEN } ∷ []) ∙ ap (bound_at OPEN f) (scope_more bs (record { var = x.var; sort = x.sort; place = OPEN })) in
+      ap scope e ∙ opened_scope f (bs ++ record { var = x.var; sort = x.sort; place = OPEN } ∷ []) ∙ ap (bound_at OPEN f) (scope_more bs (record { var = x.var; sort = x.sort; place = OPEN })) in
       let fits : Fits n (scope xs) w.full =
-        subst (λ env. Fits n env w.full) (sym opens) (fits_reached n f plain.0 ((v, (x.sort, OPEN)) ∷ scope bs) here w.full (fits_open n (scope bs) (scope bs) v x.sort place below (fits_itself n bs known)) w.reaches) in
+      subst (λ env. Fits n env w.full) (sym opens) (fits_reached n f plain.0 ((v, (x.sort, OPEN)) ∷ scope bs) here w.full (fits_open n (scope bs) (scope bs) v x.sort place below (fits_itself n bs known)) w.reaches) in
       absurd (false≢true (sym w.fails ∙ holds (record { bits = 2 ^ 128 - 1 }) w.full fits (record {
         sort = ap (λ p. p.0) is;
         below = subst (λ p. p.1 < n x.sort) (sym is) below;

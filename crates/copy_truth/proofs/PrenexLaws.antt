@@ -1,5 +1,5 @@
 -- A plain form is true exactly where its matrix is, whatever constants its variables stand for.
-use Rattle.std.proofs.Common.{◌≡◌, ◌∙◌, ◌⊎◌, ℕ, zero, suc, ◌+◌, ◌<◌, ◌==◌, Bool, true, false, not, ◌&&◌, ◌||◌, List, [], ◌∷◌, ◌++◌, map, refl, sym, ap, ap₂, cond, subst, arith, inl, inr, eqb-true, eq-eqb}
+use Rattle.std.proofs.Common.{◌≡◌, ◌∙◌, ◌⊎◌, ℕ, ◌+◌, ◌<◌, ◌==◌, Bool, true, false, ◌&&◌, ◌||◌, List, [], ◌∷◌, map, refl, sym, ap, ap₂, cond, subst, arith, inl, inr, eqb-true, eq-eqb}
 use Rattle.std.proofs.lemmas.Bool.{and_cases, and_from, and_left, and_parts, and_right, cases_Bool, false_from_ne_true, false≢true, or_cases, or_from, or_left, or_parts, or_right}
 use Rattle.std.specs.List.{list_all, list_any}
 use Rattle.csdn_core.specs.Members.{IsIn}
@@ -13,7 +13,7 @@ use Rattle.form_trees.specs.Plain.{IsApartFrom, IsPlain, binds_variable, is_vari
 use Rattle.decision_laws.specs.Copies.{Copy, Fact, Scope, copies, each, judge, nothing, place, place_sort}
 use Rattle.decision_laws.specs.Vocabulary.{Vocabulary, find_or, places_from}
 use Rattle.decision_laws.proofs.Basics.{in_place, judge-each, judge_each_at}
-use Rattle.ground_inst.specs.Walk.{Ways, equation_fact, tuple_fact, ways_of}
+use Rattle.ground_inst.specs.Walk.{ways_of}
 use Rattle.copy_truth.specs.declared.reading.Reading.{Reading}
 use Rattle.copy_truth.specs.Judged.{judged_copies, said_signed}
 use Rattle.copy_truth.specs.Matrix.{matrix}
@@ -150,6 +150,7 @@ agrees_inner : (n : Sort → ℕ) (u : VarId) (s : Sort) (p : Form) (env full : 
 agrees_inner n u s p env full a = record { named = λ v e b. named v e b (cases_Bool (v == u.0)); bound = λ v t i. a.bound v t (inr i) } where
   this : (s, (constant_of full u.0).1) ≡ constant_of full u.0
   this = ap (λ t. (t, (constant_of full u.0).1)) (sym (a.bound u.0 s (inl (refl, refl))).sort)
+
   named : (v : ℕ) → names_variable p v ≡ true → binds_variable p v ≡ false → ((v == u.0) ≡ true) ⊎ ((v == u.0) ≡ false) → constant_of ((u.0, (s, (constant_of full u.0).1)) ∷ env) v ≡ constant_of full v
   named v e b (inl t) = ap (λ c. cond c (s, (constant_of full u.0).1) (constant_of env v)) t ∙ this ∙ ap (constant_of full) (sym (eqb-true v u.0 t))
   named v e b (inr f) =

@@ -29,7 +29,7 @@ use ground_inst::walk::bind;
 use std::alloc::AllocError;
 
 #[cycle(judge)]
-/// Whether the copies of a tree are true. The bindings are the same at the end.
+/// Whether the copies of a tree are true. The bindings are the same at the end. Where they are one leaf, no search is made.
 pub fn judge(
     r: &Reading,
     tree: &FormTree,
@@ -40,18 +40,15 @@ pub fn judge(
     ensures value { IfOk result (λ b. b ≡ judged_copies r.now (tree_form tree.now) (scope env.old.items) (count_of base)) }
     ensures env { OnOk result (env.new.items ≡ env.old.items) }
 {
-    if extent_of(tree).is_plain && can_open(&r.names, env) {
+    let extent = extent_of(tree);
+    if extent.is_plain && extent.nodes > 0 && can_open(&r.names, env) {
         return judge_plain(r, tree, env);
     }
     judge_parts(r, tree, env, base)
 }
 
 // Whether the copies of a plain tree are true: no constants break its matrix.
-fn judge_plain(
-    r: &Reading,
-    tree: &FormTree,
-    env: &mut Vec<Binding>,
-) -> Result<bool, AllocError>
+fn judge_plain(r: &Reading, tree: &FormTree, env: &mut Vec<Binding>) -> Result<bool, AllocError>
     requires plain { IsPlain (tree_form tree.now) }
     requires known { list_all (λ b. not (b.place == OPEN)) env.now.items ≡ true }
     requires filled { (s : AnySort) → 0 < (ways_of r.now.names).count s }

@@ -2,7 +2,6 @@ use Rattle.std.proofs.Common.{◌≡◌, ◌<◌, ◌∙◌, arith}
 use Rattle.fol_forms.specs.Counts.{count_of}
 use Rattle.form_trees.specs.Trees.{tree_form}
 use Rattle.ground_inst.specs.Walk.{scope}
-use Rattle.copy_truth.specs.Judged.{judged_bound}
 use Rattle.copy_truth.proofs.JudgeSteps.{all_judged, member_judged, more_judged, one_judged}
 use Rattle.copy_truth.proofs.judging.+judge.Goals as goal
 
