@@ -1,5 +1,7 @@
 mod ReadLaws
 mod SetLaws
 mod FitsLaws
+mod PrenexLaws
+mod PlainLaws
 mod JudgeSteps
 pub mod OpenTuples
