@@ -55,8 +55,7 @@ fn plain_candidates(
     let known = env.len();
     bind(env, x.at(OPEN))?;
     open_binders(body, env)?;
-    let open = env.len().saturating_sub(known);
-    let candidates = search_misses(r, x, body, env, open)?;
+    let candidates = search_misses(r, x, body, env)?;
     env.truncate(known);
     Ok(candidates)
 }

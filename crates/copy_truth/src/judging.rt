@@ -57,8 +57,7 @@ fn judge_plain(r: &Reading, tree: &FormTree, env: &mut Vec<Binding>) -> Result<b
 {
     let known = env.len();
     open_binders(tree, env)?;
-    let open = env.len().saturating_sub(known);
-    let broken = is_broken(r, tree, env, open)?;
+    let broken = is_broken(r, tree, env)?;
     env.truncate(known);
     Ok(!broken)
 }

@@ -39,6 +39,7 @@ pub fn search_misses(
     tree: &FormTree,
     env: &mut Vec<Binding>,
 ) -> Result<Candidates, AllocError>
+    requires filled { (s : AnySort) → 0 < (ways_of r.now.names).count s }
     ensures value { IfOk result (λ c. HoldsOutside r.now (tree_form tree.now) (scope env.old.items) x c) }
     ensures env { OnOk result (env.new.items ≡ env.old.items) }
 {
