@@ -1,5 +1,5 @@
 -- Sets of variables, by their bits.
-use Rattle.std.proofs.Common.{◌≡◌, ◌∙◌, ℕ, max, min, ◌<◌, ◌==◌, Bool, true, false, ◌||◌, sym, ap, arith, inl, inr}
+use Rattle.std.proofs.Common.{◌≡◌, ◌∙◌, ℕ, max, min, ◌<◌, ◌==◌, Bool, true, false, ◌||◌, ap, arith, inl, inr}
 use Rattle.std.specs.Int.{bit_at}
 use Rattle.std.specs.Int.RustNames.{bit_and, bit_or}
 use Rattle.std.proofs.lemmas.Bool.{both_ways, eqb-false, eqb-true, ne_eqb, or_cases, or_from, or_parts}
