@@ -30,15 +30,15 @@ bound_at u o p inside has kept lacks v h =
 
 -- a form of two parts, without quantifier
 module _ (n : Sort → ℕ) (f g h : Form)
-  (weigh : weight n h ≡ suc (weight n f + weight n g))
-  (plain : IsPlain f × IsPlain g × IsApartFrom f g × IsApartFrom g f → IsPlain h)
-  (names : (v : ℕ) → names_variable h v ≡ (names_variable f v || names_variable g v))
-  (binds : (v : ℕ) → binds_variable h v ≡ (binds_variable f v || binds_variable g v))
-  (p q : Outline) (i : IsOutline n f p) (j : IsOutline n g q) where
+    (weigh : weight n h ≡ suc (weight n f + weight n g))
+    (plain : IsPlain f × IsPlain g × IsApartFrom f g × IsApartFrom g f → IsPlain h)
+    (names : (v : ℕ) → names_variable h v ≡ (names_variable f v || names_variable g v))
+    (binds : (v : ℕ) → binds_variable h v ≡ (binds_variable f v || binds_variable g v))
+    (p q : Outline) (i : IsOutline n f p) (j : IsOutline n g q) where
   pub beside_at : (o : Outline) → o.extent.nodes ≡ suc (p.extent.nodes + q.extent.nodes) → ((t : Sort) → count_of o.extent.need t ≡ need h t) → (o.extent.is_plain ≡ true → IsPlain f × IsPlain g × IsApartFrom f g × IsApartFrom g f)
-    → ((v : ℕ) → has_variable o.bound v ≡ false → has_variable p.bound v ≡ false) → ((v : ℕ) → has_variable o.bound v ≡ false → has_variable q.bound v ≡ false)
-    → ((v : ℕ) → has_variable o.mentioned v ≡ false → has_variable p.mentioned v ≡ false) → ((v : ℕ) → has_variable o.mentioned v ≡ false → has_variable q.mentioned v ≡ false)
-    → IsOutline n h o
+      → ((v : ℕ) → has_variable o.bound v ≡ false → has_variable p.bound v ≡ false) → ((v : ℕ) → has_variable o.bound v ≡ false → has_variable q.bound v ≡ false)
+      → ((v : ℕ) → has_variable o.mentioned v ≡ false → has_variable p.mentioned v ≡ false) → ((v : ℕ) → has_variable o.mentioned v ≡ false → has_variable q.mentioned v ≡ false)
+      → IsOutline n h o
   beside_at o nodes needs apart bound_p bound_q mentioned_p mentioned_q =
       record {
         extent = record {

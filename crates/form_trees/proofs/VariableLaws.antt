@@ -26,5 +26,5 @@ apart_at s t i j none v h = elim (or_cases s.is_all (bit_at s.bits v == 1) h) [
   | inl e ↦ absurd (both_ways s.is_all i e)
   | inr e ↦ or_from t.is_all (bit_at t.bits v == 1) j
       (other_bit (bit_at s.bits v) (bit_at t.bits v) (bit_at (bit_and s.bits t.bits) v) (bit_at_and s.bits t.bits v)
-        (ap (λ n. bit_at n v) (eqb-true (bit_and s.bits t.bits) 0 none) ∙ bit_at-zero v) (eqb-true (bit_at s.bits v) 1 e))
+      (ap (λ n. bit_at n v) (eqb-true (bit_and s.bits t.bits) 0 none) ∙ bit_at-zero v) (eqb-true (bit_at s.bits v) 1 e))
 ]

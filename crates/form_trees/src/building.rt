@@ -41,12 +41,7 @@ pub fn form_tree(
 }
 
 // The tree of the normal form, or for the sign `false` of that of the negation.
-fn made(
-    alloc: Global,
-    counts: &Counts,
-    formula: &Formula,
-    sign: bool,
-) -> Result<Built, AllocError>
+fn made(alloc: Global, counts: &Counts, formula: &Formula, sign: bool) -> Result<Built, AllocError>
     ensures { IfOk result (λ b. IsBuilt (count_of counts.now) (normal_form sign formula.now) b) }
 {
     match view(formula, sign) {

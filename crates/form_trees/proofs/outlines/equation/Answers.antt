@@ -13,4 +13,4 @@ returns c =
     let first = c.with_term-named.ensures in
     let second = c.with_term.ensures in
     λ n sign. leaf_at n (Same sign t u) c.leaf.result c.with_term.result c.leaf.ensures.extent c.leaf.ensures.mentioned (extent-Equation n sign t u) (λ v. refl)
-      (λ v h. or_from (is_variable v t) (is_variable v u) (first.one v (second.kept v h)) (second.one v h))
+    (λ v h. or_from (is_variable v t) (is_variable v u) (first.one v (second.kept v h)) (second.one v h))
