@@ -147,7 +147,7 @@ module _ (n : Sort → ℕ) where
 
 -- The extents of leaves.
 
-no_need : (s : Sort) → count_of no_extent.need s ≡ 0
+pub no_need : (s : Sort) → count_of no_extent.need s ≡ 0
 unfolding count_of
 no_need Sw = refl
 no_need Ho = refl

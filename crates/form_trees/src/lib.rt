@@ -2,6 +2,8 @@
 //! its quantifiers may all be brought before it.
 #![tactic(auto)]
 
+pub mod amounts;
 pub mod building;
+pub mod outlines;
 pub mod trees;
 pub mod variables;

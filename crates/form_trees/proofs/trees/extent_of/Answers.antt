@@ -1,5 +1,4 @@
-use Rattle.std.proofs.Common.{◌≡◌, ℕ, refl, subst, sym}
-use Rattle.csdn_core.specs.declared.terms.Sort.{Sort as AnySort}
+use Rattle.std.proofs.Common.{refl, subst}
 use Rattle.form_trees.specs.Trees.{IsMeasured, tree_form}
 use Rattle.form_trees.proofs.TreeSteps.{extent_at, extent-Truth, extent-Tuple, extent-Equation, form-Truth, form-Tuple, form-Equation, form-Both, form-Either, form-Forall, form-Exists, parts-Both, parts-Either, parts-Forall, parts-Exists}
 use Rattle.fol_forms.specs.Forms.{Fixed, Atom, Same, And, Or, ForAll, ForSome}

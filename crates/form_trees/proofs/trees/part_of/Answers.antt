@@ -1,6 +1,5 @@
-use Rattle.std.proofs.Common.{◌≡◌, ℕ, refl, subst, sym}
-use Rattle.csdn_core.specs.declared.terms.Sort.{Sort as AnySort}
-use Rattle.form_trees.specs.Trees.{IsMeasured, tree_form}
+use Rattle.std.proofs.Common.{subst, sym}
+use Rattle.form_trees.specs.Trees.{IsMeasured}
 use Rattle.form_trees.proofs.TreeSteps.{parts-Both, parts-Either, parts-Forall, parts-Exists}
 use Rattle.form_trees.proofs.trees.part_of.Goals as goal
 
