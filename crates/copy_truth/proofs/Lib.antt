@@ -1,5 +1,6 @@
 mod ReadLaws
 mod SetLaws
 mod FitsLaws
+mod EarlySteps
 mod JudgeSteps
 pub mod OpenTuples
