@@ -21,7 +21,7 @@ use Rattle.copy_truth.specs.Matrix.{matrix}
 use Rattle.copy_truth.specs.Said.{said_by}
 use Rattle.copy_truth.proofs.FitsLaws.{fits_at, lacking_small, same_place, same_place_sort, same_places}
 
-leaf_same : (r : Reading) (env full : Scope) (sign : Bool) (l : Leaf) → Fits (ways_of r.names).count env full → is_known_leaf (ways_of r.names).voc env l ≡ true → matrix r (leaf_form sign l) env ≡ matrix r (leaf_form sign l) full
+pub leaf_same : (r : Reading) (env full : Scope) (sign : Bool) (l : Leaf) → Fits (ways_of r.names).count env full → is_known_leaf (ways_of r.names).voc env l ≡ true → matrix r (leaf_form sign l) env ≡ matrix r (leaf_form sign l) full
 leaf_same r env full sign (leaf.Tuple rel ts) fits known =
     ap (λ xs. signed sign (said_by r (Tuple rel xs))) (same_places (ways_of r.names).count (ways_of r.names).voc env full fits ts.now known)
 leaf_same r env full sign (leaf.Equation t u) fits known =

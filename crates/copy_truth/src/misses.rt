@@ -24,8 +24,9 @@ use ground_inst::facts::UsedRelation;
 use ground_inst::places::Binding;
 use std::alloc::AllocError;
 
-// Those of some constants at which a negated atom with open variables may be false.
-fn negated_misses(
+/// Those of some constants at which a negated atom with open variables may be false. It looks at the true atoms up to the last of
+/// its relation.
+pub fn negated_misses(
     r: &Reading,
     x: Variable,
     within: Candidates,
@@ -81,9 +82,9 @@ fn holds_at(
     judge_leaf_at(r, sign, leaf, binding, env)
 }
 
-// Those of some constants at which an atom or an equation with open variables is false, each of them tried, if no other variable is
-// open; else all.
-fn tried_misses(
+/// Those of some constants at which an atom or an equation with open variables is false, each of them tried, if no other variable is
+/// open; else all.
+pub fn tried_misses(
     r: &Reading,
     x: Variable,
     within: Candidates,
