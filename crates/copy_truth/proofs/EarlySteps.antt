@@ -21,7 +21,7 @@ use Rattle.copy_truth.specs.Matrix.{matrix}
 use Rattle.copy_truth.specs.Said.{said_by}
 use Rattle.copy_truth.proofs.FitsLaws.{fits_at, lacking_small, same_place, same_place_sort, same_places}
 
-pub leaf_same : (r : Reading) (env full : Scope) (sign : Bool) (l : Leaf) → Fits (ways_of r.names).count env full → is_known_leaf (ways_of r.names).voc env l ≡ true → matrix r (leaf_form sign l) env ≡ matrix r (leaf_form sign l) full
+leaf_same : (r : Reading) (env full : Scope) (sign : Bool) (l : Leaf) → Fits (ways_of r.names).count env full → is_known_leaf (ways_of r.names).voc env l ≡ true → matrix r (leaf_form sign l) env ≡ matrix r (leaf_form sign l) full
 leaf_same r env full sign (leaf.Tuple rel ts) fits known =
     ap (λ xs. signed sign (said_by r (Tuple rel xs))) (same_places (ways_of r.names).count (ways_of r.names).voc env full fits ts.now known)
 leaf_same r env full sign (leaf.Equation t u) fits known =
@@ -30,6 +30,10 @@ leaf_same r env full sign (leaf.Equation t u) fits known =
     let parts = and_parts (is_known voc env t) (is_known voc env u) known in
     ap (λ s. signed sign (said_by r (Equation s (place voc env t) (place voc env u)))) (same_place_sort n voc env full fits t)
     ∙ ap₂ (λ x y. signed sign (said_by r (Equation (place_sort voc full t) x y))) (same_place n voc env full fits t parts.0) (same_place n voc env full fits u parts.1)
+
+-- a leaf that is known is the same whatever open variables stand for
+pub known_throughout : (r : Reading) (env : Scope) (sign : Bool) (l : Leaf) (b c : Bool) → is_known_leaf (ways_of r.names).voc env l ≡ true → b ≡ matrix r (leaf_form sign l) env → b ≡ c → (full : Scope) → Fits (ways_of r.names).count env full → matrix r (leaf_form sign l) full ≡ c
+known_throughout r env sign l b c known e is full fits = sym (leaf_same r env full sign l fits known) ∙ sym e ∙ is
 
 -- what is known where the variable stands for one constant is known where it stands for another
 

@@ -2,6 +2,5 @@ mod ReadLaws
 mod SetLaws
 mod FitsLaws
 mod EarlySteps
-mod OutlookLaws
 mod JudgeSteps
 pub mod OpenTuples

@@ -1,6 +1,6 @@
 use Rattle.std.proofs.Common.{true, false}
 use Rattle.ground_inst.specs.Walk.{scope}
-use Rattle.copy_truth.proofs.OutlookLaws.{known_throughout}
+use Rattle.copy_truth.proofs.EarlySteps.{known_throughout}
 use Rattle.copy_truth.proofs.literals.known_outlook.Goals as goal
 
 pub returns-then-branch : goal.returns-then-branch
