@@ -3,5 +3,6 @@ mod SetLaws
 mod FitsLaws
 mod PrenexLaws
 mod PlainLaws
+mod EarlySteps
 mod JudgeSteps
 pub mod OpenTuples

@@ -1,7 +1,7 @@
 //! Sets of constants of one sort.
 #![tactic(auto)]
 
-ghost use Rattle.std.specs.Prelude.{◌≡◌, ◌==◌, ◌||◌, ℕ, true, false, not, nat_lt};
+ghost use Rattle.std.specs.Prelude.{◌≡◌, ◌<◌, ◌==◌, ◌||◌, ℕ, true, false, not, nat_lt};
 ghost use Rattle.copy_truth.specs.Candidates.{has_place};
 
 /// Constants of one sort, as bits: those at places from 128 on are always among them.
@@ -37,6 +37,13 @@ impl Candidates {
         ensures { result ≡ true → (place : ℕ) → has_place self place ≡ not (nat_lt place 128) }
     {
         self.bits == 0
+    }
+
+    /// Whether none of them stands below a place; it may also answer no for places from 128 on.
+    pub fn are_none_below(self, count: u64) -> bool
+        ensures { result ≡ true → (place : ℕ) → place < count → has_place self place ≡ false }
+    {
+        self.is_fewest() && count <= 128
     }
 
     /// These and one more.

@@ -1,11 +1,11 @@
 //! What a fact with a sign is, where the facts are what is said of them.
 #![tactic(auto)]
 
-ghost use Rattle.std.specs.Prelude.{◌≡◌, ℕ, IfOk, OnOk};
-ghost use Rattle.ground_inst.specs.Walk.{equation_fact, scope, tuple_fact, ways_of};
-ghost use Rattle.csdn_core.specs.declared.terms.Sort.{Sort as AnySort};
+ghost use Rattle.std.specs.Prelude.{◌≡◌, ◌∷◌, IfOk, OnOk};
+ghost use Rattle.ground_inst.specs.Walk.{entry, equation_fact, scope, tuple_fact, ways_of};
 ghost use Rattle.copy_truth.specs.Early.{at_constant, is_known_leaf as is_known_there, leaf_form};
-ghost use Rattle.copy_truth.specs.Judged.{judged_bound, judged_copies, said_signed};
+ghost use Rattle.copy_truth.specs.Judged.{said_signed};
+ghost use Rattle.copy_truth.specs.Matrix.{matrix};
 
 use crate::opened::{Variable, are_known, is_known};
 use crate::reading::{Reading, is_true};
@@ -61,7 +61,7 @@ pub fn is_known_leaf(names: &Names, env: &[Binding], leaf: &Leaf) -> bool
 
 /// Whether a leaf is true, or for the sign `false` its negation.
 pub fn judge_leaf(r: &Reading, sign: bool, leaf: &Leaf, env: &[Binding]) -> Result<bool, AllocError>
-    ensures { IfOk result (λ b. (base : AnySort → ℕ) → b ≡ judged_copies r.now (leaf_form sign leaf.now) (scope env.now) base) }
+    ensures { IfOk result (λ b. b ≡ matrix r.now (leaf_form sign leaf.now) (scope env.now)) }
 {
     match leaf {
         Leaf::Tuple(relation, terms) => judge_tuple(r, sign, *relation, terms, env),
@@ -77,7 +77,7 @@ pub fn judge_leaf_at(
     binding: Binding,
     env: &mut Vec<Binding>,
 ) -> Result<bool, AllocError>
-    ensures value { IfOk result (λ b. (base : AnySort → ℕ) → b ≡ judged_bound r.now (leaf_form sign leaf.now) binding (scope env.old.items) base) }
+    ensures value { IfOk result (λ b. b ≡ matrix r.now (leaf_form sign leaf.now) (entry binding ∷ scope env.old.items)) }
     ensures env { OnOk result (env.new.items ≡ env.old.items) }
 {
     bind(env, binding)?;
