@@ -54,7 +54,7 @@ fn write_nodes(
     tree: &FormTree,
     rows: &mut Rows,
 ) -> Result<(), AllocError>
-    requires measured { IsMeasured (count_of names.entry.facts.now.counts) tree.now }
+    requires measured { IsMeasured (count_of names.facts.now.counts) tree.now }
     ensures { OnOk result (rows.new ≡ rows.old ++ open_named (num_of names.entry.facts.now) (suc names.entry.facts.now.count) (copies_over names.entry.parts.now (count_of names.entry.facts.now.counts) (tree_form tree.now))) }
 {
     let mut work = Work {

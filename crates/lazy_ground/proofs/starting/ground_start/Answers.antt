@@ -13,7 +13,8 @@ returns-clause-lazy c =
     record {
       sentence = c.in_ok-sentence.ensures;
       facts = subst (λ Q. AreFactsOf Q F c.in_ok-facts.facts) c.parts-parts.ensures.value c.in_ok-facts.ensures;
-      simple = c.in_ok-simple.ensures;
+      simple = c.in_ok-tree.ensures.form ∙ c.in_ok-simple.ensures;
+      measured = c.in_ok-tree.ensures.measured;
       atoms = c.in_ok-clauses.ensures.atoms ∙ ap (λ Q. atoms Q F) c.parts-parts.ensures.value;
       part = first_part P F c.in_ok-clauses.clauses.clauses (subst (λ Q. AreFirst Q F c.in_ok-clauses.clauses.clauses) c.parts-parts.ensures.value c.in_ok-clauses.ensures.clauses);
     }
