@@ -40,8 +40,9 @@ pub struct Seen {
 }
 
 #[cycle(look)]
-/// Appends clauses of the copies of a tree that the completed valuation breaks, and answers the literal of the whole. Where its truth value is given, it is not looked for. The foralls of a tree that stand one
-/// in another are one block; `marks` gets, for each clause, the number of its block, which for the tree itself is `block`.
+/// Appends clauses of the copies of a tree that the completed valuation breaks, and answers the literal of the whole. Where its
+/// truth value is given, it is not looked for. The foralls of a tree that stand one in another are one block; `marks` gets, for
+/// each clause, the number of its block, which for the tree itself is `block`.
 pub fn look(
     r: &Reading,
     tree: &FormTree,
