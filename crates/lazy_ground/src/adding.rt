@@ -1,14 +1,10 @@
 //! The clauses that a valuation breaks.
 #![tactic(auto)]
 
-ghost use Rattle.std.specs.Prelude.{◌≡◌, ◌+◌, ◌++◌, [], suc, IfOk, OnErr, OnOk};
+ghost use Rattle.std.specs.Prelude.{◌≡◌, [], IfOk, OnErr, OnOk};
 ghost use Rattle.clause_log.specs.Literals.{IsModel, truths};
-ghost use Rattle.fol_forms.specs.Counts.{count_of};
-ghost use Rattle.decision_laws.specs.Clauses.{equality_clauses, whole_clauses};
-ghost use Rattle.decision_laws.specs.Laws.{IsSentence, clauses as clauses_of};
+ghost use Rattle.decision_laws.specs.Laws.{IsSentence};
 ghost use Rattle.form_trees.specs.Trees.{IsMeasured, tree_form};
-ghost use Rattle.ground_inst.specs.Copies.{copies_over};
-ghost use Rattle.ground_inst.specs.Facts.{num_of, vocabulary_of};
 ghost use Rattle.ground_inst.specs.Walk.{ways_of};
 ghost use Rattle.lazy_ground.specs.Completed.{completed};
 ghost use Rattle.lazy_ground.specs.Lazy.{AddsBroken, AreAllBroken, IsLazy};
@@ -24,7 +20,7 @@ use crate::values::tree_value;
 use clause_log::{Clauses, Valuation};
 use copy_truth::needing::sum;
 use copy_truth::reading::Reading;
-use csdn_core::program::{Parts, Program};
+use csdn_core::program::Program;
 use form_trees::trees::FormTree;
 use ground_inst::places::Names;
 use ground_inst::rows::Rows;

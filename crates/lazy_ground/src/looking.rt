@@ -5,8 +5,6 @@
 #![tactic(auto)]
 
 ghost use Rattle.std.specs.Prelude.{◌≡◌, ◌<◌, ◌&&◌, not, true, false, IfOk, OnOk};
-ghost use Rattle.csdn_core.specs.declared.terms.Sort.{Sort as AnySort};
-ghost use Rattle.fol_forms.specs.Counts.{count_of};
 ghost use Rattle.fol_forms.specs.Forms.{And, Atom, ForAll, ForSome, Or, Same};
 ghost use Rattle.decision_laws.specs.Weights.{weight as weight_of};
 ghost use Rattle.form_trees.specs.Plain.{IsPlain};
@@ -511,16 +509,7 @@ fn look_place(
         sort: members.sort,
         place,
     };
-    look_bound(
-        r,
-        binding,
-        tree,
-        members.number,
-        asked,
-        block,
-        marks,
-        work,
-    )
+    look_bound(r, binding, tree, members.number, asked, block, marks, work)
 }
 
 #[cycle(look)]

@@ -3,10 +3,9 @@
 //! A simplified formula has no truth value inside: `AllocError` for these.
 #![tactic(auto)]
 
-ghost use Rattle.std.specs.Prelude.{◌≡◌, ◌+◌, ◌*◌, ◌++◌, ◌∷◌, [], suc, IfOk, OnOk};
+ghost use Rattle.std.specs.Prelude.{◌≡◌, ◌+◌, ◌*◌, ◌++◌, [], suc, IfOk, OnOk};
 ghost use Rattle.fol_forms.specs.Counts.{count_of};
 ghost use Rattle.fol_forms.specs.Forms.{And, ForAll, ForSome, Or};
-ghost use Rattle.decision_laws.specs.Clauses.{member_clause};
 ghost use Rattle.form_trees.specs.Trees.{IsMeasured, tree_form};
 ghost use Rattle.ground_inst.specs.Copies.{copies_over};
 ghost use Rattle.ground_inst.specs.Facts.{num_of};
@@ -95,12 +94,7 @@ fn write(names: &Names, tree: &FormTree, work: &mut Work) -> Result<Lit, AllocEr
 
 #[cycle(write)]
 // Those of a member of the conjunction with this number, and its clause.
-fn open_member(
-    names: &Names,
-    tree: &FormTree,
-    work: &mut Work,
-    x: u64,
-) -> Result<(), AllocError>
+fn open_member(names: &Names, tree: &FormTree, work: &mut Work, x: u64) -> Result<(), AllocError>
     requires measured { IsMeasured (ways_of names.now).count tree.now }
     ensures { OnOk result (AddsMember (ways_of names.now) (tree_form tree.now) (state_of work.old) (state_of work.new) x) }
 {
@@ -110,12 +104,7 @@ fn open_member(
 
 #[cycle(write)]
 // Those of a conjunction.
-fn open_both(
-    names: &Names,
-    p: &FormTree,
-    q: &FormTree,
-    work: &mut Work,
-) -> Result<Lit, AllocError>
+fn open_both(names: &Names, p: &FormTree, q: &FormTree, work: &mut Work) -> Result<Lit, AllocError>
     requires left { IsMeasured (ways_of names.now).count p.now }
     requires right { IsMeasured (ways_of names.now).count q.now }
     ensures { IfOk result (λ l. AddsOpen (ways_of names.now) (And (tree_form p.now) (tree_form q.now)) (state_of work.old) (state_of work.new) l) }
