@@ -70,6 +70,7 @@ fn broken_clauses(
         },
         named: &named,
         trues: &trues,
+        alloc,
     };
     let mut marks = Vec::new(alloc);
     let rows = broken_rows(alloc, &reading, lazy.tree.get(), &mut marks)?;
