@@ -24,8 +24,7 @@ use ground_inst::facts::UsedRelation;
 use ground_inst::places::Binding;
 use std::alloc::AllocError;
 
-/// Those of some constants at which a negated atom with open variables may be false. It looks at the true atoms up to the last of
-/// its relation.
+/// Those of some constants at which a negated atom with open variables may be false. It looks at its relation's true atoms.
 pub fn negated_misses(
     r: &Reading,
     x: Variable,
