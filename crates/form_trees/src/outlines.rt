@@ -13,11 +13,12 @@ ghost use Rattle.form_trees.specs.Plain.{IsApartFrom, IsPlain, binds_variable, i
 ghost use Rattle.form_trees.specs.Trees.{no_extent};
 ghost use Rattle.form_trees.specs.Variables.{has_variable};
 
-use crate::amounts::{each, larger, node, one_more, sums};
+use crate::amounts::{each, node, sums};
 use crate::trees::{Extent, nothing};
 use crate::variables::Variables;
 use csdn_core::terms::{Sort, Term, Terms, VarId};
 use fol_forms::instances::Counts;
+use ground_inst::bases::{larger, one_more};
 use std::alloc::AllocError;
 
 /// The extent of a normal form, the variables that it binds, and those that it binds or names.
