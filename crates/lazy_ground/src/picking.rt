@@ -13,7 +13,7 @@ use clause_log::{Clauses, Lit};
 use std::alloc::{AllocError, Global};
 
 // So many of the clauses that are found first are taken without a look at their blocks.
-const AT_ONCE: usize = 24;
+const AT_ONCE: usize = 10;
 
 // So many clauses of equality are taken in one pass.
 const OF_EQUALITY: usize = 10;
