@@ -1,7 +1,7 @@
 //! The clauses of the copies of a sentence that a valuation breaks.
 //!
 //! Parts without a named node are not looked into: they count as what they are, so that their clauses are true. The others are
-//! walked through. A simplified formula has no truth value inside: `AllocError` for these.
+//! walked through. A simplified formula has no truth value inside: `AllocError` for one.
 #![tactic(auto)]
 
 ghost use Rattle.std.specs.Prelude.{◌≡◌, ◌<◌, ◌&&◌, not, true, false, IfOk, OnOk};

@@ -1,6 +1,6 @@
 //! The clauses of the parts of a sentence that stand under no `forall`.
 //!
-//! A simplified formula has no truth value inside: `AllocError` for these.
+//! A simplified formula has no truth value inside: `AllocError` for one.
 #![tactic(auto)]
 
 ghost use Rattle.std.specs.Prelude.{◌≡◌, ◌+◌, ◌*◌, ◌++◌, [], suc, IfOk, OnOk};
