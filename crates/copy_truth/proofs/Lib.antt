@@ -3,3 +3,4 @@ mod SetLaws
 mod FitsLaws
 mod JudgeSteps
 pub mod OpenTuples
+mod SearchLaws
