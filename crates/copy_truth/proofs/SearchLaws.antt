@@ -159,15 +159,20 @@ module _ (r : Reading) (goals : List (Bor FormTree)) (from : ℕ) (env : Scope) 
   got_before (g ∷ gs) hs zero d l = refl
   got_before (g ∷ gs) hs (suc place) d l = got_before gs hs place d (omega (arith, l))
 
-  pub goes_next : (place : ℕ) (d : Bor FormTree) (old new : Sight) (now more : List (Bor FormTree)) → GoesOn r goals from env place old now → place < length goals → ((d : Bor FormTree) → Keeps r (tree_form (get_or now place d).now) env old now new more) → GoesOn r goals from env (suc place) new more
-  goes_next place d old new now more h l step =
+  some_of : (gs : List (Bor FormTree)) (place : ℕ) → place < length gs → Bor FormTree
+  some_of [] place l = absurd (omega (arith, l))
+  some_of (g ∷ gs) place l = g
+
+  pub goes_next : (place next : ℕ) (here : Scope) (old new : Sight) (now more : List (Bor FormTree)) → GoesOn r goals from env place old now → place < length goals → next ≡ suc place → here ≡ env → ((d : Bor FormTree) → Keeps r (tree_form (get_or now place d).now) here old now new more) → GoesOn r goals from env next new more
+  goes_next place next here old new now more h l is same_env step =
+      let d = some_of goals place l in
       let f = tree_form (get_or goals place d).now in
       let same : get_or now place d ≡ get_or goals place d = ap (λ gs. get_or gs place d) h.kept.behind ∙ got_before goals h.kept.kept place d l in
-      record {
+      subst (λ k. GoesOn r goals from env k new more) (sym is) (record {
         test = λ full. h.test full || matrix r f full;
         whole = λ full. h.whole full ∙ ap (λ b. h.test full || b) (any_from goals place d full l) ∙ sym (or_assoc (h.test full) (matrix r f full) (any_true r (drop (suc place) goals) full));
-        kept = subst (λ g. Keeps r (tree_form g.now) env old now new more) same (step d) goals h.test h.kept;
-      }
+        kept = subst (λ e. Keeps r f e old now new more) same_env (subst (λ g. Keeps r (tree_form g.now) here old now new more) same (step d)) goals h.test h.kept;
+      })
 
   pub goes_end : (place : ℕ) (sight : Sight) (now : List (Bor FormTree)) → GoesOn r goals from env place sight now → length goals ≤ place → HasKept r goals (any_true r (drop from goals)) env sight now
   goes_end place sight now h l =
@@ -370,6 +375,32 @@ module _ (n : Sort → ℕ) (whole one other : Scope → Bool) (env : Scope) (e 
         no = λ f full fits. same_right h full fits ∙ k.no f full fits;
       }
 
+module _ (r : Reading) (d p q : Bor FormTree) (goals : List (Bor FormTree)) (start place : ℕ) (env : Scope) where
+  abbrev whole_of : Scope → Bool
+  whole_of = any_true r (drop start goals)
+
+  abbrev one_of : Bor FormTree → Scope → Bool
+  one_of g = any_true r (drop start (set goals place g))
+
+  module _ (s : start ≤ place) (l : place < length goals) (there : d ≡ get_or goals place d) (e : tree_form d.now ≡ And (tree_form p.now) (tree_form q.now)) where
+    sides : (full : Scope) → whole_of full ≡ (one_of p full && one_of q full)
+    sides full = any_split r d p q full goals start place s l (sym (ap (λ g. matrix r (tree_form g.now) full) there) ∙ ap (λ f. matrix r f full) e)
+
+    pub split_left : (b : Bool) → IsFound (ways_of r.names).count (one_of p) env b → b ≡ true → IsFound (ways_of r.names).count whole_of env true
+    split_left b h t =
+        found_left (ways_of r.names).count whole_of (one_of p) (one_of q) env sides (subst (IsFound (ways_of r.names).count (one_of p) env) t h)
+
+    pub split_right : (b c : Bool) (hs : List (Bor FormTree)) (here : Scope) → IsFound (ways_of r.names).count (one_of p) env b → b ≡ false → hs ≡ set goals place p → here ≡ env → IsFound (ways_of r.names).count (any_true r (drop start (set hs place q))) here c → IsFound (ways_of r.names).count whole_of env c
+    split_right b c hs here h f same same_env k =
+        found_right (ways_of r.names).count whole_of (one_of p) (one_of q) env sides c (subst (IsFound (ways_of r.names).count (one_of p) env) f h)
+        (subst (λ gs. IsFound (ways_of r.names).count (any_true r (drop start gs)) env c) (ap (λ gs. set gs place q) same ∙ set_again goals place p q)
+        (subst (λ x. IsFound (ways_of r.names).count (any_true r (drop start (set hs place q))) x c) same_env k))
+
+pub tried_here : (r : Reading) (goals hs : List (Bor FormTree)) (start : ℕ) (env here : Scope) (x : Variable) (c : Candidates) (k : ℕ) (b : Bool) → hs ≡ goals → here ≡ env → IsTried (ways_of r.names).count (any_true r (drop start hs)) here x c k b → IsTried (ways_of r.names).count (any_true r (drop start goals)) env x c k b
+tried_here r goals hs start env here x c k b same same_env h =
+    subst (λ gs. IsTried (ways_of r.names).count (any_true r (drop start gs)) env x c k b) same
+    (subst (λ e. IsTried (ways_of r.names).count (any_true r (drop start hs)) e x c k b) same_env h)
+
 -- Of one matrix.
 
 module _ (r : Reading) (f : Form) (env : Scope) (x : Variable) where
@@ -388,3 +419,8 @@ module _ (r : Reading) (f : Form) (env : Scope) (x : Variable) where
 
   pub outside_of : (within missed : Candidates) → ((k : ℕ) → has_place within k ≡ true) → HoldsElsewhere r f env x within missed → HoldsOutside r f env x missed
   outside_of within missed all h other full fits at = h full fits (record { sort = at.sort; below = at.below; inside = all (find_or nothing full x.var.0).1; outside = at.outside })
+
+-- of one goal
+pub found_one : (r : Reading) (goal : Bor FormTree) (goals : List (Bor FormTree)) (env : Scope) (b : Bool) → goals ≡ goal ∷ [] → IsFound (ways_of r.names).count (any_true r (drop 0 goals)) env b → IsFound (ways_of r.names).count (matrix r (tree_form goal.now)) env b
+found_one r goal goals env b e h =
+    found_same (ways_of r.names).count (matrix r (tree_form goal.now)) env (any_true r (drop 0 goals)) b (λ full. ap (λ gs. any_true r (drop 0 gs) full) e ∙ or-false (matrix r (tree_form goal.now) full)) h
