@@ -6,3 +6,4 @@ mod PlainLaws
 mod EarlySteps
 mod JudgeSteps
 pub mod OpenTuples
+mod SearchLaws

@@ -5,3 +5,4 @@ pub mod Candidates
 pub mod Early
 pub mod Breaking
 pub mod Outlook
+pub mod Goals
