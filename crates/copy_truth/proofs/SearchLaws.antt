@@ -1,7 +1,6 @@
 -- The search for constants with which goals are false.
 use Rattle.std.proofs.Common.{◌≡◌, ◌∙◌, ℕ, zero, suc, ◌+◌, ◌-◌, ◌<◌, ◌≤◌, ◌==◌, Bool, true, false, not, ◌&&◌, ◌||◌, List, [], ◌∷◌, ◌++◌, length, drop, take, set, get_or, Option, Some, None, refl, sym, ap, ap₂, cond, subst, arith, inl, inr, ◌^◌, append_assoc, append-nil}
 use Rattle.std.specs.Borrow.{Bor}
-use Rattle.std.specs.List.{list_any}
 use Rattle.std.proofs.Math.Bool.{or-and_distrib_left, or_assoc, or-false, or-true}
 use Rattle.std.proofs.Math.Seq.{drop-append_seam, take-append_seam}
 use Rattle.std.proofs.Math.ListN.{drop_of_length-le}
@@ -21,8 +20,8 @@ use Rattle.copy_truth.specs.declared.reading.Reading.{Reading}
 use Rattle.copy_truth.specs.declared.searching.Choice.{Choice}
 use Rattle.copy_truth.specs.declared.searching.Sight.{Sight}
 use Rattle.copy_truth.specs.Candidates.{has_place}
-use Rattle.copy_truth.specs.Early.{Fits, Stands, HoldsElsewhere, HoldsOutside, IsElsewhere, IsTrueThroughout, at_constant}
-use Rattle.copy_truth.specs.Goals.{FailsSomewhere, HasKept, HoldsThroughout, IsBest, IsChoice, IsFound, IsSight, IsTried, Keeps, any_true}
+use Rattle.copy_truth.specs.Early.{Fits, Stands, HoldsElsewhere, HoldsOutside, at_constant}
+use Rattle.copy_truth.specs.Goals.{HasKept, IsBest, IsChoice, IsFound, IsSight, IsTried, Keeps, any_true}
 use Rattle.copy_truth.specs.Matrix.{matrix}
 use Rattle.copy_truth.specs.Outlook.{IsOpenIn}
 use Rattle.copy_truth.proofs.FitsLaws.{fits_at}
@@ -64,7 +63,7 @@ module _ (r : Reading) (goal : Bor FormTree) where
           settled = λ t full fits. or_left (test full) (matrix r (tree_form goal.now) full) (h.seen.settled (sym e ∙ t) full fits);
           same = λ f full fits. ap (λ b. b || matrix r (tree_form goal.now) full) (h.seen.same (sym e ∙ f) full fits) ∙ sym (any_pushed h.kept full);
           best = best (any_true r (h.kept ++ goal ∷ [])) (best_more (ways_of r.names).count (any_true r h.kept) (any_true r (h.kept ++ goal ∷ [])) env old.best (λ full t. any_pushed h.kept full ∙ or_left (any_true r h.kept full) (matrix r (tree_form goal.now) full) t) h.seen.best)
-          (λ full t. any_pushed h.kept full ∙ or_right (any_true r h.kept full) (matrix r (tree_form goal.now) full) t);
+              (λ full t. any_pushed h.kept full ∙ or_right (any_true r h.kept full) (matrix r (tree_form goal.now) full) t);
         };
       }
 

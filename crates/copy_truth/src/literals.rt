@@ -105,7 +105,14 @@ fn negation_misses(
     ensures env { OnOk result (env.new.items ≡ env.old.items) }
 {
     match leaf {
-        Leaf::Tuple(relation, terms) => negated_misses(r, x, within, *relation, terms.as_slice(), env),
+        Leaf::Tuple(relation, terms) => negated_misses(
+            r,
+            x,
+            within,
+            *relation,
+            terms.as_slice(),
+            env,
+        ),
         Leaf::Equation(_, _) => tried_misses(r, x, within, false, leaf, env),
     }
 }

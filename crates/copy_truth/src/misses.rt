@@ -162,7 +162,9 @@ pub fn misses(
     match part_of(tree) {
         Part::Truth(_) => Ok(within),
         Part::Tuple(sign, pred, terms) => tuple_misses(r, x, within, sign, pred, terms, env),
-        Part::Equation(sign, t, u) => { leaf_misses(r, x, within, sign, &Leaf::Equation(t, u), env) }
+        Part::Equation(sign, t, u) => {
+            leaf_misses(r, x, within, sign, &Leaf::Equation(t, u), env)
+        }
         Part::Both(p, q) => both_misses(r, x, within, p, q, env),
         Part::Either(p, q) => either_misses(r, x, within, p, q, env),
         Part::Forall(_, _, p) => misses(r, x, within, p, env),

@@ -193,7 +193,15 @@ fn keep<'a>(
     match part_of(tree) {
         Part::Truth(value) => Ok(if value { sight.settled() } else { sight }),
         Part::Tuple(sign, relation, terms) => {
-            keep_leaf(r, tree, sign, &Leaf::Tuple(relation, terms), goals, env, sight)
+            keep_leaf(
+                r,
+                tree,
+                sign,
+                &Leaf::Tuple(relation, terms),
+                goals,
+                env,
+                sight,
+            )
         }
         Part::Equation(sign, t, u) => {
             keep_leaf(r, tree, sign, &Leaf::Equation(t, u), goals, env, sight)
@@ -443,11 +451,7 @@ fn search(r: &Reading, tree: &FormTree, env: &mut Vec<Binding>) -> Result<bool, 
 /// Whether open variables may stand for constants with which the matrix of a tree is false. The bindings are the same at the end.
 /// It may take time that is exponential in the number of open variables; `AllocError` also where more than 1,000 constants and
 /// sides of conjunctions are chosen one in another.
-pub fn is_broken(
-    r: &Reading,
-    tree: &FormTree,
-    env: &mut Vec<Binding>,
-) -> Result<bool, AllocError>
+pub fn is_broken(r: &Reading, tree: &FormTree, env: &mut Vec<Binding>) -> Result<bool, AllocError>
     requires filled { (s : AnySort) → 0 < (ways_of r.now.names).count s }
     ensures yes { IfOk result (λ b. b ≡ true → IsFalseSomewhere r.now (tree_form tree.now) (scope env.old.items)) }
     ensures no { IfOk result (λ b. b ≡ false → IsTrueThroughout r.now (tree_form tree.now) (scope env.old.items)) }

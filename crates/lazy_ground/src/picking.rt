@@ -53,13 +53,7 @@ fn put_if(some: &mut Clauses, wanted: bool, literals: &[Lit]) -> Result<(), Allo
 
 // Whether the clause at this place is taken, so many of equality being taken: one of the first, one of a single literal, the first one
 // of a block, or of few of equality the first that an equation breaks.
-fn is_wanted(
-    some: &Clauses,
-    marks: &[u64],
-    at: usize,
-    equalities: usize,
-    literals: &[Lit],
-) -> bool
+fn is_wanted(some: &Clauses, marks: &[u64], at: usize, equalities: usize, literals: &[Lit]) -> bool
     ensures { at ≡ 0 → result ≡ true }
 {
     if at == 0 {

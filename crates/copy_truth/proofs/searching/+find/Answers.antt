@@ -1,4 +1,4 @@
-use Rattle.std.proofs.Common.{◌+◌, ◌∙◌, ap, arith, drop, set, sym, true}
+use Rattle.std.proofs.Common.{◌∙◌, ap, arith, drop, set, true}
 use Rattle.std.proofs.lemmas.Result.{IfOk-weaker}
 use Rattle.ground_inst.specs.Walk.{scope, ways_of}
 use Rattle.copy_truth.specs.Goals.{IsFound, any_true}
@@ -39,11 +39,10 @@ try_each-returns-then-branch-clause-found t c =
 pub try_each-places-preserved : goal.try_each-places-preserved
 try_each-places-preserved t c =
     let env = scope c.args.env.now.items in
-    let r = c.args.r.now in
-    (
+    let r = c.args.r.now in (
       tried_next (ways_of r.names).count (any_true r (drop c.args.start c.args.goals.now.items)) env c.args.choice.x c.args.choice.candidates c.places.place c.in_ok-try_at.field-0 c.places.invariant.0
-      (tried_here r c.args.goals.now.items c.places.goals.items c.args.start env (scope c.places.env.items) c.args.choice.x c.args.choice.candidates c.places.place c.in_ok-try_at.field-0 c.places.invariant.1 (ap scope c.places.invariant.2) c.in_ok-try_at.ensures.found)
-      c.if-branch.false,
+          (tried_here r c.args.goals.now.items c.places.goals.items c.args.start env (scope c.places.env.items) c.args.choice.x c.args.choice.candidates c.places.place c.in_ok-try_at.field-0 c.places.invariant.1 (ap scope c.places.invariant.2) c.in_ok-try_at.ensures.found)
+          c.if-branch.false,
       c.in_ok-try_at.ensures.goals ∙ c.places.invariant.1,
       c.in_ok-try_at.ensures.env ∙ c.places.invariant.2,
     )

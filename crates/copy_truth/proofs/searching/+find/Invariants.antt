@@ -1,6 +1,4 @@
-use Rattle.std.proofs.Common.{◌≡◌, ℕ, ◌+◌, ◌*◌, ◌<◌, true, drop}
-use Rattle.decision_laws.specs.Copies.{Scope, nothing}
-use Rattle.decision_laws.specs.Vocabulary.{find_or}
+use Rattle.std.proofs.Common.{◌≡◌, ◌+◌, ◌*◌, drop}
 use Rattle.ground_inst.specs.Walk.{scope, ways_of}
 use Rattle.copy_truth.specs.Goals.{any_true}
 use Rattle.copy_truth.proofs.SearchLaws.{AreTried}

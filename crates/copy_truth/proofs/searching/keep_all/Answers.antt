@@ -15,9 +15,11 @@ returns-then-sight-clause-sight c =
     c.if-sight.true
 
 pub goals-preserved : goal.goals-preserved
-goals-preserved c =
-    (goes_next c.args.r.now c.args.goals.now.items c.args.from (scope c.args.env.now.items) c.goals.place (c.goals.place + 1) (scope c.goals.env.items) c.goals.sight c.in_ok-sight.sight c.goals.goals.items c.keep_at.new.goals.items c.goals.invariant.0
-    (omega (arith, c.goals-test.true, c.len-end.ensures, c.args.goals.now.ok.0)) (omega arith) (ap scope c.goals.invariant.1) c.in_ok-sight.ensures.sight, c.in_ok-sight.ensures.env ∙ c.goals.invariant.1)
+goals-preserved c = (
+  goes_next c.args.r.now c.args.goals.now.items c.args.from (scope c.args.env.now.items) c.goals.place (c.goals.place + 1) (scope c.goals.env.items) c.goals.sight c.in_ok-sight.sight c.goals.goals.items c.keep_at.new.goals.items c.goals.invariant.0
+      (omega (arith, c.goals-test.true, c.len-end.ensures, c.args.goals.now.ok.0)) (omega arith) (ap scope c.goals.invariant.1) c.in_ok-sight.ensures.sight,
+  c.in_ok-sight.ensures.env ∙ c.goals.invariant.1,
+)
 
 pub returns-clause-sight : goal.returns-clause-sight
 returns-clause-sight c =

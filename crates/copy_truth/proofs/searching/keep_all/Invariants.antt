@@ -1,6 +1,5 @@
 use Rattle.std.proofs.Common.{◌≡◌, ◌-◌}
-use Rattle.ground_inst.specs.Walk.{scope, ways_of}
-use Rattle.copy_truth.specs.Goals.{any_true}
+use Rattle.ground_inst.specs.Walk.{scope}
 use Rattle.copy_truth.proofs.SearchLaws.{GoesOn}
 use Rattle.copy_truth.proofs.searching.keep_all.Given as goal
 

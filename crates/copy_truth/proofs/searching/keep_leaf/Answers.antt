@@ -1,4 +1,4 @@
-use Rattle.std.proofs.Common.{subst, sym, ◌∙◌}
+use Rattle.std.proofs.Common.{subst, sym}
 use Rattle.form_trees.specs.Trees.{tree_form}
 use Rattle.ground_inst.specs.Walk.{scope}
 use Rattle.copy_truth.specs.Early.{leaf_form}
