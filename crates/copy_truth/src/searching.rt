@@ -28,7 +28,7 @@ use ground_inst::walk::bind;
 use std::alloc::AllocError;
 
 // How many searches may stand in one another; the stack has room for as many.
-const DEEPEST: usize = 1_000;
+const DEEPEST: usize = 10_000;
 
 // A variable with so few constants is tried before a conjunction is split.
 const FEW: u32 = 2;
@@ -449,7 +449,7 @@ fn search(r: &Reading, tree: &FormTree, env: &mut Vec<Binding>) -> Result<bool, 
 }
 
 /// Whether open variables may stand for constants with which the matrix of a tree is false. The bindings are the same at the end.
-/// It may take time that is exponential in the number of open variables; `AllocError` also where more than 1,000 constants and
+/// It may take time that is exponential in the number of open variables; `AllocError` also where more than 10,000 constants and
 /// sides of conjunctions are chosen one in another.
 pub fn is_broken(r: &Reading, tree: &FormTree, env: &mut Vec<Binding>) -> Result<bool, AllocError>
     requires filled { (s : AnySort) → 0 < (ways_of r.now.names).count s }
