@@ -70,7 +70,8 @@ fn new_number(scope: &[Renaming], var: VarId) -> u32
     number
 }
 
-fn renamed(scope: &[Renaming], term: Term) -> Term
+/// A term whose variable, where it is in scope, has its new number. It takes as many steps as variables are in scope.
+pub fn renamed(scope: &[Renaming], term: Term) -> Term
     ensures { result ≡ renamed_of (new_numbers scope.now) term }
 {
     match term {
@@ -80,7 +81,8 @@ fn renamed(scope: &[Renaming], term: Term) -> Term
     }
 }
 
-fn renamed_all(scope: &[Renaming], terms: &[Term]) -> Terms
+/// Terms, at most five, whose variables have their new numbers.
+pub fn renamed_all(scope: &[Renaming], terms: &[Term]) -> Terms
     requires { length terms.now ≤ 5 }
     ensures { result ≡ map (renamed_of (new_numbers scope.now)) terms.now }
 {
