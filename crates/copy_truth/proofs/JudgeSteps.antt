@@ -1,5 +1,5 @@
 -- What copies of a `forall` are.
-use Rattle.std.proofs.Common.{◌≡◌, ◌∙◌, ℕ, ◌+◌, ◌<◌, Bool, true, false, ◌∷◌, sym, ap, subst, arith, inl, inr}
+use Rattle.std.proofs.Common.{◌≡◌, ◌∙◌, ℕ, ◌+◌, ◌<◌, Bool, true, false, List, ◌∷◌, sym, ap, ap₂, subst, arith, inl, inr}
 use Rattle.std.proofs.lemmas.Bool.{cases_Bool, cases_eq, false≢true}
 use Rattle.std.specs.List.{list_all}
 use Rattle.csdn_core.specs.declared.terms.Sort.{Sort}
@@ -8,7 +8,8 @@ use Rattle.fol_forms.specs.Forms.{Form, ForAll}
 use Rattle.decision_laws.specs.Copies.{Scope, copies}
 use Rattle.decision_laws.specs.Vocabulary.{places_from}
 use Rattle.decision_laws.proofs.Basics.{all_at, all_from, in_place, place_in, judge-each}
-use Rattle.ground_inst.specs.Walk.{ways_of}
+use Rattle.ground_inst.specs.Walk.{scope, ways_of}
+use Rattle.ground_inst.specs.declared.places.Binding.{Binding}
 use Rattle.copy_truth.specs.declared.reading.Reading.{Reading}
 use Rattle.copy_truth.specs.Judged.{judged_bound, judged_copies}
 use Rattle.copy_truth.specs.Said.{said_by}
@@ -37,3 +38,7 @@ module _ (r : Reading) (f : Form) (v : VarId) (s : Sort) (env : Scope) (base : S
         | inl q ↦ ap here q ∙ sym e ∙ is
         | inr ne ↦ all_at here (places_from 0 i) x (place_in 0 i x (omega arith) (omega (arith, (in_place 0 (i + 1) x o).1, ne))) h
       ])
+
+-- a member of it, by what its call was given
+pub member_judged : (r : Reading) (f : Form) (base : Sort → ℕ) (given member : Binding) (bs env : List Binding) (b : Bool) → given ≡ member → bs ≡ env → b ≡ judged_bound r f given (scope bs) base → b ≡ judged_bound r f member (scope env) base
+member_judged r f base given member bs env b d k e = e ∙ ap₂ (λ x xs. judged_bound r f x (scope xs) base) d k

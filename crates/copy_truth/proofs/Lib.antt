@@ -1,5 +1,9 @@
 mod ReadLaws
 mod SetLaws
-mod JudgeSteps
+mod FitsLaws
+mod PrenexLaws
+mod PlainLaws
 mod EarlySteps
+mod JudgeSteps
 pub mod OpenTuples
+mod SearchLaws

@@ -1,7 +1,9 @@
 -- Terms with open variables, and true tuples.
-use Rattle.std.proofs.Common.{◌≡◌, ◌∙◌, ℕ, suc, ◌+◌, ◌-◌, ◌<◌, ◌≤◌, ◌==◌, length, Bool, true, false, not, ◌&&◌, ◌||◌, Option, Some, List, [], ◌∷◌, map, refl, sym, ap, subst, arith, cond, inl, inr, nat_lt, lt-ltb, ltb-true, get_or, take, drop, eqb, eqb-true, eq-eqb, if◌then◌else◌}
-use Rattle.std.proofs.lemmas.Bool.{and_from, and_parts, cases_Bool, false_from_ne_true, false≢true, or_cases, or_left, or_right}
-use Rattle.std.specs.List.Sorted.{IsNonDecreasing}
+use Rattle.std.proofs.Common.{◌≡◌, ◌∙◌, ℕ, zero, suc, Ok, Err, nat_cmp, ◌+◌, ◌-◌, ◌<◌, ◌≤◌, ◌==◌, length, Bool, true, false, not, ◌&&◌, ◌||◌, Option, Some, List, [], ◌∷◌, map, refl, sym, ap, subst, arith, cond, inl, inr, nat_lt, lt-ltb, ltb-true, get_or, take, drop, eqb, eqb-true, eq-eqb, if◌then◌else◌}
+use Rattle.std.proofs.lemmas.Bool.{and_from, and_parts, cases_Bool, cases_lt, false_from_ne_true, false≢true, or_cases, or_left, or_right}
+use Rattle.std.specs.List.Sorted.{IsBinarySearchResult, IsNonDecreasing}
+use Rattle.std.proofs.lemmas.List.{take_rest}
+use Rattle.std.proofs.lemmas.List.Sorted.{searched}
 use Rattle.general_facts.proofs.Lists.{rest_is}
 use Rattle.csdn_core.specs.Members.{IsIn}
 use Rattle.csdn_core.specs.Network.{same_pred}
@@ -24,9 +26,9 @@ use Rattle.ground_inst.specs.declared.facts.UsedRelation.{UsedRelation}
 use Rattle.copy_truth.specs.declared.opened.TheConstants.{OPEN}
 use Rattle.copy_truth.specs.declared.reading.Reading.{Reading}
 use Rattle.copy_truth.specs.Early.{AreColumns, AreNoneElsewhere, Fits, HoldsElsewhere, IsColumn, at_constant, is_known, is_this, is_variable, may_be, may_be_atom, place_of_variable, used_in}
-use Rattle.copy_truth.specs.Judged.{judged_copies}
+use Rattle.copy_truth.specs.Matrix.{matrix}
 use Rattle.copy_truth.specs.Said.{said_by}
-use Rattle.copy_truth.proofs.EarlySteps.{fits_at, is_open, same_place}
+use Rattle.copy_truth.proofs.FitsLaws.{fits_at, is_open, same_place}
 
 -- the relation that is used
 
@@ -106,9 +108,9 @@ module _ (r : Reading) (env : Scope) (rel : Pred) (u : UsedRelation) (ts : List 
   unfolding num_of
   number_is xs = ap suc (place_used (ways_of r.names).count r.names.facts.now.relations r.names.facts.now.count rel u xs is)
 
-  none_at : (here full : Scope) (base : Sort → ℕ) → AreColumns (ways_of r.names) env ts u.sorts → Fits (ways_of r.names).count env full → Fits (ways_of r.names).count here full → ((t : ℕ) → IsIn t r.trues.now → may_be_atom (ways_of r.names) here u ts t ≡ false) → judged_copies r (Atom false rel ts) full base ≡ true
+  none_at : (here full : Scope) → AreColumns (ways_of r.names) env ts u.sorts → Fits (ways_of r.names).count env full → Fits (ways_of r.names).count here full → ((t : ℕ) → IsIn t r.trues.now → may_be_atom (ways_of r.names) here u ts t ≡ false) → matrix r (Atom false rel ts) full ≡ true
   unfolding said_by
-  none_at here full base h fits fits_here none =
+  none_at here full h fits fits_here none =
       let xs = map (place (ways_of r.names).voc full) ts in
       let x = num_of r.names.facts.now (Tuple rel xs) in
       let below = columns_below (ways_of r.names) env full fits ts u.sorts h in
@@ -118,9 +120,9 @@ module _ (r : Reading) (env : Scope) (rel : Pred) (u : UsedRelation) (ts : List 
       ]
 
   pub rows_elsewhere : (x : Variable) (within missed : Candidates) → AreColumns (ways_of r.names) env ts u.sorts → AreNoneElsewhere (ways_of r.names) env x within missed u ts r.trues.now → HoldsElsewhere r (Atom false rel ts) env x within missed
-  rows_elsewhere x within missed h none full base fits at =
+  rows_elsewhere x within missed h none full fits at =
       let p = find_or nothing full x.var.0 in
-      none_at (at_constant x p.1 env) full base h fits (fits_at (ways_of r.names).count env full x.var.0 x.sort fits at.sort at.below) (none p.1 at.inside at.outside)
+      none_at (at_constant x p.1 env) full h fits (fits_at (ways_of r.names).count env full x.var.0 x.sort fits at.sort at.below) (none p.1 at.inside at.outside)
 
 -- A variable that is open is bound to a constant.
 
@@ -206,6 +208,27 @@ rising_first x xs h t i =
 rising_rest : (x : ℕ) (xs : List ℕ) → IsNonDecreasing (x ∷ xs) → IsNonDecreasing xs
 rising_rest x xs h i j d l m = h (suc i) (suc j) d (omega (arith, l)) (omega (arith, m))
 
+-- members that are more than all those before a place stand from it on
+passed_in : (xs : List ℕ) (place low : ℕ) → ((k : ℕ) → k < place → k < length xs → get_or xs k 0 ≤ low) → (t : ℕ) → IsIn t xs → low < t → IsIn t (drop place xs)
+passed_in xs zero low h t i l = i
+passed_in [] (suc p) low h t i l = absurd i
+passed_in (x ∷ xs) (suc p) low h t i l =
+    elim i [
+      | inl e ↦ (let first : x ≤ low = h 0 (omega arith) (omega arith) in absurd (omega (arith, e, l, first)))
+      | inr j ↦ passed_in xs p low (λ k m n. h (suc k) (omega (arith, m)) (omega (arith, n))) t j l
+    ]
+
+module _ (xs : List ℕ) (low place : ℕ) (rises : IsNonDecreasing xs) where
+  pub in_from_equal : IsBinarySearchResult (λ y. nat_cmp y low) xs (Ok place) → (t : ℕ) → IsIn t xs → low < t → IsIn t (take (length xs - place) (drop place xs))
+  in_from_equal found t i l =
+      let at = searched xs low (Ok place) found (λ i j d m. rises i j 0 d m) in
+      subst (IsIn t) (sym (take_rest xs place)) (passed_in xs place low (λ k m n. (let b = rises k place 0 (omega (arith, m)) at.0 in omega (arith, b, at.1))) t i l)
+
+  pub in_from_next : IsBinarySearchResult (λ y. nat_cmp y low) xs (Err place) → (t : ℕ) → IsIn t xs → low < t → IsIn t (take (length xs - place) (drop place xs))
+  in_from_next found t i l =
+      let at = searched xs low (Err place) found (λ i j d m. rises i j 0 d m) in
+      subst (IsIn t) (sym (take_rest xs place)) (passed_in xs place low (λ k m n. (let b = at.1 k m in omega (arith, b))) t i l)
+
 not_lt : (a b : ℕ) → b ≤ a → nat_lt a b ≡ false
 not_lt a b h = false_from_ne_true (nat_lt a b) (λ e. absurd (omega (arith, h, ltb-true a b e)))
 
@@ -218,8 +241,15 @@ module _ (m : Ways) (env : Scope) (u : UsedRelation) (ts : List Term) where
     pub whole : AreNone rest → AreNone all
     pub rises : IsNonDecreasing rest
 
-  pub looks_begin : (all xs : List ℕ) → xs ≡ all → IsNonDecreasing xs → LooksOn all xs
-  looks_begin all xs e h = record { whole = subst (λ z. AreNone xs → AreNone z) e (λ n. n); rises = h }
+  not_near : (t : ℕ) → t ≤ u.before → may_be_atom m env u ts t ≡ false
+  not_near t l =
+      ap (λ b. (b && nat_lt (t - u.before - 1) (tuple_count m.count u.sorts)) && may_be m.voc env ts (tuple_of m.count u.sorts (t - u.before - 1))) (not_lt u.before t l)
+
+  pub looks_begin : (all rest : List ℕ) → ((t : ℕ) → IsIn t all → u.before < t → IsIn t rest) → IsNonDecreasing rest → LooksOn all rest
+  looks_begin all rest behind h = record {
+    whole = λ n t i. elim (cases_lt u.before t) [ inl l ↦ n t (behind t i l) | inr l ↦ not_near t l ];
+    rises = h;
+  }
 
   far_by : (t : ℕ) (b c : Bool) → (b ≡ true → u.before < t) → (u.before < t → c ≡ false) → (b && c) ≡ false
   far_by t true c f g = g (f refl)
@@ -242,7 +272,3 @@ module _ (m : Ways) (env : Scope) (u : UsedRelation) (ts : List Term) where
     whole = λ n. h.whole (λ t i. elim i [ inl q ↦ subst (λ z. may_be_atom m env u ts z ≡ false) (sym q) e | inr j ↦ n t j ]);
     rises = rising_rest x xs h.rises;
   })
-
-  pub looks_end : (all rest : List ℕ) → LooksOn all rest → length rest < 1 → AreNone all
-  looks_end all [] h l = h.whole (λ t i. absurd i)
-  looks_end all (x ∷ xs) h l = absurd (omega (arith, l))

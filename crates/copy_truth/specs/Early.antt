@@ -23,7 +23,7 @@ use Rattle.copy_truth.specs.declared.rows.Fit.{Fit}
 use Rattle.copy_truth.specs.declared.rows.Fit.TheVariants as fit
 use Rattle.copy_truth.specs.Candidates.{has_place}
 use Rattle.copy_truth.specs.declared.reading.Reading.{Reading}
-use Rattle.copy_truth.specs.Judged.{judged_copies}
+use Rattle.copy_truth.specs.Matrix.{matrix}
 
 -- whether a term stands for a constant, and is no open variable
 abbrev pub is_known : Vocabulary → Scope → Term → Bool
@@ -45,11 +45,28 @@ pub record IsElsewhere (n : Sort → ℕ) (s : Sort) (within missed : Candidates
   pub inside : has_place within p.1 ≡ true
   pub outside : has_place missed p.1 ≡ false
 
--- the copies of a form are true, whatever constants open variables stand for, where this one stands for one of some constants, but
--- for none of others
+-- a matrix is true, whatever constants open variables stand for, where this one stands for one of some constants, but for none of
+-- others
 abbrev pub HoldsElsewhere : Reading → Form → Scope → Variable → Candidates → Candidates → Type 0
 HoldsElsewhere r f env x within missed =
-    (full : Scope) (base : Sort → ℕ) → Fits (ways_of r.names).count env full → IsElsewhere (ways_of r.names).count x.sort within missed (find_or nothing full x.var.0) → judged_copies r f full base ≡ true
+    (full : Scope) → Fits (ways_of r.names).count env full → IsElsewhere (ways_of r.names).count x.sort within missed (find_or nothing full x.var.0) → matrix r f full ≡ true
+
+-- .. wherever it stands for none of some constants
+abbrev pub HoldsOutside : Reading → Form → Scope → Variable → Candidates → Type 0
+HoldsOutside r f env x missed = (within : Candidates) → HoldsElsewhere r f env x within missed
+
+-- it is true (false), whatever constants open variables stand for
+abbrev pub IsTrueThroughout : Reading → Form → Scope → Type 0
+IsTrueThroughout r f env = (full : Scope) → Fits (ways_of r.names).count env full → matrix r f full ≡ true
+
+abbrev pub IsFalseThroughout : Reading → Form → Scope → Type 0
+IsFalseThroughout r f env = (full : Scope) → Fits (ways_of r.names).count env full → matrix r f full ≡ false
+
+-- it is false where open variables stand for some constants
+pub record IsFalseSomewhere (r : Reading) (f : Form) (env : Scope) : Type 0 where
+  pub full : Scope
+  pub fits : Fits (ways_of r.names).count env full
+  pub fails : matrix r f full ≡ false
 
 -- a variable is bound to a constant
 abbrev pub at_constant : Variable → ℕ → Scope → Scope

@@ -1,260 +1,61 @@
 //! The members of a `forall` that may be false.
-//!
-//! The body is read once, with its variable open, and the variables of inner `forall`s too. Often the literals that don't name the
-//! variable say enough, or the true tuples of a negated atom name the few constants at which it is false.
 #![tactic(auto)]
 
-ghost use Rattle.std.specs.Prelude.{◌≡◌, ℕ, true, false, IfOk, OnOk};
+ghost use Rattle.std.specs.Prelude.{◌≡◌, ◌<◌, ◌==◌, true, not, IfOk, OnOk};
+ghost use Rattle.std.specs.List.{list_all};
 ghost use Rattle.csdn_core.specs.declared.terms.Sort.{Sort as AnySort};
-ghost use Rattle.fol_forms.specs.Forms.{And, Atom, ForAll, Or, normal_form};
-ghost use Rattle.ground_inst.specs.Walk.{scope};
+ghost use Rattle.fol_forms.specs.Forms.{ForAll};
+ghost use Rattle.form_trees.specs.Plain.{IsPlain};
+ghost use Rattle.form_trees.specs.Trees.{tree_form};
+ghost use Rattle.ground_inst.specs.Walk.{scope, ways_of};
 ghost use Rattle.copy_truth.specs.Breaking.{AreCandidates};
-ghost use Rattle.copy_truth.specs.Candidates.{has_place};
-ghost use Rattle.copy_truth.specs.Judged.{judged_bound};
-ghost use Rattle.fol_forms.specs.Signed.{side_form};
-ghost use Rattle.copy_truth.specs.Early.{HoldsElsewhere, leaf_form, used_in};
 
+use crate::binders::{can_open, open_binders};
 use crate::candidates::Candidates;
-use crate::facts::{Leaf, is_known_leaf, is_known_leaf_at, judge_leaf, judge_leaf_at};
-use crate::opened::{OPEN, Variable, are_bound, are_columns, are_known, is_known};
+use crate::opened::{OPEN, Variable};
 use crate::reading::Reading;
-use crate::rows::row_candidates;
-use crate::tuples::used_of;
-use csdn_core::syntax::Formula;
-use csdn_core::terms::{Pred, Sort, Term, Terms, VarId};
-use fol_forms::signed::{Side, Signed, view};
-use ground_inst::facts::UsedRelation;
+use crate::searching::search_misses;
+use form_trees::trees::FormTree;
 use ground_inst::places::Binding;
 use ground_inst::walk::bind;
 use std::alloc::AllocError;
 
-// Those of some constants at which a negated atom with open variables may be false.
-fn negated_misses(
-    r: &Reading,
-    x: Variable,
-    within: Candidates,
-    relation: Pred,
-    terms: &[Term],
-    env: &[Binding],
-) -> Result<Candidates, AllocError>
-    ensures { IfOk result (λ missed. HoldsElsewhere r.now (Atom false relation terms.now) (scope env.now) x within missed) }
-{
-    match used_of(r.names.facts, relation) {
-        None => Ok(within),
-        Some(used) => used_misses(r, x, within, relation, used, terms, env),
-    }
-}
-
-// The same, given how the relation is used.
-fn used_misses(
-    r: &Reading,
-    x: Variable,
-    within: Candidates,
-    relation: Pred,
-    used: &UsedRelation,
-    terms: &[Term],
-    env: &[Binding],
-) -> Result<Candidates, AllocError>
-    requires { used_in r.now.names.facts.now.relations relation ≡ Some used.now }
-    ensures { IfOk result (λ missed. HoldsElsewhere r.now (Atom false relation terms.now) (scope env.now) x within missed) }
-{
-    if is_known(&r.names, env, Term::Var(x.var)) {
-        return Ok(within);
-    }
-    if !are_columns(&r.names, env, terms, used.sorts.as_slice()) {
-        return Ok(within);
-    }
-    row_candidates(r, x, within, env, used, terms)
-}
-
-// Whether a leaf is true, a variable standing for this constant; also where it is none of some.
-fn holds_at(
-    r: &Reading,
-    within: Candidates,
-    sign: bool,
-    leaf: &Leaf,
-    binding: Binding,
-    env: &mut Vec<Binding>,
-) -> Result<bool, AllocError>
-    ensures value { IfOk result (λ b. b ≡ true → has_place within binding.place ≡ true → (base : AnySort → ℕ) → judged_bound r.now (leaf_form sign leaf.now) binding (scope env.old.items) base ≡ true) }
-    ensures env { OnOk result (env.new.items ≡ env.old.items) }
-{
-    if !within.has(binding.place) {
-        return Ok(true);
-    }
-    judge_leaf_at(r, sign, leaf, binding, env)
-}
-
-// Those of some constants at which an atom or an equation with open variables is false, each of them tried, if no other variable is
-// open; else all.
-fn tried_misses(
-    r: &Reading,
-    x: Variable,
-    within: Candidates,
-    sign: bool,
-    leaf: &Leaf,
-    env: &mut Vec<Binding>,
-) -> Result<Candidates, AllocError>
-    ensures value { IfOk result (λ missed. HoldsElsewhere r.now (leaf_form sign leaf.now) (scope env.old.items) x within missed) }
-    ensures env { OnOk result (env.new.items ≡ env.old.items) }
-{
-    if !is_known_leaf_at(&r.names, leaf, x, env)? {
-        return Ok(within);
-    }
-    let count = r.names.facts.counts.of(x.sort).min(128);
-    let mut missed = Candidates::fewest();
-    'places: for place in 0..count {
-        let value = holds_at(r, within, sign, leaf, x.at(place), env)?;
-        missed = missed.with_false(place, value);
-    }
-    Ok(missed)
-}
-
-// Those of some constants at which an atom or an equation may be false.
-fn leaf_misses(
-    r: &Reading,
-    x: Variable,
-    within: Candidates,
-    sign: bool,
-    leaf: &Leaf,
-    env: &mut Vec<Binding>,
-) -> Result<Candidates, AllocError>
-    ensures value { IfOk result (λ missed. HoldsElsewhere r.now (leaf_form sign leaf.now) (scope env.old.items) x within missed) }
-    ensures env { OnOk result (env.new.items ≡ env.old.items) }
-{
-    if !is_known_leaf(&r.names, env, leaf) {
-        return tried_misses(r, x, within, sign, leaf, env);
-    }
-    if judge_leaf(r, sign, leaf, env)? {
-        return Ok(Candidates::fewest());
-    }
-    Ok(within)
-}
-
-// The same of an atom.
-fn tuple_misses(
-    r: &Reading,
-    x: Variable,
-    within: Candidates,
-    sign: bool,
-    relation: Pred,
-    terms: &Terms,
-    env: &mut Vec<Binding>,
-) -> Result<Candidates, AllocError>
-    ensures value { IfOk result (λ missed. HoldsElsewhere r.now (Atom sign relation terms.now) (scope env.old.items) x within missed) }
-    ensures env { OnOk result (env.new.items ≡ env.old.items) }
-{
-    if sign || are_known(&r.names, env, terms.as_slice()) {
-        return leaf_misses(r, x, within, sign, &Leaf::Tuple(relation, terms), env);
-    }
-    negated_misses(r, x, within, relation, terms.as_slice(), env)
-}
-
-#[cycle(misses)]
-// Those of some constants at which the copies of a formula, or for the sign `false` of its negation, may be false, whatever open
-// variables stand for. The bindings are the same at the end. For each literal it looks at the true atoms at most once.
-fn misses(
-    r: &Reading,
-    x: Variable,
-    within: Candidates,
-    formula: &Formula,
-    sign: bool,
-    env: &mut Vec<Binding>,
-) -> Result<Candidates, AllocError>
-    ensures value { IfOk result (λ missed. HoldsElsewhere r.now (normal_form sign formula.now) (scope env.old.items) x within missed) }
-    ensures env { OnOk result (env.new.items ≡ env.old.items) }
-{
-    match view(formula, sign) {
-        Signed::Truth(_) => Ok(within),
-        Signed::Atom(sign, pred, terms) => tuple_misses(r, x, within, sign, pred, terms, env),
-        Signed::Equal(sign, t, u) => { leaf_misses(r, x, within, sign, &Leaf::Equation(t, u), env) }
-        Signed::Both(p, q) => both_misses(r, x, within, p, q, env),
-        Signed::Either(p, q) => either_misses(r, x, within, p, q, env),
-        Signed::Cases(_, _) => Ok(within),
-        Signed::Forall(var, sort, p) => all_misses(r, x, within, Variable { var, sort }, p, env),
-        Signed::Exists(_, _, _) => Ok(within),
-    }
-}
-
-#[cycle(misses)]
-// Those at which one of two formulas may be false.
-fn both_misses(
-    r: &Reading,
-    x: Variable,
-    within: Candidates,
-    p: Side,
-    q: Side,
-    env: &mut Vec<Binding>,
-) -> Result<Candidates, AllocError>
-    ensures value { IfOk result (λ missed. HoldsElsewhere r.now (And (side_form p.entry) (side_form q.entry)) (scope env.old.items) x within missed) }
-    ensures env { OnOk result (env.new.items ≡ env.old.items) }
-{
-    let first = misses(r, x, within, p.formula, p.sign, env)?;
-    let second = misses(r, x, within, q.formula, q.sign, env)?;
-    Ok(first.with_all(second))
-}
-
-#[cycle(misses)]
-// Those at which both may be.
-fn either_misses(
-    r: &Reading,
-    x: Variable,
-    within: Candidates,
-    p: Side,
-    q: Side,
-    env: &mut Vec<Binding>,
-) -> Result<Candidates, AllocError>
-    ensures value { IfOk result (λ missed. HoldsElsewhere r.now (Or (side_form p.entry) (side_form q.entry)) (scope env.old.items) x within missed) }
-    ensures env { OnOk result (env.new.items ≡ env.old.items) }
-{
-    let first = misses(r, x, within, p.formula, p.sign, env)?;
-    if first.is_fewest() {
-        return Ok(first);
-    }
-    misses(r, x, first, q.formula, q.sign, env)
-}
-
-#[cycle(misses)]
-// Those at which the copies of a body may be false, whatever its variable stands for.
-fn all_misses(
-    r: &Reading,
-    x: Variable,
-    within: Candidates,
-    inner: Variable,
-    p: Side,
-    env: &mut Vec<Binding>,
-) -> Result<Candidates, AllocError>
-    ensures value { IfOk result (λ missed. HoldsElsewhere r.now (ForAll inner.var inner.sort (side_form p.entry)) (scope env.old.items) x within missed) }
-    ensures env { OnOk result (env.new.items ≡ env.old.items) }
-{
-    if x.var.0 == inner.var.0 {
-        return Ok(within);
-    }
-    bind(env, inner.at(OPEN))?;
-    let missed = misses(r, x, within, p.formula, p.sign, env)?;
-    env.pop();
-    Ok(missed)
-}
-
-/// Those constants at which the copies of a `forall`'s body may be false: at each other one they are true, whatever the first free
-/// constants. The bindings are the same at the end.
+/// Those constants of a variable at which the copies of a `forall`'s body may be false: at each other one they are true, whatever the
+/// first free constants. They are all, where the `forall` isn't called plain. The bindings are the same at the end.
 pub fn member_candidates(
     r: &Reading,
-    var: VarId,
-    sort: Sort,
-    formula: &Formula,
-    sign: bool,
+    x: Variable,
+    body: &FormTree,
+    is_plain: bool,
     env: &mut Vec<Binding>,
 ) -> Result<Candidates, AllocError>
-    ensures value { IfOk result (λ c. AreCandidates r.now (normal_form sign formula.now) var sort (scope env.old.items) c) }
+    requires plain { is_plain ≡ true → IsPlain (ForAll x.var x.sort (tree_form body.now)) }
+    ensures value { IfOk result (λ c. AreCandidates r.now (tree_form body.now) x.var x.sort (scope env.old.items) c) }
     ensures env { OnOk result (env.new.items ≡ env.old.items) }
 {
-    if !are_bound(env) {
-        return Ok(Candidates::all());
+    if is_plain && can_open(&r.names, env) {
+        return plain_candidates(r, x, body, env);
     }
-    let x = Variable { var, sort };
+    Ok(Candidates::all())
+}
+
+// The same of a plain one, with its variable and those of its body left open.
+fn plain_candidates(
+    r: &Reading,
+    x: Variable,
+    body: &FormTree,
+    env: &mut Vec<Binding>,
+) -> Result<Candidates, AllocError>
+    requires plain { IsPlain (ForAll x.var x.sort (tree_form body.now)) }
+    requires known { list_all (λ b. not (b.place == OPEN)) env.now.items ≡ true }
+    requires filled { (s : AnySort) → 0 < (ways_of r.now.names).count s }
+    ensures value { IfOk result (λ c. AreCandidates r.now (tree_form body.now) x.var x.sort (scope env.old.items) c) }
+    ensures env { OnOk result (env.new.items ≡ env.old.items) }
+{
+    let known = env.len();
     bind(env, x.at(OPEN))?;
-    let missed = misses(r, x, Candidates::all(), formula, sign, env)?;
-    env.pop();
-    Ok(missed)
+    open_binders(body, env)?;
+    let candidates = search_misses(r, x, body, env)?;
+    env.truncate(known);
+    Ok(candidates)
 }

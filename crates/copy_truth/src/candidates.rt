@@ -1,7 +1,7 @@
 //! Sets of constants of one sort.
 #![tactic(auto)]
 
-ghost use Rattle.std.specs.Prelude.{◌≡◌, ◌==◌, ◌||◌, ℕ, true, false, not, nat_lt};
+ghost use Rattle.std.specs.Prelude.{◌≡◌, ◌<◌, ◌==◌, ◌||◌, ℕ, true, false, not, nat_lt};
 ghost use Rattle.copy_truth.specs.Candidates.{has_place};
 
 /// Constants of one sort, as bits: those at places from 128 on are always among them.
@@ -39,6 +39,13 @@ impl Candidates {
         self.bits == 0
     }
 
+    /// Whether none of them stands below a place; it may also answer no for places from 128 on.
+    pub fn are_none_below(self, count: u64) -> bool
+        ensures { result ≡ true → (place : ℕ) → place < count → has_place self place ≡ false }
+    {
+        self.is_fewest() && count <= 128
+    }
+
     /// These and one more.
     pub fn with(self, place: u64) -> Candidates
         ensures { (other : ℕ) → has_place result other ≡ (has_place self other || other == place) }
@@ -71,6 +78,14 @@ impl Candidates {
             return self.with(place);
         }
         self
+    }
+
+    /// How many of them stand below a place, those from 128 on left out.
+    pub fn count_below(self, count: u64) -> u32 {
+        if count >= 128 {
+            return self.bits.count_ones();
+        }
+        (self.bits & ((1 << count) - 1)).count_ones()
     }
 
     /// These and others.

@@ -1,16 +1,20 @@
 //! What a fact with a sign is, where the facts are what is said of them.
 #![tactic(auto)]
 
-ghost use Rattle.std.specs.Prelude.{◌≡◌, ℕ, IfOk, OnOk};
-ghost use Rattle.ground_inst.specs.Walk.{equation_fact, scope, tuple_fact, ways_of};
-ghost use Rattle.csdn_core.specs.declared.terms.Sort.{Sort as AnySort};
+ghost use Rattle.std.specs.Prelude.{◌≡◌, ◌∷◌, IfOk, OnOk};
+ghost use Rattle.decision_laws.specs.Copies.{place, place_sort};
+ghost use Rattle.ground_inst.specs.Walk.{entry, equation_fact, scope, tuple_fact, ways_of};
 ghost use Rattle.copy_truth.specs.Early.{at_constant, is_known_leaf as is_known_there, leaf_form};
-ghost use Rattle.copy_truth.specs.Judged.{judged_bound, judged_copies, said_signed};
+ghost use Rattle.copy_truth.specs.Judged.{said_signed};
+ghost use Rattle.copy_truth.specs.Matrix.{matrix};
 
-use crate::opened::{Variable, are_known, is_known};
+use crate::opened::{Variable, are_known, is_known, is_this};
 use crate::reading::{Reading, is_true};
-use csdn_core::terms::{Pred, Term, Terms};
-use ground_inst::places::{Binding, Names, equation_literal, tuple_literal};
+use csdn_core::terms::{Pred, Sort, Term, Terms};
+use ground_inst::facts::equation_atom;
+use ground_inst::places::{
+    Binding, Names, equation_literal, literal, place_of, sort_of, tuple_literal,
+};
 use ground_inst::walk::bind;
 use std::alloc::AllocError;
 
@@ -61,7 +65,7 @@ pub fn is_known_leaf(names: &Names, env: &[Binding], leaf: &Leaf) -> bool
 
 /// Whether a leaf is true, or for the sign `false` its negation.
 pub fn judge_leaf(r: &Reading, sign: bool, leaf: &Leaf, env: &[Binding]) -> Result<bool, AllocError>
-    ensures { IfOk result (λ b. (base : AnySort → ℕ) → b ≡ judged_copies r.now (leaf_form sign leaf.now) (scope env.now) base) }
+    ensures { IfOk result (λ b. b ≡ matrix r.now (leaf_form sign leaf.now) (scope env.now)) }
 {
     match leaf {
         Leaf::Tuple(relation, terms) => judge_tuple(r, sign, *relation, terms, env),
@@ -77,13 +81,68 @@ pub fn judge_leaf_at(
     binding: Binding,
     env: &mut Vec<Binding>,
 ) -> Result<bool, AllocError>
-    ensures value { IfOk result (λ b. (base : AnySort → ℕ) → b ≡ judged_bound r.now (leaf_form sign leaf.now) binding (scope env.old.items) base) }
+    ensures value { IfOk result (λ b. b ≡ matrix r.now (leaf_form sign leaf.now) (entry binding ∷ scope env.old.items)) }
+    ensures env { OnOk result (env.new.items ≡ env.old.items) }
+{
+    match leaf {
+        Leaf::Tuple(relation, terms) => judge_tuple_at(r, sign, *relation, terms, binding, env),
+        Leaf::Equation(t, u) => judge_equation_at(r, sign, *t, *u, binding, env),
+    }
+}
+
+fn judge_tuple_at(
+    r: &Reading,
+    sign: bool,
+    relation: Pred,
+    terms: &Terms,
+    binding: Binding,
+    env: &mut Vec<Binding>,
+) -> Result<bool, AllocError>
+    ensures value { IfOk result (λ b. b ≡ said_signed r.now sign (tuple_fact (ways_of r.now.names) (entry binding ∷ scope env.old.items) relation terms.now)) }
     ensures env { OnOk result (env.new.items ≡ env.old.items) }
 {
     bind(env, binding)?;
-    let value = judge_leaf(r, sign, leaf, env)?;
+    let value = judge_tuple(r, sign, relation, terms, env)?;
     env.pop();
     Ok(value)
+}
+
+// Its place and sort are all that is wanted of each term, so that nothing is bound.
+fn judge_equation_at(
+    r: &Reading,
+    sign: bool,
+    t: Term,
+    u: Term,
+    binding: Binding,
+    env: &[Binding],
+) -> Result<bool, AllocError>
+    ensures { IfOk result (λ b. b ≡ said_signed r.now sign (equation_fact (ways_of r.now.names) (entry binding ∷ scope env.now) t u)) }
+{
+    let sort = sort_at(&r.names, env, binding, t);
+    let a = place_at(&r.names, env, binding, t);
+    let b = place_at(&r.names, env, binding, u);
+    let l = literal(sign, equation_atom(r.names.facts, sort, a, b)?)?;
+    Ok(is_true(r.trues, l))
+}
+
+// The place of what a term stands for, a variable standing for this constant.
+fn place_at(names: &Names, env: &[Binding], binding: Binding, term: Term) -> u64
+    ensures { result ≡ place (ways_of names.now).voc (entry binding ∷ scope env.now) term }
+{
+    if is_this(binding.var, term) {
+        return binding.place;
+    }
+    place_of(names, env, term)
+}
+
+// Its sort.
+fn sort_at(names: &Names, env: &[Binding], binding: Binding, term: Term) -> Sort
+    ensures { result ≡ place_sort (ways_of names.now).voc (entry binding ∷ scope env.now) term }
+{
+    if is_this(binding.var, term) {
+        return binding.sort;
+    }
+    sort_of(names, env, term)
 }
 
 /// Whether each term of a leaf would stand for a constant, if this variable stood for the first one.

@@ -1,10 +1,11 @@
 //! Variables that are left open, and terms with them.
 #![tactic(auto)]
 
-ghost use Rattle.std.specs.Prelude.{◌≡◌, ◌==◌, true, not};
+ghost use Rattle.std.specs.Prelude.{◌≡◌, ◌==◌, true, not, IfSome};
 ghost use Rattle.std.specs.List.{list_all};
 ghost use Rattle.ground_inst.specs.Walk.{scope, ways_of};
 ghost use Rattle.copy_truth.specs.Early.{AreColumns, IsColumn, is_known as is_known_there, is_this as is_this_there, is_variable as is_variable_there};
+ghost use Rattle.copy_truth.specs.Outlook.{IsOpenIn};
 
 use csdn_core::terms::{Sort, Term, VarId};
 use ground_inst::places::{Binding, Names, place_of, sort_of};
@@ -67,6 +68,36 @@ pub fn are_bound(env: &[Binding]) -> bool
     match env {
         [] => true,
         [binding, others @ ..] => !(binding.place == OPEN) && are_bound(others),
+    }
+}
+
+/// The variable that a term is, if it's open.
+pub fn open_variable(names: &Names, env: &[Binding], term: Term) -> Option<Variable>
+    ensures { IfSome result (IsOpenIn (scope env.now)) }
+{
+    match term {
+        Term::Var(var) => {
+            if !(place_of(names, env, term) == OPEN) {
+                return None;
+            }
+            let sort = sort_of(names, env, term);
+            Some(Variable { var, sort })
+        }
+        Term::Const(_) => None,
+        Term::Port(_) => None,
+    }
+}
+
+/// The first open variable among terms.
+pub fn first_open(names: &Names, env: &[Binding], terms: &[Term]) -> Option<Variable>
+    ensures { IfSome result (IsOpenIn (scope env.now)) }
+{
+    match terms {
+        [] => None,
+        [term, others @ ..] => match open_variable(names, env, *term) {
+            None => first_open(names, env, others),
+            Some(x) => Some(x),
+        },
     }
 }
 

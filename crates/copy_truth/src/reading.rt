@@ -6,13 +6,16 @@ ghost use Rattle.clause_log.specs.Literals.{literal_true, truths};
 
 use clause_log::{Lit, Valuation};
 use ground_inst::places::Names;
+use std::alloc::Global;
 
-/// The program's names and the facts of a sentence, the atoms that its clauses name, and the true ones among them.
+/// The program's names and the facts of a sentence, the atoms that its clauses name, and the true ones among them. What searches
+/// keep is taken from `alloc`.
 #[derive(Clone, Copy)]
 pub struct Reading<'a> {
     pub names: Names<'a>,
     pub named: &'a Valuation,
     pub trues: &'a Valuation,
+    pub alloc: Global,
 }
 
 /// Whether a literal is true.

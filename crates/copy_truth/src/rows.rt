@@ -2,6 +2,8 @@
 #![tactic(auto)]
 
 ghost use Rattle.std.specs.Prelude.{◌≡◌, ◌+◌, ◌-◌, ◌<◌, ℕ, true, false, IfOk};
+ghost use Rattle.std.specs.List.Sorted.{IsNonDecreasing};
+ghost use Rattle.csdn_core.specs.Members.{IsIn};
 ghost use Rattle.decision_laws.specs.Numbers.{tuple_count as count_of_tuples};
 ghost use Rattle.ground_inst.specs.Walk.{scope, ways_of};
 ghost use Rattle.copy_truth.specs.Candidates.{has_place};
@@ -85,8 +87,20 @@ fn fit_of(
     }
 }
 
+// The part of atoms that rise, from the first that stands behind this one.
+fn atoms_from<'a>(atoms: &'a [u64], before: u64) -> &'a [u64]
+    requires { IsNonDecreasing atoms.now }
+    ensures behind { (t : ℕ) → IsIn t atoms.now → before < t → IsIn t result.now }
+    ensures rising { IsNonDecreasing result.now }
+{
+    match atoms.binary_search(&before) {
+        Ok(place) => &atoms[place..],
+        Err(place) => &atoms[place..],
+    }
+}
+
 /// Those of some constants with which an atom of a relation over terms may be a true one, where a variable, which is open, stands
-/// for them. It looks at the true atoms up to the last of the relation's.
+/// for them. It looks at the relation's true atoms.
 pub fn row_candidates(
     r: &Reading,
     x: Variable,
@@ -100,7 +114,7 @@ pub fn row_candidates(
 {
     let count = tuple_count(&r.names.facts.counts, used.sorts.as_slice())?;
     let mut found = Candidates::fewest();
-    let mut rest = r.trues.true_atoms();
+    let mut rest = atoms_from(r.trues.true_atoms(), used.before);
     'atoms: while let [atom, more @ ..] = rest {
         if is_behind(used, count, *atom) {
             return Ok(found);

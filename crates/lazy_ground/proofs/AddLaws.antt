@@ -55,7 +55,7 @@ none_in (x ∷ xs) h = absurd (h x (inl refl))
 
 pub added_broken : (P : Parts) (F : Formula) (v : ℕ → Bool) (old : LazyGround) (added : List (List Literal)) (all : ClauseList) (n : ℕ) → IsLazy P F old → IsModel v old.made.clauses.clauses → AreAllBroken P F (completed P F old.made.clauses.clauses v) added
     → all ≡ record { atoms = old.made.clauses.atoms; clauses = old.made.clauses.clauses ++ added } → n ≡ length added
-    → AddsBroken P F v old (record { made = record { sentence = old.made.sentence; facts = old.made.facts; clauses = all }; simple = old.simple }) n
+    → AddsBroken P F v old (record { made = record { sentence = old.made.sentence; facts = old.made.facts; clauses = all }; tree = old.tree }) n
 added_broken P F v old added all n lazy model broken e count =
     let w = completed P F old.made.clauses.clauses v in
     let cs = old.made.clauses.clauses in
@@ -70,6 +70,7 @@ added_broken P F v old added all n lazy model broken e count =
         sentence = lazy.sentence;
         facts = lazy.facts;
         simple = lazy.simple;
+        measured = lazy.measured;
         atoms = ap (λ z. z.atoms) e ∙ lazy.atoms;
         part = subst (ArePart (clauses P F)) (sym behind) (still_part (clauses P F) cs added w lazy.part m broken.broken);
       };

@@ -3,10 +3,11 @@ use Rattle.std.specs.Prelude.{◌≡◌, ◌↔◌, ℕ, ◌+◌, Bool, List, []
 use Rattle.csdn_core.specs.declared.program.Parts.{Parts}
 use Rattle.csdn_core.specs.declared.syntax.Formula.{Formula}
 use Rattle.clause_log.specs.Literals.{Literal, IsModel}
-use Rattle.fol_forms.specs.Forms.{form_of}
-use Rattle.decision_laws.specs.Laws.{atoms, clauses}
-use Rattle.decision_laws.specs.Simplified.{simplified}
+use Rattle.fol_forms.specs.Counts.{count_of}
+use Rattle.decision_laws.specs.Laws.{atoms, clauses, sentence_copies}
 use Rattle.decision_laws.specs.Sublists.{ArePart, AreBroken, left_of}
+use Rattle.form_trees.specs.Trees.{IsMeasured, tree_form}
+use Rattle.ground_inst.specs.Copies.{copies_over}
 use Rattle.ground_inst.specs.Facts.{AreFactsOf}
 use Rattle.lazy_ground.specs.declared.sentence.LazyGround.{LazyGround}
 use Rattle.lazy_ground.specs.Completed.{completed}
@@ -15,7 +16,8 @@ use Rattle.lazy_ground.specs.Completed.{completed}
 pub record IsLazy (P : Parts) (F : Formula) (g : LazyGround) : Type 0 where
   pub sentence : g.made.sentence ≡ F
   pub facts : AreFactsOf P F g.made.facts
-  pub simple : form_of g.simple ≡ simplified (form_of F)
+  pub copies : copies_over P (count_of g.made.facts.counts) (tree_form g.tree) ≡ sentence_copies P F
+  pub measured : IsMeasured (count_of g.made.facts.counts) g.tree
   pub atoms : g.made.clauses.atoms ≡ atoms P F
   pub part : ArePart (clauses P F) g.made.clauses.clauses
 

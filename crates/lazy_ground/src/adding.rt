@@ -1,14 +1,11 @@
 //! The clauses that a valuation breaks.
 #![tactic(auto)]
 
-ghost use Rattle.std.specs.Prelude.{◌≡◌, ◌+◌, ◌++◌, [], suc, IfOk, OnErr, OnOk};
+ghost use Rattle.std.specs.Prelude.{◌≡◌, [], IfOk, OnErr, OnOk};
 ghost use Rattle.clause_log.specs.Literals.{IsModel, truths};
-ghost use Rattle.fol_forms.specs.Counts.{count_of};
-ghost use Rattle.fol_forms.specs.Forms.{form_of};
-ghost use Rattle.decision_laws.specs.Clauses.{equality_clauses, whole_clauses};
-ghost use Rattle.decision_laws.specs.Laws.{IsSentence, clauses as clauses_of};
-ghost use Rattle.ground_inst.specs.Copies.{copies_over};
-ghost use Rattle.ground_inst.specs.Facts.{num_of, vocabulary_of};
+ghost use Rattle.decision_laws.specs.Laws.{IsSentence};
+ghost use Rattle.form_trees.specs.Trees.{IsMeasured, tree_form};
+ghost use Rattle.ground_inst.specs.Walk.{ways_of};
 ghost use Rattle.lazy_ground.specs.Completed.{completed};
 ghost use Rattle.lazy_ground.specs.Lazy.{AddsBroken, AreAllBroken, IsLazy};
 ghost use Rattle.lazy_ground.specs.Whole.{FindsNodes, FindsWhole, FindsBoth};
@@ -19,14 +16,15 @@ use crate::looking::look;
 use crate::naming::{both_true, named_atoms};
 use crate::picking::picked;
 use crate::sentence::LazyGround;
+use crate::values::tree_value;
 use clause_log::{Clauses, Valuation};
 use copy_truth::needing::sum;
 use copy_truth::reading::Reading;
-use csdn_core::program::{Parts, Program};
-use csdn_core::syntax::Formula;
+use csdn_core::program::Program;
+use form_trees::trees::FormTree;
 use ground_inst::places::Names;
 use ground_inst::rows::Rows;
-use ground_inst::walk::{Work, copied_value, known_of};
+use ground_inst::walk::{Work, known_of};
 use std::alloc::{AllocError, Global};
 use std::mem::replace;
 
@@ -72,43 +70,46 @@ fn broken_clauses(
         },
         named: &named,
         trues: &trues,
+        alloc,
     };
     let mut marks = Vec::new(alloc);
-    let rows = broken_rows(alloc, &reading, lazy.simple.get(), &mut marks)?;
+    let rows = broken_rows(alloc, &reading, lazy.tree.get(), &mut marks)?;
     let found = rows.into_clauses(lazy.made.clauses.atoms());
     let some = picked(alloc, &found, &marks)?;
     each_once(alloc, &some)
 }
 
-// The clauses of a formula's copies and of equality that are found.
+// The clauses of a tree's copies and of equality that are found.
 fn broken_rows(
     alloc: Global,
     r: &Reading,
-    formula: &Formula,
+    tree: &FormTree,
     marks: &mut Vec<u64>,
 ) -> Result<Rows, AllocError>
-    ensures { IfOk result (λ rows. FindsBoth r.now (form_of formula.now) rows) }
+    requires measured { IsMeasured (ways_of r.now.names).count tree.now }
+    ensures { IfOk result (λ rows. FindsBoth r.now (tree_form tree.now) rows) }
 {
     let mut rows = Rows::new(alloc);
-    find_copies(alloc, r, formula, marks, &mut rows)?;
+    find_copies(alloc, r, tree, marks, &mut rows)?;
     find_equality(alloc, r.names.parts, r.names.facts, r.trues, &mut rows)?;
     Ok(rows)
 }
 
-// The clauses of a formula's copies that are found.
+// The clauses of a tree's copies that are found.
 fn find_copies(
     alloc: Global,
     r: &Reading,
-    formula: &Formula,
+    tree: &FormTree,
     marks: &mut Vec<u64>,
     rows: &mut Rows,
 ) -> Result<(), AllocError>
-    ensures { OnOk result (FindsWhole r.now (form_of formula.now) rows.old rows.new) }
+    requires measured { IsMeasured (ways_of r.now.names).count tree.now }
+    ensures { OnOk result (FindsWhole r.now (tree_form tree.now) rows.old rows.new) }
 {
-    match copied_value(&r.names.facts.counts, formula, true) {
+    match tree_value(&r.names.facts.counts, tree) {
         Some(true) => Ok(()),
         Some(false) => rows.push(&[]),
-        None => find_nodes(alloc, r, formula, marks, rows),
+        None => find_nodes(alloc, r, tree, marks, rows),
     }
 }
 
@@ -116,11 +117,12 @@ fn find_copies(
 fn find_nodes(
     alloc: Global,
     r: &Reading,
-    formula: &Formula,
+    tree: &FormTree,
     marks: &mut Vec<u64>,
     rows: &mut Rows,
 ) -> Result<(), AllocError>
-    ensures { OnOk result (FindsNodes r.now (form_of formula.now) rows.old rows.new) }
+    requires measured { IsMeasured (ways_of r.now.names).count tree.now }
+    ensures { OnOk result (FindsNodes r.now (tree_form tree.now) rows.old rows.new) }
 {
     let mut work = Work {
         env: Vec::new(alloc),
@@ -129,7 +131,7 @@ fn find_nodes(
         rows: replace(rows, Rows::new(alloc)),
     };
     let first = work.next;
-    let seen = look(r, formula, true, None, first, marks, &mut work)?;
+    let seen = look(r, tree, None, first, marks, &mut work)?;
     *rows = work.rows;
     if seen.value {
         return Ok(());

@@ -16,3 +16,4 @@ mod picking;
 mod reading;
 pub mod sentence;
 pub mod starting;
+mod values;

@@ -1,14 +1,14 @@
 //! The clauses of the copies of a sentence that a valuation breaks.
 //!
 //! Parts without a named node are not looked into: they count as what they are, so that their clauses are true. The others are
-//! walked through. A simplified formula has no truth value inside and no equivalence: `AllocError` for these.
+//! walked through. A simplified formula has no truth value inside: `AllocError` for one.
 #![tactic(auto)]
 
 ghost use Rattle.std.specs.Prelude.{◌≡◌, ◌<◌, ◌&&◌, not, true, false, IfOk, OnOk};
-ghost use Rattle.csdn_core.specs.declared.terms.Sort.{Sort as AnySort};
-ghost use Rattle.fol_forms.specs.Counts.{count_of};
-ghost use Rattle.fol_forms.specs.Forms.{And, Atom, ForAll, ForSome, Or, Same, normal_form};
+ghost use Rattle.fol_forms.specs.Forms.{And, Atom, ForAll, ForSome, Or, Same};
 ghost use Rattle.decision_laws.specs.Weights.{weight as weight_of};
+ghost use Rattle.form_trees.specs.Plain.{IsPlain};
+ghost use Rattle.form_trees.specs.Trees.{IsMeasured, tree_form};
 ghost use Rattle.ground_inst.specs.Walk.{copies_at, scope, state_of, ways_of};
 ghost use Rattle.copy_truth.specs.Judged.{judged_copies};
 ghost use Rattle.lazy_ground.specs.Readings.{HasFreeParts, IsFree, IsGiven, given_unless as given_by, makes_node, named_by, node_value};
@@ -20,15 +20,14 @@ use clause_log::Lit;
 use copy_truth::breaking::member_candidates;
 use copy_truth::candidates::Candidates;
 use copy_truth::judging::judge;
-use copy_truth::needing::{past, sum};
+use copy_truth::needing::{nodes_of, past, sum};
+use copy_truth::opened::Variable;
 use copy_truth::reading::{Reading, is_true};
-use csdn_core::syntax::Formula;
 use csdn_core::terms::{Pred, Sort, Term, Terms, VarId};
-use fol_forms::signed::{Signed, view};
+use form_trees::trees::{FormTree, Part, extent_of, part_of};
 use ground_inst::bases::{larger, one_more};
 use ground_inst::places::{Binding, equation_literal, literal, tuple_literal};
 use ground_inst::walk::{Work, bind, number, push_either, push_member};
-use ground_inst::weights::weight;
 use std::alloc::AllocError;
 
 /// The literal of the whole of some copies, and what it is.
@@ -39,37 +38,34 @@ pub struct Seen {
 }
 
 #[cycle(look)]
-/// Appends clauses of the copies of a formula, or for the sign `false` of its negation, that the completed valuation breaks, and
-/// answers the literal of the whole. Where its truth value is given, it is not looked for. The foralls of a formula that stand one
-/// in another are one block; `marks` gets, for each clause, the number of its block, which for the formula itself is `block`.
+/// Appends clauses of the copies of a tree that the completed valuation breaks, and answers the literal of the whole. Where its
+/// truth value is given, it is not looked for. The foralls of a tree that stand one in another are one block; `marks` gets, for
+/// each clause, the number of its block, which for the tree itself is `block`.
 pub fn look(
     r: &Reading,
-    formula: &Formula,
-    sign: bool,
+    tree: &FormTree,
     given: Option<bool>,
     block: u64,
     marks: &mut Vec<u64>,
     work: &mut Work,
 ) -> Result<Seen, AllocError>
-    ensures { IfOk result (λ seen. Looks r.now (normal_form sign formula.now) given (state_of work.old) (state_of work.new) seen) }
+    requires measured { IsMeasured (ways_of r.now.names).count tree.now }
+    ensures { IfOk result (λ seen. Looks r.now (tree_form tree.now) given (state_of work.old) (state_of work.new) seen) }
 {
-    match view(formula, sign) {
-        Signed::Truth(_) => Err(AllocError),
-        Signed::Atom(sign, pred, terms) => look_tuple(r, sign, pred, terms, given, work),
-        Signed::Equal(sign, t, u) => look_equation(r, sign, t, u, given, work),
-        Signed::Both(_, _) => look_node(r, formula, sign, given, block, marks, work),
-        Signed::Either(_, _) => look_node(r, formula, sign, given, block, marks, work),
-        Signed::Cases(_, _) => Err(AllocError),
-        Signed::Forall(var, sort, p) => {
+    match part_of(tree) {
+        Part::Truth(_) => Err(AllocError),
+        Part::Tuple(sign, pred, terms) => look_tuple(r, sign, pred, terms, given, work),
+        Part::Equation(sign, t, u) => look_equation(r, sign, t, u, given, work),
+        Part::Both(_, _) => look_node(r, tree, given, block, marks, work),
+        Part::Either(_, _) => look_node(r, tree, given, block, marks, work),
+        Part::Forall(var, sort, p) => {
             let count = r.names.facts.counts.of(sort);
             if count > 1 {
-                return look_node(r, formula, sign, given, block, marks, work);
+                return look_node(r, tree, given, block, marks, work);
             }
-            look_only(r, var, sort, p.formula, p.sign, given, block, marks, work)
+            look_only(r, var, sort, p, given, block, marks, work)
         }
-        Signed::Exists(var, sort, p) => {
-            look_free(r, var, sort, p.formula, p.sign, given, block, marks, work)
-        }
+        Part::Exists(var, sort, p) => look_free(r, var, sort, p, given, block, marks, work),
     }
 }
 
@@ -105,49 +101,50 @@ fn look_equation(
     Ok(Seen { literal: l, value })
 }
 
-// What the copies of a formula are, where that is not given.
+// What the copies of a tree are, where that is not given.
 fn judge_unless(
     r: &Reading,
-    formula: &Formula,
-    sign: bool,
+    tree: &FormTree,
     given: Option<bool>,
     work: &mut Work,
 ) -> Result<bool, AllocError>
-    ensures value { IfOk result (λ b. IsGiven given (judged_copies r.now (normal_form sign formula.now) (state_of work.old).env (state_of work.old).base) → b ≡ judged_copies r.now (normal_form sign formula.now) (state_of work.old).env (state_of work.old).base) }
+    requires measured { IsMeasured (ways_of r.now.names).count tree.now }
+    ensures value { IfOk result (λ b. IsGiven given (judged_copies r.now (tree_form tree.now) (state_of work.old).env (state_of work.old).base) → b ≡ judged_copies r.now (tree_form tree.now) (state_of work.old).env (state_of work.old).base) }
     ensures same { OnOk result (state_of work.new ≡ state_of work.old) }
 {
     match given {
         Some(value) => Ok(value),
-        None => judge(r, formula, sign, &mut work.env, work.base),
+        None => judge(r, tree, &mut work.env, work.base),
     }
 }
 
 // What the conjunction or disjunction that comes next counts as.
-fn value_at(r: &Reading, formula: &Formula, sign: bool, work: &mut Work) -> Result<bool, AllocError>
-    ensures value { IfOk result (λ b. b ≡ node_value r.now (state_of work.old).next (copies_at (ways_of r.now.names) (normal_form sign formula.now) (state_of work.old))) }
+fn value_at(r: &Reading, tree: &FormTree, work: &mut Work) -> Result<bool, AllocError>
+    requires measured { IsMeasured (ways_of r.now.names).count tree.now }
+    ensures value { IfOk result (λ b. b ≡ node_value r.now (state_of work.old).next (copies_at (ways_of r.now.names) (tree_form tree.now) (state_of work.old))) }
     ensures same { OnOk result (state_of work.new ≡ state_of work.old) }
 {
     if r.named.value(work.next) {
         return Ok(r.trues.value(work.next));
     }
-    judge(r, formula, sign, &mut work.env, work.base)
+    judge(r, tree, &mut work.env, work.base)
 }
 
 // Passes copies that are one conjunction or disjunction, of so many nodes of which none is named.
 fn skip(
     r: &Reading,
-    formula: &Formula,
-    sign: bool,
+    tree: &FormTree,
     count: u64,
     given: Option<bool>,
     work: &mut Work,
 ) -> Result<Seen, AllocError>
-    ensures { IfOk result (λ seen. count ≡ weight_of (ways_of r.now.names).count (normal_form sign formula.now) → IsFree (named_by r.now) (state_of work.old).next count → makes_node (ways_of r.now.names).count (normal_form sign formula.now) ≡ true → Looks r.now (normal_form sign formula.now) given (state_of work.old) (state_of work.new) seen) }
+    requires measured { IsMeasured (ways_of r.now.names).count tree.now }
+    ensures { IfOk result (λ seen. count ≡ weight_of (ways_of r.now.names).count (tree_form tree.now) → IsFree (named_by r.now) (state_of work.old).next count → makes_node (ways_of r.now.names).count (tree_form tree.now) ≡ true → Looks r.now (tree_form tree.now) given (state_of work.old) (state_of work.new) seen) }
 {
-    let value = judge_unless(r, formula, sign, given, work)?;
+    let value = judge_unless(r, tree, given, work)?;
     let top = literal(true, work.next)?;
     work.next = sum(work.next, count)?;
-    work.base = past(formula, sign, work.base)?;
+    work.base = past(&r.names, tree, work.base)?;
     Ok(Seen {
         literal: top,
         value,
@@ -158,22 +155,22 @@ fn skip(
 // The same of copies that are one conjunction or disjunction.
 fn look_node(
     r: &Reading,
-    formula: &Formula,
-    sign: bool,
+    tree: &FormTree,
     given: Option<bool>,
     block: u64,
     marks: &mut Vec<u64>,
     work: &mut Work,
 ) -> Result<Seen, AllocError>
-    ensures { IfOk result (λ seen. makes_node (ways_of r.now.names).count (normal_form sign formula.now) ≡ true → Looks r.now (normal_form sign formula.now) given (state_of work.old) (state_of work.new) seen) }
+    requires measured { IsMeasured (ways_of r.now.names).count tree.now }
+    ensures { IfOk result (λ seen. makes_node (ways_of r.now.names).count (tree_form tree.now) ≡ true → Looks r.now (tree_form tree.now) given (state_of work.old) (state_of work.new) seen) }
 {
-    let count = weight(&r.names.facts.counts, formula, sign)?;
+    let count = nodes_of(&r.names, tree);
     if is_free(r.named, work.next, count) {
-        return skip(r, formula, sign, count, given, work);
+        return skip(r, tree, count, given, work);
     }
-    let value = value_at(r, formula, sign, work)?;
+    let value = value_at(r, tree, work)?;
     let top = literal(true, work.next)?;
-    look_inside(r, formula, sign, count, value, block, marks, work)?;
+    look_inside(r, tree, count, value, block, marks, work)?;
     Ok(Seen {
         literal: top,
         value,
@@ -192,53 +189,49 @@ fn is_over(r: &Reading, value: bool, count: u64, next: u64) -> bool
 // The clauses of a conjunction or disjunction of so many nodes with this value, and of its parts.
 fn look_inside(
     r: &Reading,
-    formula: &Formula,
-    sign: bool,
+    tree: &FormTree,
     count: u64,
     value: bool,
     block: u64,
     marks: &mut Vec<u64>,
     work: &mut Work,
 ) -> Result<(), AllocError>
-    requires count { count ≡ weight_of (ways_of r.now.names).count (normal_form sign formula.now) }
-    ensures { OnOk result (makes_node (ways_of r.now.names).count (normal_form sign formula.now) ≡ true → LooksInto r.now (normal_form sign formula.now) value (state_of work.old) (state_of work.new)) }
+    requires measured { IsMeasured (ways_of r.now.names).count tree.now }
+    requires count { count ≡ weight_of (ways_of r.now.names).count (tree_form tree.now) }
+    ensures { OnOk result (makes_node (ways_of r.now.names).count (tree_form tree.now) ≡ true → LooksInto r.now (tree_form tree.now) value (state_of work.old) (state_of work.new)) }
 {
     if is_over(r, value, count, work.next) {
         work.next = sum(work.next, count)?;
-        work.base = past(formula, sign, work.base)?;
+        work.base = past(&r.names, tree, work.base)?;
         return Ok(());
     }
-    look_into(r, formula, sign, value, block, marks, work)
+    look_into(r, tree, value, block, marks, work)
 }
 
 #[cycle(look)]
 // The clauses of a conjunction or disjunction with this value, and of its parts.
 fn look_into(
     r: &Reading,
-    formula: &Formula,
-    sign: bool,
+    tree: &FormTree,
     value: bool,
     block: u64,
     marks: &mut Vec<u64>,
     work: &mut Work,
 ) -> Result<(), AllocError>
-    ensures { OnOk result (LooksInto r.now (normal_form sign formula.now) value (state_of work.old) (state_of work.new)) }
+    requires measured { IsMeasured (ways_of r.now.names).count tree.now }
+    ensures { OnOk result (LooksInto r.now (tree_form tree.now) value (state_of work.old) (state_of work.new)) }
 {
-    match view(formula, sign) {
-        Signed::Truth(_) => Err(AllocError),
-        Signed::Atom(_, _, _) => Err(AllocError),
-        Signed::Equal(_, _, _) => Err(AllocError),
-        Signed::Both(p, q) => {
-            look_into_both(r, p.formula, p.sign, q.formula, q.sign, value, marks, work)
+    match part_of(tree) {
+        Part::Truth(_) => Err(AllocError),
+        Part::Tuple(_, _, _) => Err(AllocError),
+        Part::Equation(_, _, _) => Err(AllocError),
+        Part::Both(p, q) => look_into_both(r, p, q, value, marks, work),
+        Part::Either(p, q) => look_into_either(r, p, q, value, marks, work),
+        Part::Forall(var, sort, p) => {
+            let is_plain = extent_of(tree).is_plain;
+            look_into_all(r, var, sort, p, is_plain, value, block, marks, work)
         }
-        Signed::Either(p, q) => {
-            look_into_either(r, p.formula, p.sign, q.formula, q.sign, value, marks, work)
-        }
-        Signed::Cases(_, _) => Err(AllocError),
-        Signed::Forall(var, sort, p) => {
-            look_into_all(r, var, sort, p.formula, p.sign, value, block, marks, work)
-        }
-        Signed::Exists(_, _, _) => Err(AllocError),
+        Part::Exists(_, _, _) => Err(AllocError),
     }
 }
 
@@ -266,17 +259,17 @@ fn is_missing(wanted: bool, value: bool) -> bool
 // The clauses of a member of the conjunction with this number, and its own clause. Answers whether members are still looked at.
 fn look_member(
     r: &Reading,
-    formula: &Formula,
-    sign: bool,
+    tree: &FormTree,
     x: u64,
     asked: bool,
     block: u64,
     marks: &mut Vec<u64>,
     work: &mut Work,
 ) -> Result<bool, AllocError>
-    ensures { IfOk result (λ still. LooksMember r.now (normal_form sign formula.now) x asked (state_of work.old) (state_of work.new) still) }
+    requires measured { IsMeasured (ways_of r.now.names).count tree.now }
+    ensures { IfOk result (λ still. LooksMember r.now (tree_form tree.now) x asked (state_of work.old) (state_of work.new) still) }
 {
-    let seen = look(r, formula, sign, given_unless(asked), block, marks, work)?;
+    let seen = look(r, tree, given_unless(asked), block, marks, work)?;
     if is_missing(asked, seen.value) {
         note(marks, block)?;
         push_member(&mut work.rows, x, seen.literal)?;
@@ -289,21 +282,21 @@ fn look_member(
 // The clauses of a conjunction of two.
 fn look_into_both(
     r: &Reading,
-    p: &Formula,
-    p_sign: bool,
-    q: &Formula,
-    q_sign: bool,
+    p: &FormTree,
+    q: &FormTree,
     value: bool,
     marks: &mut Vec<u64>,
     work: &mut Work,
 ) -> Result<(), AllocError>
-    ensures { OnOk result (LooksInto r.now (And (normal_form p_sign p.now) (normal_form q_sign q.now)) value (state_of work.old) (state_of work.new)) }
+    requires left { IsMeasured (ways_of r.now.names).count p.now }
+    requires right { IsMeasured (ways_of r.now.names).count q.now }
+    ensures { OnOk result (LooksInto r.now (And (tree_form p.now) (tree_form q.now)) value (state_of work.old) (state_of work.new)) }
 {
     let x = number(work)?;
     let first = work.next;
-    look_member(r, p, p_sign, x, value, first, marks, work)?;
+    look_member(r, p, x, value, first, marks, work)?;
     let second = work.next;
-    look_member(r, q, q_sign, x, value, second, marks, work)?;
+    look_member(r, q, x, value, second, marks, work)?;
     Ok(())
 }
 
@@ -311,25 +304,25 @@ fn look_into_both(
 // The clauses of a disjunction. Both sides take the same free constants.
 fn look_into_either(
     r: &Reading,
-    p: &Formula,
-    p_sign: bool,
-    q: &Formula,
-    q_sign: bool,
+    p: &FormTree,
+    q: &FormTree,
     value: bool,
     marks: &mut Vec<u64>,
     work: &mut Work,
 ) -> Result<(), AllocError>
-    ensures { OnOk result (LooksInto r.now (Or (normal_form p_sign p.now) (normal_form q_sign q.now)) value (state_of work.old) (state_of work.new)) }
+    requires left { IsMeasured (ways_of r.now.names).count p.now }
+    requires right { IsMeasured (ways_of r.now.names).count q.now }
+    ensures { OnOk result (LooksInto r.now (Or (tree_form p.now) (tree_form q.now)) value (state_of work.old) (state_of work.new)) }
 {
     let x = number(work)?;
     let start = work.base;
     let first = work.next;
-    let a = look(r, p, p_sign, given_unless(value), first, marks, work)?;
+    let a = look(r, p, given_unless(value), first, marks, work)?;
     let after = work.base;
     work.base = start;
     let wanted = is_missing(value, a.value);
     let second = work.next;
-    let b = look(r, q, q_sign, given_unless(wanted), second, marks, work)?;
+    let b = look(r, q, given_unless(wanted), second, marks, work)?;
     work.base = larger(after, work.base);
     if is_missing(wanted, b.value) {
         note(marks, x)?;
@@ -343,17 +336,17 @@ fn look_into_either(
 fn look_at(
     r: &Reading,
     binding: Binding,
-    formula: &Formula,
-    sign: bool,
+    tree: &FormTree,
     given: Option<bool>,
     block: u64,
     marks: &mut Vec<u64>,
     work: &mut Work,
 ) -> Result<Seen, AllocError>
-    ensures { IfOk result (λ seen. LooksAt r.now (normal_form sign formula.now) binding.var binding.sort binding.place given (state_of work.old) (state_of work.new) seen) }
+    requires measured { IsMeasured (ways_of r.now.names).count tree.now }
+    ensures { IfOk result (λ seen. LooksAt r.now (tree_form tree.now) binding.var binding.sort binding.place given (state_of work.old) (state_of work.new) seen) }
 {
     bind(&mut work.env, binding)?;
-    let seen = look(r, formula, sign, given, block, marks, work)?;
+    let seen = look(r, tree, given, block, marks, work)?;
     work.env.pop();
     Ok(seen)
 }
@@ -364,14 +357,14 @@ fn look_only(
     r: &Reading,
     var: VarId,
     sort: Sort,
-    formula: &Formula,
-    sign: bool,
+    tree: &FormTree,
     given: Option<bool>,
     block: u64,
     marks: &mut Vec<u64>,
     work: &mut Work,
 ) -> Result<Seen, AllocError>
-    ensures { IfOk result (λ seen. Looks r.now (ForAll var sort (normal_form sign formula.now)) given (state_of work.old) (state_of work.new) seen) }
+    requires measured { IsMeasured (ways_of r.now.names).count tree.now }
+    ensures { IfOk result (λ seen. Looks r.now (ForAll var sort (tree_form tree.now)) given (state_of work.old) (state_of work.new) seen) }
 {
     if r.names.facts.counts.of(sort) != 1 {
         return Err(AllocError);
@@ -382,7 +375,7 @@ fn look_only(
         sort,
         place: 0,
     };
-    let seen = look_at(r, binding, formula, sign, given, block, marks, work)?;
+    let seen = look_at(r, binding, tree, given, block, marks, work)?;
     work.base = start;
     Ok(seen)
 }
@@ -393,22 +386,21 @@ fn look_free(
     r: &Reading,
     var: VarId,
     sort: Sort,
-    formula: &Formula,
-    sign: bool,
+    tree: &FormTree,
     given: Option<bool>,
     block: u64,
     marks: &mut Vec<u64>,
     work: &mut Work,
 ) -> Result<Seen, AllocError>
-    ensures { IfOk result (λ seen. Looks r.now (ForSome var sort (normal_form sign formula.now)) given (state_of work.old) (state_of work.new) seen) }
+    requires measured { IsMeasured (ways_of r.now.names).count tree.now }
+    ensures { IfOk result (λ seen. Looks r.now (ForSome var sort (tree_form tree.now)) given (state_of work.old) (state_of work.new) seen) }
 {
     let place = work.base.of(sort);
     work.base = one_more(work.base, sort)?;
     look_at(
         r,
         Binding { var, sort, place },
-        formula,
-        sign,
+        tree,
         given,
         block,
         marks,
@@ -421,18 +413,18 @@ fn look_free(
 fn look_bound(
     r: &Reading,
     binding: Binding,
-    formula: &Formula,
-    sign: bool,
+    tree: &FormTree,
     x: u64,
     asked: bool,
     block: u64,
     marks: &mut Vec<u64>,
     work: &mut Work,
 ) -> Result<bool, AllocError>
-    ensures { IfOk result (λ still. LooksBound r.now (normal_form sign formula.now) binding.var binding.sort binding.place x asked (state_of work.old) (state_of work.new) still) }
+    requires measured { IsMeasured (ways_of r.now.names).count tree.now }
+    ensures { IfOk result (λ still. LooksBound r.now (tree_form tree.now) binding.var binding.sort binding.place x asked (state_of work.old) (state_of work.new) still) }
 {
     bind(&mut work.env, binding)?;
-    let still = look_member(r, formula, sign, x, asked, block, marks, work)?;
+    let still = look_member(r, tree, x, asked, block, marks, work)?;
     work.env.pop();
     Ok(still)
 }
@@ -464,17 +456,18 @@ fn candidates_if(
     asked: bool,
     var: VarId,
     sort: Sort,
-    formula: &Formula,
-    sign: bool,
+    tree: &FormTree,
+    is_plain: bool,
     env: &mut Vec<Binding>,
 ) -> Result<Option<Candidates>, AllocError>
-    ensures value { IfOk result (HasAllFalse r.now (normal_form sign formula.now) var sort (scope env.old.items)) }
+    requires plain { is_plain ≡ true → IsPlain (ForAll var sort (tree_form tree.now)) }
+    ensures value { IfOk result (HasAllFalse r.now (tree_form tree.now) var sort (scope env.old.items)) }
     ensures env { OnOk result (env.new.items ≡ env.old.items) }
 {
     if !asked {
         return Ok(None);
     }
-    let candidates = member_candidates(r, var, sort, formula, sign, env)?;
+    let candidates = member_candidates(r, Variable { var, sort }, tree, is_plain, env)?;
     Ok(Some(candidates))
 }
 
@@ -495,17 +488,17 @@ fn look_place(
     r: &Reading,
     members: Members,
     place: u64,
-    formula: &Formula,
-    sign: bool,
+    tree: &FormTree,
     asked: bool,
     block: u64,
     marks: &mut Vec<u64>,
     work: &mut Work,
 ) -> Result<bool, AllocError>
+    requires measured { IsMeasured (ways_of r.now.names).count tree.now }
     requires place { place < (ways_of r.now.names).count members.sort }
-    requires nodes { members.nodes ≡ weight_of (ways_of r.now.names).count (normal_form sign formula.now) }
-    requires candidates { HasAllFalse r.now (normal_form sign formula.now) members.var members.sort (state_of work.old).env members.candidates }
-    ensures { IfOk result (λ still. LooksBound r.now (normal_form sign formula.now) members.var members.sort place members.number asked (state_of work.old) (state_of work.new) still) }
+    requires nodes { members.nodes ≡ weight_of (ways_of r.now.names).count (tree_form tree.now) }
+    requires candidates { HasAllFalse r.now (tree_form tree.now) members.var members.sort (state_of work.old).env members.candidates }
+    ensures { IfOk result (λ still. LooksBound r.now (tree_form tree.now) members.var members.sort place members.number asked (state_of work.old) (state_of work.new) still) }
 {
     if is_passed(r, members, place, asked, work.next) {
         work.next = sum(work.next, members.nodes)?;
@@ -516,17 +509,7 @@ fn look_place(
         sort: members.sort,
         place,
     };
-    look_bound(
-        r,
-        binding,
-        formula,
-        sign,
-        members.number,
-        asked,
-        block,
-        marks,
-        work,
-    )
+    look_bound(r, binding, tree, members.number, asked, block, marks, work)
 }
 
 #[cycle(look)]
@@ -535,14 +518,16 @@ fn look_into_all(
     r: &Reading,
     var: VarId,
     sort: Sort,
-    formula: &Formula,
-    sign: bool,
+    tree: &FormTree,
+    is_plain: bool,
     value: bool,
     block: u64,
     marks: &mut Vec<u64>,
     work: &mut Work,
 ) -> Result<(), AllocError>
-    ensures { OnOk result (LooksInto r.now (ForAll var sort (normal_form sign formula.now)) value (state_of work.old) (state_of work.new)) }
+    requires measured { IsMeasured (ways_of r.now.names).count tree.now }
+    requires plain { is_plain ≡ true → IsPlain (ForAll var sort (tree_form tree.now)) }
+    ensures { OnOk result (LooksInto r.now (ForAll var sort (tree_form tree.now)) value (state_of work.old) (state_of work.new)) }
 {
     let count = r.names.facts.counts.of(sort);
     if count < 2 {
@@ -550,8 +535,8 @@ fn look_into_all(
     }
     let start = work.base;
     let number = number(work)?;
-    let nodes = weight(&r.names.facts.counts, formula, sign)?;
-    let candidates = candidates_if(r, value, var, sort, formula, sign, &mut work.env)?;
+    let nodes = nodes_of(&r.names, tree);
+    let candidates = candidates_if(r, value, var, sort, tree, is_plain, &mut work.env)?;
     let members = Members {
         var,
         sort,
@@ -562,7 +547,7 @@ fn look_into_all(
     let mut asked = value;
     'places: for place in 0..count {
         work.base = start;
-        asked = look_place(r, members, place, formula, sign, asked, block, marks, work)?;
+        asked = look_place(r, members, place, tree, asked, block, marks, work)?;
     }
     work.base = start;
     Ok(())

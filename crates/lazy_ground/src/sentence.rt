@@ -2,15 +2,15 @@
 #![tactic(auto)]
 
 use clause_log::Clauses;
-use csdn_core::syntax::Formula;
+use form_trees::trees::FormTree;
 use ground_inst::sentence::Ground;
 use sqlite_items::Boxed;
 
-/// A sentence with its facts and some of its clauses, and the sentence without truth values.
+/// A sentence with its facts and some of its clauses, and the tree of the sentence without truth values.
 #[derive(Drop)]
 pub struct LazyGround {
     pub made: Ground,
-    pub simple: Boxed<Formula>,
+    pub tree: Boxed<FormTree>,
 }
 
 impl LazyGround {

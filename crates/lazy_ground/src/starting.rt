@@ -5,9 +5,11 @@ ghost use Rattle.std.specs.Prelude.{◌≡◌, ◌↔◌, List, IfOk};
 ghost use Rattle.csdn_core.specs.Members.{IsIn};
 ghost use Rattle.csdn_core.specs.Satisfied.{HasNetwork};
 ghost use Rattle.clause_log.specs.Literals.{Literal};
+ghost use Rattle.fol_forms.specs.Counts.{count_of};
 ghost use Rattle.fol_forms.specs.Forms.{form_of};
 ghost use Rattle.decision_laws.specs.Laws.{IsSentence, AreTied, HasModel, atoms as atoms_of};
 ghost use Rattle.decision_laws.specs.Simplified.{simplified};
+ghost use Rattle.form_trees.specs.Trees.{IsMeasured, tree_form};
 ghost use Rattle.ground_inst.specs.Facts.{AreFactsOf};
 ghost use Rattle.lazy_ground.specs.First.{AreFirst, first_clauses};
 ghost use Rattle.lazy_ground.specs.Lazy.{IsLazy};
@@ -18,6 +20,8 @@ use crate::sentence::LazyGround;
 use clause_log::Clauses;
 use csdn_core::program::{Parts, Program};
 use csdn_core::syntax::Formula;
+use form_trees::building::form_tree;
+use form_trees::trees::FormTree;
 use ground_inst::facts::{Facts, facts_of};
 use ground_inst::making::atoms_with;
 use ground_inst::rows::Rows;
@@ -41,7 +45,8 @@ pub fn ground_start(
     let parts = program.parts();
     let facts = facts_of(alloc, parts, sentence)?;
     let simple = simplify(alloc, sentence)?;
-    let clauses = first_of(alloc, parts, &facts, sentence, simple.get())?;
+    let tree = form_tree(alloc, &facts.counts, simple.get())?;
+    let clauses = first_of(alloc, parts, &facts, sentence, simple.get(), tree.get())?;
     let sentence = sentence.copy(alloc)?;
     Ok(LazyGround {
         made: Ground {
@@ -49,7 +54,7 @@ pub fn ground_start(
             facts,
             clauses,
         },
-        simple,
+        tree,
     })
 }
 
@@ -60,15 +65,18 @@ fn first_of(
     facts: &Facts,
     sentence: &Formula,
     simple: &Formula,
+    tree: &FormTree,
 ) -> Result<Clauses, AllocError>
     requires closed { IsSentence parts.now sentence.now }
     requires facts { AreFactsOf parts.now sentence.now facts.now }
     requires simple { form_of simple.now ≡ simplified (form_of sentence.now) }
+    requires tree { tree_form tree.now ≡ form_of simple.now }
+    requires measured { IsMeasured (count_of facts.now.counts) tree.now }
     ensures atoms { IfOk result (λ made. made.atoms ≡ atoms_of parts.now sentence.now) }
     ensures clauses { IfOk result (λ made. AreFirst parts.now sentence.now made.clauses) }
 {
     let atoms = atoms_with(facts, simple)?;
     let mut rows = Rows::new(alloc);
-    write_open(alloc, parts, facts, simple, &mut rows)?;
+    write_open(alloc, parts, facts, tree, &mut rows)?;
     each_once(alloc, &rows.into_clauses(atoms))
 }

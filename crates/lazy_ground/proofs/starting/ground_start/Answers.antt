@@ -1,4 +1,5 @@
 use Rattle.std.proofs.Common.{ap, subst, ◌∙◌}
+use Rattle.fol_forms.specs.Forms.{form_of}
 use Rattle.decision_laws.specs.Laws.{atoms, name}
 use Rattle.decision_laws.proofs.Bridge.{part_models, part_tied}
 use Rattle.ground_inst.specs.Facts.{AreFactsOf}
@@ -13,7 +14,8 @@ returns-clause-lazy c =
     record {
       sentence = c.in_ok-sentence.ensures;
       facts = subst (λ Q. AreFactsOf Q F c.in_ok-facts.facts) c.parts-parts.ensures.value c.in_ok-facts.ensures;
-      simple = c.in_ok-simple.ensures;
+      simple = c.in_ok-tree.ensures.form ∙ ap form_of c.get.ensures ∙ c.in_ok-simple.ensures;
+      measured = c.in_ok-tree.ensures.measured;
       atoms = c.in_ok-clauses.ensures.atoms ∙ ap (λ Q. atoms Q F) c.parts-parts.ensures.value;
       part = first_part P F c.in_ok-clauses.clauses.clauses (subst (λ Q. AreFirst Q F c.in_ok-clauses.clauses.clauses) c.parts-parts.ensures.value c.in_ok-clauses.ensures.clauses);
     }

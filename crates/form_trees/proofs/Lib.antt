@@ -1,0 +1,5 @@
+pub mod Shapes
+pub mod TreeSteps
+pub mod VariableLaws
+pub mod OutlineSteps
+pub mod BuiltSteps

@@ -1,0 +1,4 @@
+pub mod Shapes
+pub mod Plain
+pub mod Numbered
+pub mod Trees

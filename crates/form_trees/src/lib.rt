@@ -1,0 +1,9 @@
+//! Normal forms as trees, each part with its extent: how many nodes its copies have, how many free constants it needs, and whether
+//! its quantifiers may all be brought before it.
+#![tactic(auto)]
+
+pub mod amounts;
+pub mod building;
+pub mod outlines;
+pub mod trees;
+pub mod variables;
