@@ -1,5 +1,3 @@
 pub mod Shapes
 pub mod TreeSteps
-pub mod VariableLaws
-pub mod OutlineSteps
-pub mod BuiltSteps
+pub mod ExtentSteps

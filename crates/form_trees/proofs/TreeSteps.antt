@@ -155,13 +155,13 @@ no_need Pr = refl
 
 module _ (n : Sort → ℕ) where
   pub extent-Truth : (b : Bool) → IsExtent n (Fixed b) no_extent
-  extent-Truth b = record { nodes = refl; need = no_need; plain = λ e. tt }
+  extent-Truth b = record { nodes = refl; need = no_need; plain = λ e. record { rectified = tt; universal = refl } }
 
   pub extent-Tuple : (sign : Bool) (r : Pred) (ts : List Term) → IsExtent n (Atom sign r ts) no_extent
-  extent-Tuple sign r ts = record { nodes = refl; need = no_need; plain = λ e. tt }
+  extent-Tuple sign r ts = record { nodes = refl; need = no_need; plain = λ e. record { rectified = tt; universal = refl } }
 
   pub extent-Equation : (sign : Bool) (x y : Term) → IsExtent n (Same sign x y) no_extent
-  extent-Equation sign x y = record { nodes = refl; need = no_need; plain = λ e. tt }
+  extent-Equation sign x y = record { nodes = refl; need = no_need; plain = λ e. record { rectified = tt; universal = refl } }
 
   -- an extent, at what a tree is
   pub extent_at : (tree seen : FormTree) (f : Form) (e d : Extent) → tree ≡ seen → tree_form seen ≡ f → e ≡ d → IsExtent n f d → IsExtent n (tree_form tree) e

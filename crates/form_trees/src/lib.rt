@@ -4,6 +4,5 @@
 
 pub mod amounts;
 pub mod building;
-pub mod outlines;
+pub mod extents;
 pub mod trees;
-pub mod variables;
