@@ -1,3 +1,3 @@
 pub mod Shapes
 pub mod TreeSteps
-pub mod ExtentSteps
+pub mod BuiltSteps

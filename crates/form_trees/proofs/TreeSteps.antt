@@ -145,6 +145,8 @@ module _ (n : Sort → ℕ) where
   pub from-Exists : (e : Extent) (v : VarId) (s : Sort) (p : FormTree) → IsExtent n (ForSome v s (tree_form p)) e → IsMeasured n p → IsMeasured n (t.Exists e v s p)
   from-Exists e v s p h i = subst (IsMeasured n) (sym (Exists-is e v s p)) (existential-measured e v s p h i)
 
+pub ruleset leaf_steps = (from-Truth, from-Tuple, from-Equation)
+
 -- The extents of leaves.
 
 pub no_need : (s : Sort) → count_of no_extent.need s ≡ 0
@@ -162,6 +164,10 @@ module _ (n : Sort → ℕ) where
 
   pub extent-Equation : (sign : Bool) (x y : Term) → IsExtent n (Same sign x y) no_extent
   extent-Equation sign x y = record { nodes = refl; need = no_need; plain = λ e. record { rectified = tt; universal = refl } }
+
+  -- the extent of a tree that is read
+  pub extent_there : (seen tree : FormTree) (e : Extent) → seen ≡ tree → (IsMeasured n seen → IsExtent n (tree_form seen) e) → IsMeasured n tree → IsExtent n (tree_form tree) e
+  extent_there seen tree e is = subst (λ x. IsMeasured n x → IsExtent n (tree_form x) e) is
 
   -- an extent, at what a tree is
   pub extent_at : (tree seen : FormTree) (f : Form) (e d : Extent) → tree ≡ seen → tree_form seen ≡ f → e ≡ d → IsExtent n f d → IsExtent n (tree_form tree) e
