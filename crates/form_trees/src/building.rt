@@ -31,6 +31,7 @@ struct Numbers {
 
 /// The normal form of a formula as a tree, each quantifier with a variable of its own, measured over so many constants of each
 /// sort. `AllocError` also where copies have 2^64 nodes or need as many constants, or where there are 2^32 quantifiers.
+/// It takes as many steps as the normal form has nodes, and for each term as many as variables are in scope.
 pub fn form_tree(
     alloc: Global,
     counts: &Counts,
