@@ -3,3 +3,4 @@ pub mod TreeSteps
 pub mod VariableLaws
 pub mod OutlineSteps
 pub mod BuiltSteps
+pub mod NumberedLaws
