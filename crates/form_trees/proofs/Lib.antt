@@ -1,3 +1,4 @@
 pub mod Shapes
 pub mod TreeSteps
 pub mod BuiltSteps
+pub mod NumberedLaws
