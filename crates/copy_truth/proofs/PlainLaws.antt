@@ -5,7 +5,7 @@ use Rattle.std.proofs.lemmas.List.{append-nil, append_assoc}
 use Rattle.std.specs.List.{list_all}
 use Rattle.csdn_core.specs.declared.terms.Sort.{Sort}
 use Rattle.fol_forms.specs.Forms.{And, Atom, Fixed, ForAll, ForSome, Form, Or, Same}
-use Rattle.form_trees.specs.Plain.{IsPlain, binds_variable}
+use Rattle.form_trees.specs.Plain.{IsPlain, IsRectified, binds_variable}
 use Rattle.decision_laws.specs.Copies.{Scope}
 use Rattle.ground_inst.specs.Walk.{scope, ways_of}
 use Rattle.ground_inst.specs.declared.places.Binding.{Binding}
@@ -20,7 +20,7 @@ use Rattle.copy_truth.specs.Early.{Fits, HoldsOutside, IsFalseSomewhere, IsTrueT
 use Rattle.copy_truth.specs.Judged.{judged_copies}
 use Rattle.copy_truth.specs.Matrix.{binders}
 use Rattle.copy_truth.proofs.FitsLaws.{all_known, fits_itself, fits_open, scope_known}
-use Rattle.copy_truth.proofs.PrenexLaws.{Agrees, IsOf, Reaches, binder_of, bound_at, bound_there, constant_of, fails_matrix, free_there, true_matrix}
+use Rattle.copy_truth.proofs.PrenexLaws.{Agrees, IsOf, Reaches, binder_of, bound_at, bound_there, constant_of, fails_matrix, free_there, plain_inner, true_matrix}
 use Rattle.copy_truth.proofs.SetLaws.{has_ones}
 
 -- no variable is open
@@ -49,18 +49,18 @@ constant_open n s p h = record { sort = sym h.sort; below = subst (λ t. p.1 < n
 constant_known : (n : Sort → ℕ) (p q : Sort × ℕ) → not (p.1 == OPEN) ≡ true → Stands n p q → q ≡ p
 constant_known n p q e h = ap₂ (λ s k. (s, k)) (sym h.sort) (sym (h.place e))
 
-module _ (n : Sort → ℕ) (f : Form) (plain : IsPlain f) where
+module _ (n : Sort → ℕ) (f : Form) (rectified : IsRectified f) where
   -- what stands in a scope where the variables are open, those that the form binds too
   pub fits_reached : (open' env full : Scope) → Fits n open' env → Reaches n f env full → Fits n (bound_at OPEN f open') full
   fits_reached open' env full h a v = elim (cases_Bool (binds_variable f v)) [
-    | inl t ↦ (let w = binder_of f v t in subst (λ p. Stands n p (constant_of full v)) (sym (bound_there OPEN f open' plain v w.0 w.1)) (stands_open n w.0 (constant_of full v) (a.bound v w.0 w.1)))
+    | inl t ↦ (let w = binder_of f v t in subst (λ p. Stands n p (constant_of full v)) (sym (bound_there OPEN f open' rectified v w.0 w.1)) (stands_open n w.0 (constant_of full v) (a.bound v w.0 w.1)))
     | inr e ↦ subst (λ p. Stands n p (constant_of full v)) (sym (free_there OPEN f open' v e)) (subst (Stands n (constant_of open' v)) (sym (a.free v e)) (h v))
   ]
 
   pub agrees_fitting : (bs : List Binding) (full : Scope) → AreKnown bs → Fits n (bound_at OPEN f (scope bs)) full → Agrees n f (scope bs) full
   agrees_fitting bs full known fits = record {
     named = λ v e b. sym (constant_known n (constant_of (scope bs) v) (constant_of full v) (all_known (scope bs) (scope_known bs known) v) (subst (λ p. Stands n p (constant_of full v)) (free_there OPEN f (scope bs) v b) (fits v)));
-    bound = λ v s i. constant_open n s (constant_of full v) (subst (λ p. Stands n p (constant_of full v)) (bound_there OPEN f (scope bs) plain v s i) (fits v));
+    bound = λ v s i. constant_open n s (constant_of full v) (subst (λ p. Stands n p (constant_of full v)) (bound_there OPEN f (scope bs) rectified v s i) (fits v));
   }
 
 module _ (r : Reading) (f : Form) (bs : List Binding) (base : Sort → ℕ) (known : AreKnown bs) where
@@ -69,12 +69,12 @@ module _ (r : Reading) (f : Form) (bs : List Binding) (base : Sort → ℕ) (kno
     | inl t ↦ sym t
     | inr e ↦ (let n = (ways_of r.names).count in
         let w = fails_matrix r filled f (scope bs) base plain e in
-        absurd (false≢true (sym w.fails ∙ h w.full (fits_reached n f plain (scope bs) (scope bs) w.full (fits_itself n bs known) w.reaches))))
+        absurd (false≢true (sym w.fails ∙ h w.full (fits_reached n f plain.rectified (scope bs) (scope bs) w.full (fits_itself n bs known) w.reaches))))
   ]
 
   false_somewhere : IsPlain f → IsFalseSomewhere r f (bound_at OPEN f (scope bs)) → false ≡ judged_copies r f (scope bs) base
   false_somewhere plain h = elim (cases_Bool (judged_copies r f (scope bs) base)) [
-    | inl t ↦ absurd (false≢true (sym h.fails ∙ true_matrix r f (scope bs) h.full base plain (agrees_fitting (ways_of r.names).count f plain bs h.full known h.fits) t))
+    | inl t ↦ absurd (false≢true (sym h.fails ∙ true_matrix r f (scope bs) h.full base plain (agrees_fitting (ways_of r.names).count f plain.rectified bs h.full known h.fits) t))
     | inr e ↦ sym e
   ]
 
@@ -90,12 +90,12 @@ plain_candidates r f x bs xs c filled known plain e holds place below out base =
   | inr fails ↦ (let n = (ways_of r.names).count in
       let v = x.var.0 in
       let here : Scope = (v, (x.sort, place)) ∷ scope bs in
-      let w = fails_matrix r filled f here base plain.0 fails in
-      let is : constant_of w.full v ≡ (x.sort, place) = w.reaches.free v plain.1 ∙ ap (λ b. cond b (x.sort, place) (constant_of (scope bs) v)) (eq-eqb v v refl) in
+      let w = fails_matrix r filled f here base (plain_inner x.var x.sort f plain) fails in
+      let is : constant_of w.full v ≡ (x.sort, place) = w.reaches.free v plain.rectified.1 ∙ ap (λ b. cond b (x.sort, place) (constant_of (scope bs) v)) (eq-eqb v v refl) in
       let opens : scope xs ≡ bound_at OPEN f ((v, (x.sort, OPEN)) ∷ scope bs) =
       ap scope e ∙ opened_scope f (bs ++ record { var = x.var; sort = x.sort; place = OPEN } ∷ []) ∙ ap (bound_at OPEN f) (scope_more bs (record { var = x.var; sort = x.sort; place = OPEN })) in
       let fits : Fits n (scope xs) w.full =
-      subst (λ env. Fits n env w.full) (sym opens) (fits_reached n f plain.0 ((v, (x.sort, OPEN)) ∷ scope bs) here w.full (fits_open n (scope bs) (scope bs) v x.sort place below (fits_itself n bs known)) w.reaches) in
+      subst (λ env. Fits n env w.full) (sym opens) (fits_reached n f plain.rectified.0 ((v, (x.sort, OPEN)) ∷ scope bs) here w.full (fits_open n (scope bs) (scope bs) v x.sort place below (fits_itself n bs known)) w.reaches) in
       absurd (false≢true (sym w.fails ∙ holds (record { bits = 2 ^ 128 - 1 }) w.full fits (record {
         sort = ap (λ p. p.0) is;
         below = subst (λ p. p.1 < n x.sort) (sym is) below;

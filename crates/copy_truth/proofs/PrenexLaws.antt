@@ -8,8 +8,8 @@ use Rattle.csdn_core.specs.declared.terms.VarId.{VarId}
 use Rattle.csdn_core.specs.declared.terms.Term.{Term}
 use Rattle.csdn_core.specs.declared.terms.Term.TheVariants.{Const, Port, Var}
 use Rattle.fol_forms.specs.Constants.{need}
-use Rattle.fol_forms.specs.Forms.{And, Atom, Fixed, ForAll, ForSome, Form, Or, Same}
-use Rattle.form_trees.specs.Plain.{IsApartFrom, IsPlain, binds_variable, is_variable, names_variable}
+use Rattle.fol_forms.specs.Forms.{And, Atom, Fixed, ForAll, ForSome, Form, Or, Same, is_universal}
+use Rattle.form_trees.specs.Plain.{IsApartFrom, IsPlain, IsRectified, binds_variable, is_variable, names_variable}
 use Rattle.decision_laws.specs.Copies.{Copy, Fact, Scope, copies, each, judge, nothing, place, place_sort}
 use Rattle.decision_laws.specs.Vocabulary.{Vocabulary, find_or, places_from}
 use Rattle.decision_laws.proofs.Basics.{in_place, judge-each, judge_each_at}
@@ -156,25 +156,35 @@ agrees_inner n u s p env full a = record { named = λ v e b. named v e b (cases_
   named v e b (inr f) =
       ap (λ c. cond c (s, (constant_of full u.0).1) (constant_of env v)) f ∙ a.named v e (or_from (u.0 == v) (binds_variable p v) (turned_other v u.0 f) b)
 
+-- two sides are plain where both are one plain form, be it a conjunction or a disjunction
+plain_sides : (p q : Form) → IsRectified (And p q) → is_universal (And p q) ≡ true → IsPlain p × IsPlain q
+plain_sides p q h e = let parts = and_parts (is_universal p) (is_universal q) e in (record { rectified = h.0; universal = parts.0 }, record { rectified = h.1; universal = parts.1 })
+
+-- so is what stands under a `forall`
+pub plain_inner : (u : VarId) (s : Sort) (p : Form) → IsPlain (ForAll u s p) → IsPlain p
+plain_inner u s p h = record { rectified = h.rectified.0; universal = h.universal }
+
 pub true_matrix : (r : Reading) (f : Form) (env full : Scope) (base : Sort → ℕ) → IsPlain f → Agrees (ways_of r.names).count f env full → judged_copies r f env base ≡ true → matrix r f full ≡ true
 true_matrix r (Fixed b) env full base h a t = t
 true_matrix r (Atom sign p ts) env full base h a t = sym (same_matrix r (Atom sign p ts) env full (λ v e. a.named v e refl)) ∙ t
 true_matrix r (Same sign x y) env full base h a t = sym (same_matrix r (Same sign x y) env full (λ v e. a.named v e refl)) ∙ t
 true_matrix r (And p q) env full base h a t =
+    let sides = plain_sides p q h.rectified h.universal in
     let parts = and_parts (judged_copies r p env base) (judged_copies r q env (λ s. base s + need p s)) t in
-    and_from (matrix r p full) (matrix r q full) (true_matrix r p env full base h.0 (agrees_left (ways_of r.names).count p q env full a h.3) parts.0)
-    (true_matrix r q env full (λ s. base s + need p s) h.1 (agrees_right (ways_of r.names).count p q env full a h.2) parts.1)
+    and_from (matrix r p full) (matrix r q full) (true_matrix r p env full base sides.0 (agrees_left (ways_of r.names).count p q env full a h.rectified.3) parts.0)
+    (true_matrix r q env full (λ s. base s + need p s) sides.1 (agrees_right (ways_of r.names).count p q env full a h.rectified.2) parts.1)
 true_matrix r (Or p q) env full base h a t =
     let both : Agrees (ways_of r.names).count (And p q) env full = record { named = a.named; bound = a.bound } in
+    let sides = plain_sides p q h.rectified h.universal in
     elim (or_cases (judged_copies r p env base) (judged_copies r q env base) t) [
-      | inl e ↦ or_left (matrix r p full) (matrix r q full) (true_matrix r p env full base h.0 (agrees_left (ways_of r.names).count p q env full both h.3) e)
-      | inr e ↦ or_right (matrix r p full) (matrix r q full) (true_matrix r q env full base h.1 (agrees_right (ways_of r.names).count p q env full both h.2) e)
+      | inl e ↦ or_left (matrix r p full) (matrix r q full) (true_matrix r p env full base sides.0 (agrees_left (ways_of r.names).count p q env full both h.rectified.3) e)
+      | inr e ↦ or_right (matrix r p full) (matrix r q full) (true_matrix r q env full base sides.1 (agrees_right (ways_of r.names).count p q env full both h.rectified.2) e)
     ]
 true_matrix r (ForAll u s p) env full base h a t =
     let k = (constant_of full u.0).1 in
-    true_matrix r p ((u.0, (s, k)) ∷ env) full base h.0 (agrees_inner (ways_of r.names).count u s p env full a)
+    true_matrix r p ((u.0, (s, k)) ∷ env) full base (plain_inner u s p h) (agrees_inner (ways_of r.names).count u s p env full a)
     (judge_each_at (said_by r) ((ways_of r.names).count s) (λ i. copies (ways_of r.names).voc (ways_of r.names).count p ((u.0, (s, i)) ∷ env) base) k (a.bound u.0 s (inl (refl, refl))).below t)
-true_matrix r (ForSome u s p) env full base h a t = absurd h
+true_matrix r (ForSome u s p) env full base h a t = absurd (false≢true h.universal)
 
 -- Where a plain form is false, its matrix is false for some constants.
 
@@ -238,7 +248,7 @@ free_there k (ForSome u s p) env v e =
     let parts = or_parts (u.0 == v) (binds_variable p v) e in
     free_there k p ((u.0, (s, k)) ∷ env) v parts.1 ∙ ap (λ b. cond b (s, k) (constant_of env v)) (turned_other u.0 v parts.0)
 
-pub bound_there : (k : ℕ) (f : Form) (env : Scope) → IsPlain f → (v : ℕ) (s : Sort) → IsBinder f v s → constant_of (bound_at k f env) v ≡ (s, k)
+pub bound_there : (k : ℕ) (f : Form) (env : Scope) → IsRectified f → (v : ℕ) (s : Sort) → IsBinder f v s → constant_of (bound_at k f env) v ≡ (s, k)
 bound_there k (Fixed b) env h v s i = absurd i
 bound_there k (Atom sign r ts) env h v s i = absurd i
 bound_there k (Same sign t u) env h v s i = absurd i
@@ -254,14 +264,17 @@ bound_there k (ForAll u t p) env h v s i = elim i [
   | inl l ↦ free_there k p ((u.0, (t, k)) ∷ env) v (ap (binds_variable p) l.0 ∙ h.1) ∙ ap (λ b. cond b (t, k) (constant_of env v)) (eq-eqb v u.0 l.0) ∙ ap (λ z. (z, k)) (sym l.1)
   | inr r ↦ bound_there k p ((u.0, (t, k)) ∷ env) h.0 v s r
 ]
-bound_there k (ForSome u t p) env h v s i = absurd h
+bound_there k (ForSome u t p) env h v s i = elim i [
+  | inl l ↦ free_there k p ((u.0, (t, k)) ∷ env) v (ap (binds_variable p) l.0 ∙ h.1) ∙ ap (λ b. cond b (t, k) (constant_of env v)) (eq-eqb v u.0 l.0) ∙ ap (λ z. (z, k)) (sym l.1)
+  | inr r ↦ bound_there k p ((u.0, (t, k)) ∷ env) h.0 v s r
+]
 
 -- a scope that gives each bound variable a constant of its sort, and leaves the others as they are
 pub record Reaches (n : Sort → ℕ) (f : Form) (env full : Scope) : Type 0 where
   pub free : (v : ℕ) → binds_variable f v ≡ false → constant_of full v ≡ constant_of env v
   pub bound : (v : ℕ) (s : Sort) → IsBinder f v s → IsOf n s (constant_of full v)
 
-pub reaches_first : (n : Sort → ℕ) (f : Form) (env : Scope) → ((s : Sort) → 0 < n s) → IsPlain f → Reaches n f env (bound_at 0 f env)
+pub reaches_first : (n : Sort → ℕ) (f : Form) (env : Scope) → ((s : Sort) → 0 < n s) → IsRectified f → Reaches n f env (bound_at 0 f env)
 reaches_first n f env filled h = record {
   free = free_there 0 f env;
   bound = λ v s i. subst (IsOf n s) (sym (bound_there 0 f env h v s i)) (record { sort = refl; below = filled s });
@@ -329,39 +342,40 @@ pub fails_matrix : (r : Reading) → ((s : Sort) → 0 < (ways_of r.names).count
 fails_matrix r filled (Fixed b) env base h e = fails_here r (Fixed b) env (λ v s i. i) e
 fails_matrix r filled (Atom sign p ts) env base h e = fails_here r (Atom sign p ts) env (λ v s i. i) e
 fails_matrix r filled (Same sign t u) env base h e = fails_here r (Same sign t u) env (λ v s i. i) e
-fails_matrix r filled (And p q) env base h e = elim (and_cases (judged_copies r p env base) (judged_copies r q env (λ s. base s + need p s)) e) [
-  | inl f ↦ (let w = fails_matrix r filled p env base h.0 f in
+fails_matrix r filled (And p q) env base h e = let sides = plain_sides p q h.rectified h.universal in elim (and_cases (judged_copies r p env base) (judged_copies r q env (λ s. base s + need p s)) e) [
+  | inl f ↦ (let w = fails_matrix r filled p env base sides.0 f in
       let n = (ways_of r.names).count in
-      let second = reaches_first n q env filled h.1 in
+      let second = reaches_first n q env filled h.rectified.1 in
       record {
         full = patched q (bound_at 0 q env) w.full;
-        reaches = reaches_both n p q h.2 h.3 env w.full (bound_at 0 q env) w.reaches second;
-        fails = and_left (matrix r p (patched q (bound_at 0 q env) w.full)) (matrix r q (patched q (bound_at 0 q env) w.full)) (first_matrix n p q h.2 h.3 env w.full (bound_at 0 q env) w.reaches second r ∙ w.fails);
+        reaches = reaches_both n p q h.rectified.2 h.rectified.3 env w.full (bound_at 0 q env) w.reaches second;
+        fails = and_left (matrix r p (patched q (bound_at 0 q env) w.full)) (matrix r q (patched q (bound_at 0 q env) w.full)) (first_matrix n p q h.rectified.2 h.rectified.3 env w.full (bound_at 0 q env) w.reaches second r ∙ w.fails);
       })
-  | inr f ↦ (let w = fails_matrix r filled q env (λ s. base s + need p s) h.1 f in
+  | inr f ↦ (let w = fails_matrix r filled q env (λ s. base s + need p s) sides.1 f in
       let n = (ways_of r.names).count in
-      let first = reaches_first n p env filled h.0 in
+      let first = reaches_first n p env filled h.rectified.0 in
       record {
         full = patched q w.full (bound_at 0 p env);
-        reaches = reaches_both n p q h.2 h.3 env (bound_at 0 p env) w.full first w.reaches;
-        fails = and_right (matrix r p (patched q w.full (bound_at 0 p env))) (matrix r q (patched q w.full (bound_at 0 p env))) (second_matrix n p q h.2 h.3 env (bound_at 0 p env) w.full first w.reaches r ∙ w.fails);
+        reaches = reaches_both n p q h.rectified.2 h.rectified.3 env (bound_at 0 p env) w.full first w.reaches;
+        fails = and_right (matrix r p (patched q w.full (bound_at 0 p env))) (matrix r q (patched q w.full (bound_at 0 p env))) (second_matrix n p q h.rectified.2 h.rectified.3 env (bound_at 0 p env) w.full first w.reaches r ∙ w.fails);
       })
 ]
 fails_matrix r filled (Or p q) env base h e =
     let n = (ways_of r.names).count in
     let parts = or_parts (judged_copies r p env base) (judged_copies r q env base) e in
-    let a = fails_matrix r filled p env base h.0 parts.0 in
-    let b = fails_matrix r filled q env base h.1 parts.1 in
-    let both = reaches_both n p q h.2 h.3 env a.full b.full a.reaches b.reaches in
+    let sides = plain_sides p q h.rectified h.universal in
+    let a = fails_matrix r filled p env base sides.0 parts.0 in
+    let b = fails_matrix r filled q env base sides.1 parts.1 in
+    let both = reaches_both n p q h.rectified.2 h.rectified.3 env a.full b.full a.reaches b.reaches in
     record {
       full = patched q b.full a.full;
       reaches = record { free = both.free; bound = both.bound };
-      fails = or_from (matrix r p (patched q b.full a.full)) (matrix r q (patched q b.full a.full)) (first_matrix n p q h.2 h.3 env a.full b.full a.reaches b.reaches r ∙ a.fails)
-          (second_matrix n p q h.2 h.3 env a.full b.full a.reaches b.reaches r ∙ b.fails);
+      fails = or_from (matrix r p (patched q b.full a.full)) (matrix r q (patched q b.full a.full)) (first_matrix n p q h.rectified.2 h.rectified.3 env a.full b.full a.reaches b.reaches r ∙ a.fails)
+          (second_matrix n p q h.rectified.2 h.rectified.3 env a.full b.full a.reaches b.reaches r ∙ b.fails);
     }
 fails_matrix r filled (ForAll u s p) env base h e =
     let n = (ways_of r.names).count in
     let w = judge_each_fails (said_by r) (n s) (λ i. copies (ways_of r.names).voc n p ((u.0, (s, i)) ∷ env) base) e in
-    let inner = fails_matrix r filled p ((u.0, (s, w.0)) ∷ env) base h.0 w.2 in
-    record { full = inner.full; reaches = reaches_outer n u s p w.0 env inner.full w.1 h.1 inner.reaches; fails = inner.fails }
-fails_matrix r filled (ForSome u s p) env base h e = absurd h
+    let inner = fails_matrix r filled p ((u.0, (s, w.0)) ∷ env) base (plain_inner u s p h) w.2 in
+    record { full = inner.full; reaches = reaches_outer n u s p w.0 env inner.full w.1 h.rectified.1 inner.reaches; fails = inner.fails }
+fails_matrix r filled (ForSome u s p) env base h e = absurd (false≢true h.universal)

@@ -12,6 +12,6 @@ returns c =
     let env = entry c.args.binding ∷ scope c.args.env.now in
     let sort = c.sort_at-sort.result in
     let atom = c.in_ok-equation_atom.ensures ∙ ap₂ (λ x y. num_of names.facts.now (Equation sort x y)) c.place_at-a.ensures c.place_at-b.ensures
-        ∙ ap (λ s. num_of names.facts.now (Equation s (place (ways_of names).voc env c.args.t) (place (ways_of names).voc env c.args.u))) c.sort_at-sort.ensures in
+    ∙ ap (λ s. num_of names.facts.now (Equation s (place (ways_of names).voc env c.args.t) (place (ways_of names).voc env c.args.u))) c.sort_at-sort.ensures in
     c.is_true.ensures ∙ ap (literal_true (truths c.args.r.now.trues.now)) (c.in_ok-l.ensures ∙ ap (λ z. record { positive = c.args.sign; atom = z }) atom)
     ∙ said_literal c.args.r.now c.args.sign (equation_fact (ways_of names) env c.args.t c.args.u)
