@@ -1,8 +1,8 @@
 use Rattle.std.proofs.Common.{◌≡◌, ap, ap₂, ◌∷◌, ◌∙◌}
-use Rattle.clause_log.specs.Literals.{Literal, literal_true, truths}
+use Rattle.clause_log.specs.Literals.{literal_true, truths}
 use Rattle.decision_laws.specs.Copies.{Equation, place}
 use Rattle.ground_inst.specs.Facts.{num_of}
-use Rattle.ground_inst.specs.Walk.{entry, equation_fact, literal_of, scope, ways_of}
+use Rattle.ground_inst.specs.Walk.{entry, equation_fact, scope, ways_of}
 use Rattle.copy_truth.proofs.ReadLaws.{said_literal}
 use Rattle.copy_truth.proofs.facts.judge_equation_at.Goals as goal
 
