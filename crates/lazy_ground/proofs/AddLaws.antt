@@ -9,21 +9,16 @@ use Rattle.csdn_core.specs.declared.program.Parts.{Parts}
 use Rattle.csdn_core.specs.declared.syntax.Formula.{Formula}
 use Rattle.clause_log.specs.Literals.{ClauseList, IsModel, Literal, clause_true, has_atom, is_clause}
 use Rattle.fol_forms.specs.Constants.{counts}
-use Rattle.fol_forms.specs.Counts.{count_of}
-use Rattle.fol_forms.specs.Forms.{Form, form_of}
 use Rattle.decision_laws.specs.Copies.{judge, Both, Copy, Each, Either, Fact, Known, Leaf}
 use Rattle.decision_laws.specs.Clauses.{either_clauses, equality_clauses, member_clause, node_clauses, size, top, whole_clauses}
 use Rattle.decision_laws.specs.Laws.{IsSentence, atoms, clauses, name, naming, sentence_copies, words}
-use Rattle.decision_laws.specs.Simplified.{simplified}
 use Rattle.decision_laws.specs.Sublists.{ArePart, left_of}
 use Rattle.decision_laws.proofs.Basics.{all_at, all_from, any_from}
 use Rattle.decision_laws.proofs.Bridge.{clauses_bounded}
 use Rattle.decision_laws.proofs.Left.{falls, still_part}
-use Rattle.ground_inst.specs.Copies.{copies_over}
 use Rattle.ground_inst.specs.Facts.{AreFactsOf, num_of}
 use Rattle.ground_inst.specs.declared.facts.Facts.{Facts}
 use Rattle.ground_inst.proofs.FactLaws.{facts_number}
-use Rattle.ground_inst.proofs.WholeClauses.{copies_are}
 use Rattle.lazy_ground.specs.declared.sentence.LazyGround.{LazyGround}
 use Rattle.lazy_ground.specs.Completed.{completed, is_named, said}
 use Rattle.lazy_ground.specs.First.{AreFirst, first_clauses, open_clauses, open_named, open_whole}
@@ -69,7 +64,7 @@ added_broken P F v old added all n lazy model broken e count =
       is_lazy = record {
         sentence = lazy.sentence;
         facts = lazy.facts;
-        simple = lazy.simple;
+        copies = lazy.copies;
         measured = lazy.measured;
         atoms = ap (λ z. z.atoms) e ∙ lazy.atoms;
         part = subst (ArePart (clauses P F)) (sym behind) (still_part (clauses P F) cs added w lazy.part m broken.broken);
@@ -124,15 +119,14 @@ first_within P F c i =
     in_left (whole_clauses (naming P F).num (naming P F).first (sentence_copies P F)) (equality_clauses (naming P F).num (counts P F) (words P F)) c
     (whole_within (naming P F).num (naming P F).first (sentence_copies P F) c i)
 
-module _ (P : Parts) (F : Formula) (facts : Facts) (are : AreFactsOf P F facts) (f : Form) (simple : f ≡ simplified (form_of F)) where
-  pub rows_first : (rows : List (List Literal)) → rows ≡ open_whole (num_of facts) (suc facts.count) (copies_over P (count_of facts.counts) f) → rows ≡ first_clauses P F
-  rows_first rows e =
-      e ∙ ap₂ (λ num c. open_whole num (suc facts.count) c) (fun_ext (facts_number P F facts are)) (copies_are P F facts are f simple)
-      ∙ ap (λ k. open_whole (naming P F).num (suc k) (sentence_copies P F)) are.count
+pub rows_first : (P : Parts) (F : Formula) (facts : Facts) → AreFactsOf P F facts → (c : Copy) → c ≡ sentence_copies P F → (rows : List (List Literal)) → rows ≡ open_whole (num_of facts) (suc facts.count) c → rows ≡ first_clauses P F
+rows_first P F facts are c same rows e =
+    e ∙ ap₂ (λ num d. open_whole num (suc facts.count) d) (fun_ext (facts_number P F facts are)) same
+    ∙ ap (λ k. open_whole (naming P F).num (suc k) (sentence_copies P F)) are.count
 
-  pub first_bounded : IsSentence P F → (rows : List (List Literal)) (k : ℕ) → rows ≡ first_clauses P F → k ≡ atoms P F → list_all (is_clause k) rows ≡ true
-  first_bounded is rows k e q =
-      all_from (is_clause k) rows (λ c i. ap (λ a. is_clause a c) q ∙ all_at (is_clause (atoms P F)) (clauses P F) c (first_within P F c (subst (IsIn c) e i)) (clauses_bounded P F is))
+pub first_bounded : (P : Parts) (F : Formula) → IsSentence P F → (rows : List (List Literal)) (k : ℕ) → rows ≡ first_clauses P F → k ≡ atoms P F → list_all (is_clause k) rows ≡ true
+first_bounded P F is rows k e q =
+    all_from (is_clause k) rows (λ c i. ap (λ a. is_clause a c) q ∙ all_at (is_clause (atoms P F)) (clauses P F) c (first_within P F c (subst (IsIn c) e i)) (clauses_bounded P F is))
 
 pub first_once : (P : Parts) (F : Formula) (rows kept : List (List Literal)) → rows ≡ first_clauses P F → kept ≡ once [] rows → AreFirst P F kept
 first_once P F rows kept e q = subst (AreFirst P F) (sym q) (record {

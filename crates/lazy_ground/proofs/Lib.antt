@@ -4,6 +4,7 @@ mod LookSteps
 mod PassSteps
 mod NamedLaws
 pub mod Agree
+mod NumberedTree
 mod EqualityAtoms
 mod OnceLaws
 mod WholeFound

@@ -14,16 +14,15 @@ use Rattle.decision_laws.specs.Vocabulary.{vocabulary}
 use Rattle.decision_laws.specs.Copies.{Copy, Known, Leaf, Both, Either, Each, Fact, copies, judge, known}
 use Rattle.decision_laws.specs.Clauses.{equality_clauses, node_clauses, size, sum_from, top, whole_clauses}
 use Rattle.decision_laws.specs.Laws.{IsSentence, atoms, clauses, name, naming, sentence_copies, words}
-use Rattle.decision_laws.specs.Simplified.{simplified}
 use Rattle.decision_laws.proofs.Basics.{all_at, all_from}
 use Rattle.decision_laws.proofs.Bridge.{clauses_bounded, numbers_named}
 use Rattle.decision_laws.proofs.Complete.{AreNodes, some_first, whole_named}
 use Rattle.decision_laws.proofs.Made.{AllOver, copies_simple}
 use Rattle.decision_laws.proofs.Read.{IsPlain, IsSimple}
+use Rattle.ground_inst.specs.Copies.{copies_over}
 use Rattle.ground_inst.specs.Facts.{AreFactsOf, num_of, vocabulary_of}
 use Rattle.ground_inst.specs.Walk.{State, copied_value, copies_at, named_clauses, ways_of}
 use Rattle.ground_inst.proofs.FactLaws.{facts_equality, facts_number}
-use Rattle.ground_inst.proofs.WholeClauses.{copies_are}
 use Rattle.ground_inst.proofs.Wholes.{copies_of_facts, whole_false, whole_named as whole_by_name, whole_true}
 use Rattle.copy_truth.specs.declared.reading.Reading.{Reading}
 use Rattle.lazy_ground.specs.declared.looking.Seen.{Seen}
@@ -158,10 +157,7 @@ module _ (r : Reading) (F : Formula) (is : IsSentence r.names.parts.now F) (are 
   plain_by (Either p q) s n = s
   plain_by (Each m c) s n = s
 
-  module _ (f : Form) (simple : f ≡ simplified (form_of F)) where
-    same_copies : form_copies r f ≡ sentence_copies P F
-    same_copies = copies_are P F r.names.facts.now are f simple
-
+  module _ (f : Form) (same_copies : form_copies r f ≡ sentence_copies P F) where
     first_is : first_node r f ≡ (naming P F).first
     first_is = ap suc are.count
 
@@ -214,11 +210,11 @@ module _ (r : Reading) (F : Formula) (is : IsSentence r.names.parts.now F) (are 
 abbrev pub IsReading : Reading → Parts → List (List Literal) → (ℕ → Bool) → Type 0
 IsReading r P cs v = (r.names.parts.now ≡ P) × ((x : ℕ) → named_by r x ≡ is_named cs x) × ((x : ℕ) → true_by r x ≡ (named_by r x && v x))
 
-pub bounded_from : (r : Reading) (P : Parts) (F : Formula) (cs : List (List Literal)) (v : ℕ → Bool) → IsReading r P cs v → IsSentence P F → AreFactsOf P F r.names.facts.now → (f : Form) → f ≡ simplified (form_of F) → (rows : List (List Literal)) (k : ℕ) → FindsBoth r f rows → k ≡ atoms P F → list_all (is_clause k) rows ≡ true
-bounded_from r P F cs v reads is are f simple rows k h e =
-    rows_bounded r F (subst (λ Q. IsSentence Q F) (sym reads.0) is) (subst (λ Q. AreFactsOf Q F r.names.facts.now) (sym reads.0) are) cs v reads.1 reads.2 f simple rows k h (e ∙ ap (λ Q. atoms Q F) (sym reads.0))
+pub bounded_from : (r : Reading) (P : Parts) (F : Formula) (cs : List (List Literal)) (v : ℕ → Bool) → IsReading r P cs v → IsSentence P F → AreFactsOf P F r.names.facts.now → (f : Form) → copies_over P (count_of r.names.facts.now.counts) f ≡ sentence_copies P F → (rows : List (List Literal)) (k : ℕ) → FindsBoth r f rows → k ≡ atoms P F → list_all (is_clause k) rows ≡ true
+bounded_from r P F cs v reads is are f same rows k h e =
+    rows_bounded r F (subst (λ Q. IsSentence Q F) (sym reads.0) is) (subst (λ Q. AreFactsOf Q F r.names.facts.now) (sym reads.0) are) cs v reads.1 reads.2 f (subst (λ Q. copies_over Q (count_of r.names.facts.now.counts) f ≡ sentence_copies Q F) (sym reads.0) same) rows k h (e ∙ ap (λ Q. atoms Q F) (sym reads.0))
 
-pub broken_from : (r : Reading) (P : Parts) (F : Formula) (cs : List (List Literal)) (v : ℕ → Bool) → IsReading r P cs v → IsSentence P F → AreFactsOf P F r.names.facts.now → (f : Form) → f ≡ simplified (form_of F) → (rows some kept : List (List Literal)) → FindsBoth r f rows → IsPickedFrom rows some → kept ≡ once [] some → AreAllBroken P F (completed P F cs v) kept
-broken_from r P F cs v reads is are f simple rows some kept h p e =
+pub broken_from : (r : Reading) (P : Parts) (F : Formula) (cs : List (List Literal)) (v : ℕ → Bool) → IsReading r P cs v → IsSentence P F → AreFactsOf P F r.names.facts.now → (f : Form) → copies_over P (count_of r.names.facts.now.counts) f ≡ sentence_copies P F → (rows some kept : List (List Literal)) → FindsBoth r f rows → IsPickedFrom rows some → kept ≡ once [] some → AreAllBroken P F (completed P F cs v) kept
+broken_from r P F cs v reads is are f same rows some kept h p e =
     subst (λ Q. AreAllBroken Q F (completed Q F cs v) kept) reads.0
-    (rows_broken r F (subst (λ Q. IsSentence Q F) (sym reads.0) is) (subst (λ Q. AreFactsOf Q F r.names.facts.now) (sym reads.0) are) cs v reads.1 reads.2 f simple rows some kept h p e)
+    (rows_broken r F (subst (λ Q. IsSentence Q F) (sym reads.0) is) (subst (λ Q. AreFactsOf Q F r.names.facts.now) (sym reads.0) are) cs v reads.1 reads.2 f (subst (λ Q. copies_over Q (count_of r.names.facts.now.counts) f ≡ sentence_copies Q F) (sym reads.0) same) rows some kept h p e)

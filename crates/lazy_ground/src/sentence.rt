@@ -6,7 +6,7 @@ use form_trees::trees::FormTree;
 use ground_inst::sentence::Ground;
 use sqlite_items::Boxed;
 
-/// A sentence with its facts and some of its clauses, and the tree of the sentence without truth values.
+/// A sentence with its facts and some of its clauses, and the tree of the sentence without truth values, numbered anew.
 #[derive(Drop)]
 pub struct LazyGround {
     pub made: Ground,

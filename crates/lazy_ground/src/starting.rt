@@ -7,9 +7,10 @@ ghost use Rattle.csdn_core.specs.Satisfied.{HasNetwork};
 ghost use Rattle.clause_log.specs.Literals.{Literal};
 ghost use Rattle.fol_forms.specs.Counts.{count_of};
 ghost use Rattle.fol_forms.specs.Forms.{form_of};
-ghost use Rattle.decision_laws.specs.Laws.{IsSentence, AreTied, HasModel, atoms as atoms_of};
+ghost use Rattle.decision_laws.specs.Laws.{IsSentence, AreTied, HasModel, atoms as atoms_of, sentence_copies};
 ghost use Rattle.decision_laws.specs.Simplified.{simplified};
 ghost use Rattle.form_trees.specs.Trees.{IsMeasured, tree_form};
+ghost use Rattle.ground_inst.specs.Copies.{copies_over};
 ghost use Rattle.ground_inst.specs.Facts.{AreFactsOf};
 ghost use Rattle.lazy_ground.specs.First.{AreFirst, first_clauses};
 ghost use Rattle.lazy_ground.specs.Lazy.{IsLazy};
@@ -70,7 +71,7 @@ fn first_of(
     requires closed { IsSentence parts.now sentence.now }
     requires facts { AreFactsOf parts.now sentence.now facts.now }
     requires simple { form_of simple.now ≡ simplified (form_of sentence.now) }
-    requires tree { tree_form tree.now ≡ form_of simple.now }
+    requires tree { copies_over parts.now (count_of facts.now.counts) (tree_form tree.now) ≡ sentence_copies parts.now sentence.now }
     requires measured { IsMeasured (count_of facts.now.counts) tree.now }
     ensures atoms { IfOk result (λ made. made.atoms ≡ atoms_of parts.now sentence.now) }
     ensures clauses { IfOk result (λ made. AreFirst parts.now sentence.now made.clauses) }

@@ -13,8 +13,8 @@ use Rattle.lazy_ground.proofs.starting.first_of.Goals as goal
 
 pub into_clauses-requires-clause-clauses : goal.into_clauses-requires-clause-clauses
 into_clauses-requires-clause-clauses c =
-    first_bounded c.args.parts.now c.args.sentence.now c.args.facts.now c.requires.facts (form_of c.args.simple.now) c.requires.simple c.requires.closed c.write_open.new.rows c.in_ok-atoms.atoms
-    (rows_first c.args.parts.now c.args.sentence.now c.args.facts.now c.requires.facts (tree_form c.args.tree.now) (c.requires.tree ∙ c.requires.simple) c.write_open.new.rows (c.in_ok-write_open.ensures ∙ ap (λ z. z ++ open_whole (num_of c.args.facts.now) (suc c.args.facts.now.count) (copies_over c.args.parts.now (count_of c.args.facts.now.counts) (tree_form c.args.tree.now))) c.new-rows.ensures))
+    first_bounded c.args.parts.now c.args.sentence.now c.requires.closed c.write_open.new.rows c.in_ok-atoms.atoms
+    (rows_first c.args.parts.now c.args.sentence.now c.args.facts.now c.requires.facts (copies_over c.args.parts.now (count_of c.args.facts.now.counts) (tree_form c.args.tree.now)) c.requires.tree c.write_open.new.rows (c.in_ok-write_open.ensures ∙ ap (λ z. z ++ open_whole (num_of c.args.facts.now) (suc c.args.facts.now.count) (copies_over c.args.parts.now (count_of c.args.facts.now.counts) (tree_form c.args.tree.now))) c.new-rows.ensures))
     (atoms_are c.args.parts.now c.args.sentence.now c.args.facts.now c.requires.facts (form_of c.args.simple.now) c.requires.simple c.in_ok-atoms.atoms c.in_ok-atoms.ensures.value)
 
 pub returns-clause-atoms : goal.returns-clause-atoms
@@ -26,5 +26,5 @@ pub returns-clause-clauses : goal.returns-clause-clauses
 returns-clause-clauses c =
     IfOk-weaker c.each_once-2.result _ _ (λ kept e.
     first_once c.args.parts.now c.args.sentence.now c.write_open.new.rows kept.clauses
-    (rows_first c.args.parts.now c.args.sentence.now c.args.facts.now c.requires.facts (tree_form c.args.tree.now) (c.requires.tree ∙ c.requires.simple) c.write_open.new.rows (c.in_ok-write_open.ensures ∙ ap (λ z. z ++ open_whole (num_of c.args.facts.now) (suc c.args.facts.now.count) (copies_over c.args.parts.now (count_of c.args.facts.now.counts) (tree_form c.args.tree.now))) c.new-rows.ensures))
+    (rows_first c.args.parts.now c.args.sentence.now c.args.facts.now c.requires.facts (copies_over c.args.parts.now (count_of c.args.facts.now.counts) (tree_form c.args.tree.now)) c.requires.tree c.write_open.new.rows (c.in_ok-write_open.ensures ∙ ap (λ z. z ++ open_whole (num_of c.args.facts.now) (suc c.args.facts.now.count) (copies_over c.args.parts.now (count_of c.args.facts.now.counts) (tree_form c.args.tree.now))) c.new-rows.ensures))
     (ap (λ z. z.clauses) e ∙ ap (λ z. once [] z.clauses) c.into_clauses.ensures)) c.each_once-2.ensures

@@ -2,20 +2,25 @@ use Rattle.std.proofs.Common.{ap, subst, ◌∙◌}
 use Rattle.fol_forms.specs.Forms.{form_of}
 use Rattle.decision_laws.specs.Laws.{atoms, name}
 use Rattle.decision_laws.proofs.Bridge.{part_models, part_tied}
+use Rattle.form_trees.specs.Numbered.{numbered}
+use Rattle.form_trees.specs.Trees.{tree_form}
 use Rattle.ground_inst.specs.Facts.{AreFactsOf}
 use Rattle.lazy_ground.specs.First.{AreFirst}
 use Rattle.lazy_ground.proofs.AddLaws.{first_part}
+use Rattle.lazy_ground.proofs.NumberedTree.{numbered_copies, numbered_rectified}
 use Rattle.lazy_ground.proofs.starting.ground_start.Goals as goal
 
 pub returns-clause-lazy : goal.returns-clause-lazy
 returns-clause-lazy c =
     let P = c.args.program.now in
     let F = c.args.sentence.now in
+    let facts = subst (λ Q. AreFactsOf Q F c.in_ok-facts.facts) c.parts-parts.ensures.value c.in_ok-facts.ensures in
+    let form = c.in_ok-tree.ensures.form ∙ ap (λ p. numbered (form_of p)) c.get.ensures ∙ ap numbered c.in_ok-simple.ensures in
     record {
       sentence = c.in_ok-sentence.ensures;
-      facts = subst (λ Q. AreFactsOf Q F c.in_ok-facts.facts) c.parts-parts.ensures.value c.in_ok-facts.ensures;
-      simple = c.in_ok-tree.ensures.form ∙ ap form_of c.get.ensures ∙ c.in_ok-simple.ensures;
-      measured = c.in_ok-tree.ensures.measured;
+      facts = facts;
+      copies = numbered_copies P F c.requires (tree_form c.in_ok-tree.tree) form c.in_ok-facts.facts facts;
+      measured = c.in_ok-tree.ensures.measured (numbered_rectified P F c.requires (tree_form c.in_ok-tree.tree) form);
       atoms = c.in_ok-clauses.ensures.atoms ∙ ap (λ Q. atoms Q F) c.parts-parts.ensures.value;
       part = first_part P F c.in_ok-clauses.clauses.clauses (subst (λ Q. AreFirst Q F c.in_ok-clauses.clauses.clauses) c.parts-parts.ensures.value c.in_ok-clauses.ensures.clauses);
     }
