@@ -25,7 +25,7 @@ impl Model for Rows {
 }
 
 impl Rows {
-    ghost use Rattle.std.specs.Prelude.{◌≡◌, ◌<◌, ◌^◌, ◌++◌, [], ◌∷◌, IfOk, OnOk, true};
+    ghost use Rattle.std.specs.Prelude.{◌≡◌, ◌<◌, ◌^◌, ◌++◌, [], ◌∷◌, IfOk, OnOk, true, length};
     ghost use Rattle.std.specs.List.{list_all};
     ghost use Rattle.clause_log.specs.Literals.{is_clause};
 
@@ -46,6 +46,13 @@ impl Rows {
         let literals = Vec::with_capacity(alloc, literals)?;
         let ends = Vec::with_capacity(alloc, clauses)?;
         Ok(Rows { literals, ends })
+    }
+
+    /// How many clauses there are.
+    pub fn len(&self) -> usize
+        ensures { result ≡ length self.now }
+    {
+        self.ends.len()
     }
 
     /// Appends the clause with these literals.

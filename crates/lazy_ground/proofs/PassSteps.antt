@@ -53,6 +53,14 @@ module _ (r : Reading) where
         finds = λ w i o. subst (Finds w (node_clauses num old.next c ++ member_clause x (top num old.next c) ∷ []) old.out) (sym nout) (passed_finds w old.next x c open' old.out i is_free certain o);
       }
 
+  -- where a clause has been found, no more need be
+  pub enough : (f : Form) (count : ℕ) (value : Bool) (old new : State) → new.env ≡ old.env → new.base ≡ (λ t. old.base t + need f t) → new.next ≡ old.next + count → new.out ≡ old.out
+      → count ≡ weight m.count f → (old.out ≡ [] → ⊥) → LooksInto r f value old new
+  enough f count value old new ne nb nn nout weighs some = record {
+    moves = record { next = nn ∙ ap (λ z. old.next + z) (weighs ∙ sym (size-copies m.voc m.count f old.env old.base)); base = λ s. ap (λ b. b s) nb; env = ne };
+    finds = λ w h u. subst (Finds w (node_clauses num old.next (copies_at m f old)) old.out) (sym nout) (record { within = λ c i. inl i; nothing = λ e. e; all = λ e. absurd (some e) });
+  }
+
   pub over : (f : Form) (count : ℕ) (value : Bool) (old new : State) → new.env ≡ old.env → new.base ≡ (λ t. old.base t + need f t) → new.next ≡ old.next + count → new.out ≡ old.out
       → count ≡ weight m.count f → HasFreeParts (named_by r) old.next count → value ≡ false → makes_node m.count f ≡ true → LooksInto r f value old new
   over f count value old new ne nb nn nout weighs free is node =

@@ -4,7 +4,7 @@
 //! walked through. A simplified formula has no truth value inside: `AllocError` for one.
 #![tactic(auto)]
 
-ghost use Rattle.std.specs.Prelude.{◌≡◌, ◌<◌, ◌&&◌, not, true, false, IfOk, OnOk};
+ghost use Rattle.std.specs.Prelude.{◌≡◌, ◌⊎◌, ◌<◌, ◌&&◌, [], not, true, false, IfOk, OnOk};
 ghost use Rattle.fol_forms.specs.Forms.{And, Atom, ForAll, ForSome, Or, Same};
 ghost use Rattle.decision_laws.specs.Weights.{weight as weight_of};
 ghost use Rattle.form_trees.specs.Plain.{IsPlain};
@@ -27,8 +27,15 @@ use csdn_core::terms::{Pred, Sort, Term, Terms, VarId};
 use form_trees::trees::{FormTree, Part, extent_of, part_of};
 use ground_inst::bases::{larger, one_more};
 use ground_inst::places::{Binding, equation_literal, literal, tuple_literal};
+use ground_inst::rows::Rows;
 use ground_inst::walk::{Work, bind, number, push_either, push_member};
 use std::alloc::AllocError;
+
+// A pass looks for more clauses than these,
+const FEW: usize = 10;
+
+// and for one more for each so many named atoms.
+const ATOMS_OF_ONE: usize = 120;
 
 /// The literal of the whole of some copies, and what it is.
 #[derive(Clone, Copy)]
@@ -185,6 +192,21 @@ fn is_over(r: &Reading, value: bool, count: u64, next: u64) -> bool
     !value && has_free_parts(r.named, next, count)
 }
 
+// Whether a pass has found enough clauses, more of them where many atoms are named: others may be found in the next one.
+fn is_enough(r: &Reading, rows: &Rows) -> bool
+    ensures { result ≡ true → rows.now ≡ [] → ⊥ }
+{
+    let count = rows.len();
+    count > FEW && count - FEW > r.named.true_atoms().len() / ATOMS_OF_ONE
+}
+
+// Whether a conjunction or disjunction of so many nodes is passed: it has no clause that is false, or enough are found.
+fn is_done(r: &Reading, value: bool, count: u64, next: u64, rows: &Rows) -> bool
+    ensures { result ≡ true → (rows.now ≡ [] → ⊥) ⊎ ((value ≡ false) × HasFreeParts (named_by r.now) next count) }
+{
+    is_enough(r, rows) || is_over(r, value, count, next)
+}
+
 #[cycle(look)]
 // The clauses of a conjunction or disjunction of so many nodes with this value, and of its parts.
 fn look_inside(
@@ -200,7 +222,7 @@ fn look_inside(
     requires count { count ≡ weight_of (ways_of r.now.names).count (tree_form tree.now) }
     ensures { OnOk result (makes_node (ways_of r.now.names).count (tree_form tree.now) ≡ true → LooksInto r.now (tree_form tree.now) value (state_of work.old) (state_of work.new)) }
 {
-    if is_over(r, value, count, work.next) {
+    if is_done(r, value, count, work.next, &work.rows) {
         work.next = sum(work.next, count)?;
         work.base = past(&r.names, tree, work.base)?;
         return Ok(());

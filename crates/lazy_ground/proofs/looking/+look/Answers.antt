@@ -1,11 +1,11 @@
-use Rattle.std.proofs.Common.{◌≡◌, ◌<◌, ◌∙◌, refl, sym, ap, subst, arith}
+use Rattle.std.proofs.Common.{◌≡◌, ◌<◌, ◌∙◌, refl, sym, ap, subst, arith, inl, inr}
 use Rattle.std.proofs.lemmas.Result.{IfOk-weaker, on_ok_weaker}
 use Rattle.fol_forms.specs.Counts.{count_of}
 use Rattle.form_trees.specs.Trees.{tree_form}
 use Rattle.ground_inst.specs.Walk.{scope, state_of}
 use Rattle.lazy_ground.specs.Found.{Looks}
 use Rattle.lazy_ground.proofs.LookSteps.{both_from, either_kept, either_pushed, free_found, member_kept_from, member_pushed_from, row_begun, row_more, row_whole}
-use Rattle.lazy_ground.proofs.PassSteps.{over, passed}
+use Rattle.lazy_ground.proofs.PassSteps.{enough, over, passed}
 use Rattle.lazy_ground.proofs.looking.+look.Goals as goal
 
 pub look_free-returns : goal.look_free-returns
@@ -13,11 +13,13 @@ look_free-returns t c =
     IfOk-weaker c.look_at.result _ _ (λ seen h. free_found c.args.r.now (tree_form c.args.tree.now) c.args.given c.args.var c.args.sort c.of-place.result (state_of c.args.work.now)
     (state_of (record { env = c.args.work.now.env; base = c.in_ok-work.field-0; next = c.args.work.now.next; rows = c.args.work.now.rows })) (state_of c.look_at.new.work) seen c.of-place.ensures refl c.in_ok-work.ensures refl refl h) c.look_at.ensures
 
-pub look_inside-returns-then-is_over : goal.look_inside-returns-then-is_over
-look_inside-returns-then-is_over t c =
-    over c.args.r.now (tree_form c.args.tree.now) c.args.count c.args.value (state_of c.args.work.now)
-    (state_of (record { env = c.args.work.now.env; base = c.in_ok-work-2.field-0; next = c.in_ok-work.field-0; rows = c.args.work.now.rows }))
-    refl c.in_ok-work-2.ensures c.in_ok-work.ensures refl c.requires.count (c.is_over.ensures.free c.if-is_over.true) (c.is_over.ensures.value c.if-is_over.true)
+pub look_inside-returns-then-is_done : goal.look_inside-returns-then-is_done
+look_inside-returns-then-is_done t c =
+    let after = state_of (record { env = c.args.work.now.env; base = c.in_ok-work-2.field-0; next = c.in_ok-work.field-0; rows = c.args.work.now.rows }) in
+    λ node. elim (c.is_done.ensures c.if-is_done.true) [
+      | inl some ↦ enough c.args.r.now (tree_form c.args.tree.now) c.args.count c.args.value (state_of c.args.work.now) after refl c.in_ok-work-2.ensures c.in_ok-work.ensures refl c.requires.count some
+      | inr h ↦ over c.args.r.now (tree_form c.args.tree.now) c.args.count c.args.value (state_of c.args.work.now) after refl c.in_ok-work-2.ensures c.in_ok-work.ensures refl c.requires.count h.1 h.0 node
+    ]
 
 pub look_place-returns-then-is_passed : goal.look_place-returns-then-is_passed
 look_place-returns-then-is_passed t c =
