@@ -14,7 +14,7 @@ same_truth-refl : (b : Bool) → same_truth b b ≡ true
 same_truth-refl true = refl
 same_truth-refl false = refl
 
-same_clause-refl : (c : List Literal) → same_literals c c ≡ true
+pub same_clause-refl : (c : List Literal) → same_literals c c ≡ true
 same_clause-refl [] = refl
 same_clause-refl (l ∷ c) =
     and_from (same_literal l l) (same_literals c c) (and_from (eqb l.atom l.atom) (same_truth l.positive l.positive) (eq-eqb l.atom l.atom refl) (same_truth-refl l.positive)) (same_clause-refl c)
@@ -72,7 +72,7 @@ same_literal-is l m e =
     let p = and_parts (eqb l.atom m.atom) (same_truth l.positive m.positive) e in
     ap₂ (λ s x. record { positive = s; atom = x }) (same_truth-is l.positive m.positive p.1) (eqb-true l.atom m.atom p.0)
 
-same_clause-is : (c d : List Literal) → same_literals c d ≡ true → c ≡ d
+pub same_clause-is : (c d : List Literal) → same_literals c d ≡ true → c ≡ d
 same_clause-is [] [] e = refl
 same_clause-is [] (m ∷ ms) e = absurd (false≢true e)
 same_clause-is (l ∷ ls) [] e = absurd (false≢true e)
