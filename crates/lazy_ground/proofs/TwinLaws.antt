@@ -1,7 +1,7 @@
 -- Equal clauses among the first ones stand side by side.
-use Rattle.std.proofs.Common.{◌≡◌, ◌∙◌, ℕ, zero, suc, ◌+◌, ◌<◌, ◌≤◌, ◌⊎◌, Bool, true, false, ◌&&◌, List, [], ◌∷◌, ◌++◌, drop, length, get_or, nat_eq, nat_lt, lt-ltb, refl, sym, ap, ap₂, subst, append_assoc, arith, cond, inl, inr}
-use Rattle.std.proofs.lemmas.Bool.{cases_lt, false≢true}
-use Rattle.std.proofs.lemmas.List.{drop_more}
+use Rattle.std.proofs.Common.{◌≡◌, ◌∙◌, ℕ, suc, ◌+◌, ◌<◌, ◌≤◌, ◌⊎◌, Bool, true, false, List, [], ◌∷◌, ◌++◌, drop, length, get_or, nat_eq, refl, sym, ap, ap₂, subst, append_assoc, arith, cond, inl, inr}
+use Rattle.std.proofs.lemmas.Bool.{false≢true}
+use Rattle.std.proofs.lemmas.List.{append-nil, drop_all, drop_more}
 use Rattle.csdn_core.specs.Members.{AreDistinct, IsIn}
 use Rattle.csdn_core.proofs.Members.{in_both, one_in}
 use Rattle.csdn_core.specs.Truth.{same_truth}
@@ -27,18 +27,6 @@ use Rattle.lazy_ground.proofs.OnceLaws.{same_clause-is, same_clause-refl}
 
 -- The loop that leaves them out.
 
-pub begins_at : (c : List Literal) (cs : List (List Literal)) (k : ℕ) → k < length cs → begins_with c (drop k cs) ≡ same_literals c (get_or cs k [])
-begins_at c cs k l = ap (begins_with c) (drop_more cs k [] l)
-
-none_left : {X : Type 0} (xs : List X) (k : ℕ) → length xs ≤ k → drop k xs ≡ []
-none_left [] zero l = refl
-none_left [] (suc k) l = refl
-none_left (x ∷ xs) zero l = absurd (omega (arith, l))
-none_left (x ∷ xs) (suc k) l = none_left xs k (omega (arith, l))
-
-pub begins_past : (c : List Literal) (cs : List (List Literal)) (k : ℕ) → length cs ≤ k → begins_with c (drop k cs) ≡ false
-begins_past c cs k l = ap (begins_with c) (none_left cs k l)
-
 -- so far these were kept
 pub record AreKept (found : ClauseList) (at : ℕ) (kept : ClauseList) : Type 0 where
   pub atoms : kept.atoms ≡ found.atoms
@@ -62,14 +50,10 @@ put_on found kept new at c h l b e f q n =
           ∙ ap (λ z. kept.clauses ++ z) (sym (next_by found.clauses at l b e ∙ ap (λ z. cond z rest (get_or found.clauses at [] ∷ rest)) f)) ∙ h.on;
     }
 
-no_more : {X : Type 0} (xs : List X) → xs ++ [] ≡ xs
-no_more [] = refl
-no_more (x ∷ xs) = ap (λ z. x ∷ z) (no_more xs)
-
 pub all_kept : (found kept : ClauseList) (at : ℕ) → AreKept found at kept → length found.clauses ≤ at → kept ≡ record { atoms = found.atoms; clauses = untwinned found.clauses }
 all_kept found kept at h l =
     ap₂ (λ a cs. let k : ClauseList = record { atoms = a; clauses = cs } in k) h.atoms
-    (sym (no_more kept.clauses) ∙ ap (λ z. kept.clauses ++ untwinned z) (sym (none_left found.clauses at l)) ∙ h.on)
+    (sym (append-nil kept.clauses) ∙ ap (λ z. kept.clauses ++ untwinned z) (sym (drop_all at found.clauses l)) ∙ h.on)
 
 -- What is left where equal clauses stand side by side.
 

@@ -1,4 +1,4 @@
-use Rattle.std.proofs.Common.{[], ap, suc, ◌++◌, ◌∙◌}
+use Rattle.std.proofs.Common.{ap, suc, ◌++◌, ◌∙◌}
 use Rattle.fol_forms.specs.Counts.{count_of}
 use Rattle.ground_inst.specs.Copies.{copies_over}
 use Rattle.ground_inst.specs.Facts.{num_of}
