@@ -79,5 +79,6 @@ fn first_of(
     let atoms = atoms_with(facts, simple)?;
     let mut rows = Rows::new(alloc);
     write_open(alloc, parts, facts, tree, &mut rows)?;
+    // Equal ones are those of a conjunction of one leaf with itself, and stand side by side.
     without_twins(alloc, &rows.into_clauses(atoms))
 }
