@@ -22,10 +22,8 @@ use Rattle.ground_inst.proofs.FactLaws.{facts_number}
 use Rattle.lazy_ground.specs.declared.sentence.LazyGround.{LazyGround}
 use Rattle.lazy_ground.specs.Completed.{completed, is_named, said}
 use Rattle.lazy_ground.specs.First.{AreFirst, first_clauses, open_clauses, open_named, open_whole}
-use Rattle.lazy_ground.specs.Found.{once}
 use Rattle.lazy_ground.specs.Lazy.{AddsBroken, AreAllBroken, IsLazy}
 use Rattle.lazy_ground.proofs.EqualityAtoms.{clause_same}
-use Rattle.lazy_ground.proofs.OnceLaws.{once_distinct, once_keeps, once_within}
 
 -- A model of clauses is one with the valuation that is completed for them.
 
@@ -127,12 +125,6 @@ rows_first P F facts are c same rows e =
 pub first_bounded : (P : Parts) (F : Formula) → IsSentence P F → (rows : List (List Literal)) (k : ℕ) → rows ≡ first_clauses P F → k ≡ atoms P F → list_all (is_clause k) rows ≡ true
 first_bounded P F is rows k e q =
     all_from (is_clause k) rows (λ c i. ap (λ a. is_clause a c) q ∙ all_at (is_clause (atoms P F)) (clauses P F) c (first_within P F c (subst (IsIn c) e i)) (clauses_bounded P F is))
-
-pub first_once : (P : Parts) (F : Formula) (rows kept : List (List Literal)) → rows ≡ first_clauses P F → kept ≡ once [] rows → AreFirst P F kept
-first_once P F rows kept e q = subst (AreFirst P F) (sym q) (record {
-  distinct = once_distinct [] rows tt;
-  all = λ c. ((λ i. subst (IsIn c) e (once_within rows c i)), (λ i. once_keeps rows c (subst (IsIn c) (sym e) i)));
-})
 
 pub first_part : (P : Parts) (F : Formula) (cs : List (List Literal)) → AreFirst P F cs → ArePart (clauses P F) cs
 first_part P F cs h = record { distinct = h.distinct; within = λ c i. first_within P F c ((h.all c).0 i) }

@@ -7,6 +7,7 @@ pub mod Agree
 mod NumberedTree
 mod EqualityAtoms
 mod OnceLaws
+mod TwinLaws
 mod WholeFound
 mod OpenSteps
 mod TupleLaws

@@ -1,12 +1,12 @@
 -- Clauses, each once.
-use Rattle.std.proofs.Common.{◌≡◌, ◌∙◌, ◌⊎◌, Bool, true, false, List, [], ◌∷◌, ◌++◌, refl, sym, ap₂, subst, cond, inl, inr, eq-eqb, eqb, eqb-true}
+use Rattle.std.proofs.Common.{◌≡◌, ◌∙◌, ◌⊎◌, Bool, true, false, List, [], ◌∷◌, ◌++◌, refl, sym, ap₂, cond, inl, inr, eq-eqb, eqb, eqb-true}
 use Rattle.std.proofs.lemmas.Bool.{and_from, and_parts, false≢true}
 use Rattle.csdn_core.specs.Members.{AreDistinct, IsIn}
-use Rattle.csdn_core.proofs.Members.{in_both, in_left, in_right, one_in}
+use Rattle.csdn_core.proofs.Members.{in_both, in_left, one_in}
 use Rattle.csdn_core.specs.Truth.{same_truth}
 use Rattle.fol_forms.proofs.NormalTruth.{same_truth-is}
 use Rattle.clause_log.specs.Literals.{Literal}
-use Rattle.decision_laws.proofs.Basics.{any_from, any_gives}
+use Rattle.decision_laws.proofs.Basics.{any_from}
 use Rattle.lazy_ground.specs.Found.{has_clause, once, put_clause, same_literal, same_literals}
 use Rattle.lazy_ground.proofs.FindLaws.{not_more}
 
@@ -14,7 +14,7 @@ same_truth-refl : (b : Bool) → same_truth b b ≡ true
 same_truth-refl true = refl
 same_truth-refl false = refl
 
-same_clause-refl : (c : List Literal) → same_literals c c ≡ true
+pub same_clause-refl : (c : List Literal) → same_literals c c ≡ true
 same_clause-refl [] = refl
 same_clause-refl (l ∷ c) =
     and_from (same_literal l l) (same_literals c c) (and_from (eqb l.atom l.atom) (same_truth l.positive l.positive) (eq-eqb l.atom l.atom refl) (same_truth-refl l.positive)) (same_clause-refl c)
@@ -72,29 +72,10 @@ same_literal-is l m e =
     let p = and_parts (eqb l.atom m.atom) (same_truth l.positive m.positive) e in
     ap₂ (λ s x. record { positive = s; atom = x }) (same_truth-is l.positive m.positive p.1) (eqb-true l.atom m.atom p.0)
 
-same_clause-is : (c d : List Literal) → same_literals c d ≡ true → c ≡ d
+pub same_clause-is : (c d : List Literal) → same_literals c d ≡ true → c ≡ d
 same_clause-is [] [] e = refl
 same_clause-is [] (m ∷ ms) e = absurd (false≢true e)
 same_clause-is (l ∷ ls) [] e = absurd (false≢true e)
 same_clause-is (l ∷ ls) (m ∷ ms) e =
     let p = and_parts (same_literal l m) (same_literals ls ms) e in
     ap₂ (λ x y. x ∷ y) (same_literal-is l m p.0) (same_clause-is ls ms p.1)
-
-has_there : (cs : List (List Literal)) (c : List Literal) → has_clause cs c ≡ true → IsIn c cs
-has_there cs c e = (let w = any_gives (same_literals c) cs e in subst (λ z. IsIn z cs) (sym (same_clause-is c w.0 w.2)) w.1)
-
-put_there : (cs : List (List Literal)) (c d : List Literal) (b : Bool) → has_clause cs c ≡ b → IsIn d cs ⊎ (d ≡ c) → IsIn d (cond b cs (cs ++ c ∷ []))
-put_there cs c d true e h = elim h [ inl x ↦ x | inr q ↦ subst (λ z. IsIn z cs) (sym q) (has_there cs c e) ]
-put_there cs c d false e h = elim h [ inl x ↦ in_left cs (c ∷ []) d x | inr q ↦ in_right cs (c ∷ []) d (inl q) ]
-
-once_from : (done cs : List (List Literal)) (d : List Literal) → IsIn d done ⊎ IsIn d cs → IsIn d (once done cs)
-once_from done [] d h = elim h [ inl x ↦ x | inr x ↦ absurd x ]
-once_from done (c ∷ cs) d h =
-    once_from (put_clause done c) cs d
-    (elim h [
-      | inl x ↦ inl (put_there done c d (has_clause done c) refl (inl x))
-      | inr x ↦ elim x [ inl q ↦ inl (put_there done c d (has_clause done c) refl (inr q)) | inr y ↦ inr y ]
-    ])
-
-pub once_keeps : (cs : List (List Literal)) (d : List Literal) → IsIn d cs → IsIn d (once [] cs)
-once_keeps cs d i = once_from [] cs d (inr i)

@@ -99,6 +99,16 @@ abbrev pub once : List (List Literal) → List (List Literal) → List (List Lit
 once done [] = done
 once done (c ∷ cs) = once (put_clause done c) cs
 
+-- whether this clause is the first of them
+abbrev pub begins_with : List Literal → List (List Literal) → Bool
+begins_with c [] = false
+begins_with c (d ∷ ds) = same_literals c d
+
+-- clauses without each that stands before itself again
+abbrev pub untwinned : List (List Literal) → List (List Literal)
+untwinned [] = []
+untwinned (c ∷ cs) = if begins_with c cs then untwinned cs else c ∷ untwinned cs
+
 -- some of these clauses, and at least one where there is one
 pub record IsPickedFrom (found some : List (List Literal)) : Type 0 where
   pub within : (c : List Literal) → IsIn c some → IsIn c found

@@ -1,9 +1,9 @@
 //! Clauses, each once, and clauses put behind others.
 #![tactic(auto)]
 
-ghost use Rattle.std.specs.Prelude.{◌≡◌, ◌++◌, ◌∷◌, [], true, IfOk, OnOk};
+ghost use Rattle.std.specs.Prelude.{◌≡◌, ◌+◌, ◌<◌, ◌++◌, ◌∷◌, [], true, IfOk, OnOk, drop, length, slice_index_or};
 ghost use Rattle.clause_log.specs.Literals.{is_clause};
-ghost use Rattle.lazy_ground.specs.Found.{has_clause, once, put_clause, same_literal, same_literals};
+ghost use Rattle.lazy_ground.specs.Found.{begins_with, has_clause, once, put_clause, same_literal, same_literals, untwinned};
 
 use clause_log::{Clauses, Lit};
 use std::alloc::{AllocError, Global};
@@ -59,6 +59,32 @@ pub fn each_once(alloc: Global, found: &Clauses) -> Result<Clauses, AllocError>
     let count = found.len();
     'clauses: for at in 0..count {
         put(&mut kept, found.clause(at))?;
+    }
+    Ok(kept)
+}
+
+// Whether the clause behind this one is the same.
+fn comes_again(clauses: &Clauses, at: usize) -> bool
+    requires { at < length clauses.now.clauses }
+    ensures { result ≡ begins_with (slice_index_or clauses.now.clauses at []) (drop (at + 1) clauses.now.clauses) }
+{
+    let count = clauses.len();
+    let behind = at + 1;
+    behind < count && are_same(clauses.clause(at), clauses.clause(behind))
+}
+
+/// The clauses without each that stands before itself again. It takes a step for each of them.
+pub fn without_twins(alloc: Global, found: &Clauses) -> Result<Clauses, AllocError>
+    ensures { IfOk result (λ kept. kept ≡ record { atoms = found.now.atoms; clauses = untwinned found.now.clauses }) }
+{
+    // Its contract says that each clause is one over the atoms.
+    let mut kept = Clauses::try_new(alloc, found.atoms())?;
+    let count = found.len();
+    'clauses: for at in 0..count {
+        if comes_again(found, at) {
+            continue;
+        }
+        kept.push(found.clause(at))?;
     }
     Ok(kept)
 }

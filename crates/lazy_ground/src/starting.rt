@@ -15,7 +15,7 @@ ghost use Rattle.ground_inst.specs.Facts.{AreFactsOf};
 ghost use Rattle.lazy_ground.specs.First.{AreFirst, first_clauses};
 ghost use Rattle.lazy_ground.specs.Lazy.{IsLazy};
 
-use crate::collecting::each_once;
+use crate::collecting::without_twins;
 use crate::opening::write_open;
 use crate::sentence::LazyGround;
 use clause_log::Clauses;
@@ -31,7 +31,7 @@ use ground_inst::simplify::simplify;
 use std::alloc::{AllocError, Global};
 
 /// The clauses of the parts of a sentence that stand under no `forall`, each once, and none of equality. `AllocError` also where
-/// the sentence has 2^62 atoms or more. It takes as many steps as there are pairs of these clauses.
+/// the sentence has 2^62 atoms or more.
 pub fn ground_start(
     alloc: Global,
     program: &Program,
@@ -79,5 +79,6 @@ fn first_of(
     let atoms = atoms_with(facts, simple)?;
     let mut rows = Rows::new(alloc);
     write_open(alloc, parts, facts, tree, &mut rows)?;
-    each_once(alloc, &rows.into_clauses(atoms))
+    // Equal ones are those of a conjunction of one leaf with itself, and stand side by side.
+    without_twins(alloc, &rows.into_clauses(atoms))
 }
