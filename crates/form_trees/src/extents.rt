@@ -10,11 +10,11 @@ ghost use Rattle.fol_forms.specs.Forms.{Form, And, Or, ForAll, ForSome};
 ghost use Rattle.form_trees.specs.Plain.{IsRectified};
 ghost use Rattle.form_trees.specs.Trees.{IsExtent};
 
-use crate::amounts::{each, node, sums};
 use crate::trees::{Extent, nothing};
 use csdn_core::terms::Sort;
 use fol_forms::instances::Counts;
 use ground_inst::bases::{larger, one_more};
+use ground_inst::weights::{each, node};
 use std::alloc::AllocError;
 
 /// That of a conjunction. `AllocError` where its copies have 2^64 nodes or need as many constants.
@@ -68,4 +68,15 @@ fn beside(need: Counts, p: Extent, q: Extent) -> Result<Extent, AllocError>
         need,
         is_plain: p.is_plain && q.is_plain,
     })
+}
+
+// The sum for each sort. `AllocError` where one is 2^64 or more.
+#[tactic(auto, unfolding(fol_forms::specs::Counts::count_of))]
+fn sums(a: Counts, b: Counts) -> Result<Counts, AllocError>
+    ensures { IfOk result (λ both. (t : AnySort) → count_of both t ≡ count_of a t + count_of b t) }
+{
+    let sw = a.sw.checked_add(b.sw).ok_or(AllocError)?;
+    let ho = a.ho.checked_add(b.ho).ok_or(AllocError)?;
+    let pr = a.pr.checked_add(b.pr).ok_or(AllocError)?;
+    Ok(Counts { sw, ho, pr })
 }

@@ -2,7 +2,6 @@
 //! its quantifiers may all be brought before it.
 #![tactic(auto)]
 
-pub mod amounts;
 pub mod building;
 pub mod extents;
 pub mod trees;

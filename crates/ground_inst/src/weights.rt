@@ -37,16 +37,16 @@ pub fn weight(counts: &Counts, formula: &Formula, sign: bool) -> Result<u64, All
     }
 }
 
-// A node with parts that have so many.
-fn node(p: u64, q: u64) -> Result<u64, AllocError>
+/// The nodes of two parts, and one above them. `AllocError` where there are 2^64 or more.
+pub fn node(p: u64, q: u64) -> Result<u64, AllocError>
     ensures { IfOk result (λ nodes. nodes ≡ suc (p + q)) }
 {
     let parts = p.checked_add(q).ok_or(AllocError)?;
     parts.checked_add(1).ok_or(AllocError)
 }
 
-// The conjunction of so many copies.
-fn each(count: u64, nodes: u64) -> Result<u64, AllocError>
+/// The nodes of so many copies in one conjunction. `AllocError` where there are 2^64 or more.
+pub fn each(count: u64, nodes: u64) -> Result<u64, AllocError>
     ensures { IfOk result (λ all. all ≡ each_weight count nodes) }
 {
     if count == 0 {
