@@ -2,8 +2,7 @@
 """Writes the crates that decide conditions as plain Rust, builds them with rustc, and times the conditions of a program.
 
 A design can so be timed before it is proved: contracts are taken out, the crates become modules, and bench/plain/kit.rs stands in for the types of
-the kit. Nothing that is built here is proved. The conditions are those of bench/smt.py, in which each bound variable of a formula has a number of its
-own; in those of the program two sides of a conjunction may bind the same numbers, and numbers may be from 2^31 on.
+the kit. Nothing that is built here is proved. The conditions are those of bench/smt.py; those with an `exists` under a `forall` are left out.
 
 Use: bench/plain.py PROGRAM LEVEL [KIND]   a line for each condition up to the level (or those whose kind has KIND in it): its verdict, passes,
                                            clauses and time; then all together
@@ -18,7 +17,7 @@ HERE = os.path.dirname(os.path.abspath(__file__))
 sys.path.insert(0, HERE)
 import smt
 
-CRATES = ["csdn_core", "clause_log", "clause_search", "fol_forms", "ground_inst", "copy_truth", "lazy_ground"]
+CRATES = ["csdn_core", "clause_log", "clause_search", "fol_forms", "ground_inst", "form_trees", "copy_truth", "lazy_ground"]
 
 
 # ---- Rattle as Rust
@@ -122,6 +121,23 @@ class Words:
         return " ".join([kind] + [self.formula(g, scope, bound) for g in f[1:]])
 
 
+def is_inside(f, sign, under):
+    """Whether no `exists` of the normal form stands under a `forall`."""
+    kind = f[0]
+    if kind in ("true", "false", "row", "="):
+        return True
+    if kind == "not":
+        return is_inside(f[1], not sign, under)
+    if kind == "imp":
+        return is_inside(f[1], not sign, under) and is_inside(f[2], sign, under)
+    if kind == "iff":
+        return all(is_inside(g, way, under) for g in f[1:] for way in (True, False))
+    if kind in ("forall", "exists"):
+        some = (kind == "exists") == sign
+        return not (some and under) and is_inside(f[3], sign, under or not some)
+    return all(is_inside(g, sign, under) for g in f[1:])
+
+
 def lines_of(program, level):
     words = Words(program)
     declared = [sorts for _, sorts, _ in program.relations + program.statics]
@@ -134,6 +150,8 @@ def lines_of(program, level):
         hypotheses = program.hypotheses(below)
         for kind, names, goal in program.conditions(below):
             if below < level and not kind.startswith(("step", "trans")):
+                continue
+            if not is_inside(goal, False, False) or not all(is_inside(f, True, False) for name in names for f in hypotheses[name]):
                 continue
             parts = [words.formula(f, {}, [0]) for name in names for f in hypotheses[name]]
             sentence = "not " + words.formula(goal, {}, [0])
